@@ -1,0 +1,74 @@
+-- Laws of lists that are made or tested by their index.
+use mathlib.Core.Path.{_≡_, refl, ap, ap₂, sym, _∙_}
+use mathlib.Core.Bool.{Bool, true, false, not, _&&_}
+use mathlib.Core.List.{List, [], _∷_, _++_, append-assoc, append-nil}
+use mathlib.Core.Logic.{⊎-elim}
+use Prim.Native.Nat.{ℕ, zero, suc, _+_, _-_, _<_, _≤_}
+use native.Mathlib.Nat.{eq-or-lt-of-le, le-of-suc-le-suc, not-suc-le-zero}
+use native.Mathlib.Numerals.{add-one}
+use native.Mathlib.Omega.{arith}
+use borrow.Author.Tests.{not-true, not-false}
+use lib.ListN.{length, take, drop, set, getD, length-append, drop-of-length-le, List·getD-append}
+use lib.Seq.{set-at, drop-cons, getD-at, take-at, take-suc, length-take-le}
+use Rattle.bits.specs.Lists.{tabulate, allFrom}
+
+module _ {A : Type 0} where
+  -- ## Made by index
+
+  pub length-tabulate : (f : ℕ → A) (n : ℕ) → length (tabulate f n) ≡ n
+  unfolding tabulate
+  length-tabulate f zero = refl
+  length-tabulate f (suc n) = length-append (tabulate f n) (f n ∷ []) ∙ rw (length-tabulate f n, add-one)
+
+  pub tabulate-more : (f : ℕ → A) (n : ℕ) → tabulate f (n + 1) ≡ tabulate f n ++ (f n ∷ [])
+  unfolding tabulate
+  tabulate-more f n = rw add-one
+
+  pub tabulate-ext : (f g : ℕ → A) (n : ℕ) → ((i : ℕ) → i < n → f i ≡ g i) → tabulate f n ≡ tabulate g n
+  unfolding tabulate
+  tabulate-ext f g zero h = refl
+  tabulate-ext f g (suc n) h = ap₂ (λ (l : List A) (x : A). l ++ (x ∷ [])) (tabulate-ext f g n (λ i k. h i (omega arith))) (h n (omega arith))
+
+  pub getD-tabulate : (f : ℕ → A) (n i : ℕ) (d : A) → i < n → getD (tabulate f n) i d ≡ f i
+  unfolding tabulate
+  getD-tabulate f zero i d h = absurd (not-suc-le-zero h)
+  getD-tabulate f (suc n) i d h = ⊎-elim last (λ k. earlier k (getD-tabulate f n i d k)) (eq-or-lt-of-le (le-of-suc-le-suc h))
+    where
+      last : i ≡ n → getD (tabulate f n ++ (f n ∷ [])) i d ≡ f i
+      last e = rw e (getD-at (tabulate f n) (f n) [] d n (length-tabulate f n))
+
+      earlier : i < n → getD (tabulate f n) i d ≡ f i → getD (tabulate f n ++ (f n ∷ [])) i d ≡ f i
+      earlier k r = List·getD-append (tabulate f n) (f n ∷ []) d i (rw length-tabulate k) ∙ r
+
+  -- a store at the first place past a part that is filled by index
+  pub fill : (f : ℕ → A) (l : List A) (i : ℕ) (d : A) → i < length l
+      → set (tabulate f i ++ drop i l) i (f i) ≡ tabulate f (i + 1) ++ drop (i + 1) l
+  fill f l i d h =
+      rw (drop-cons l i d, set-at (tabulate f i) _ _ _ i (length-tabulate f i), tabulate-more, append-assoc, add-one)
+
+  pub take-filled : (f : ℕ → A) (n : ℕ) (l : List A) → take n (tabulate f n ++ l) ≡ tabulate f n
+  take-filled f n l = take-at (tabulate f n) l n (length-tabulate f n)
+
+  -- one more element copied to the front
+  pub copy-more : (s l : List A) (i : ℕ) (d : A) → i < length s → i < length l
+      → set (take i s ++ drop i l) i (getD s i d) ≡ take (i + 1) s ++ drop (i + 1) l
+  copy-more s l i d h k =
+      rw (drop-cons l i d, set-at (take i s) _ _ _ i (length-take-le i s (omega arith)), add-one, take-suc s i d, append-assoc)
+
+  -- ## Tested by index
+
+  all-step : (t : ℕ → A → Bool) (i : ℕ) (xs : List A) (d : A) → i < length xs
+      → allFrom t i (drop i xs) ≡ (t i (getD xs i d) && allFrom t (i + 1) (drop (i + 1) xs))
+  all-step t i xs d h = ap (allFrom t i) (drop-cons xs i d h ∙ ap {B = List A} (λ n. getD xs i d ∷ drop n xs) (sym (add-one i)))
+
+  -- one turn of a loop that tests element i, where those before it passed
+  module _ (t : ℕ → A → Bool) (i : ℕ) (xs : List A) (d : A) (result : Bool) (h : i < length xs)
+      (is : result ≡ t i (getD xs i d)) (inv : allFrom t i (drop i xs) ≡ allFrom t 0 xs) where
+    pub all-fails : not result ≡ true → false ≡ allFrom t 0 xs
+    all-fails n = rw (← inv, all-step t i xs d h, ← is, not-true result n)
+
+    pub all-goes-on : not result ≡ false → allFrom t (i + 1) (drop (i + 1) xs) ≡ allFrom t 0 xs
+    all-goes-on n = rw (← inv, all-step t i xs d h, ← is, not-false result n)
+
+  pub all-ends : (t : ℕ → A → Bool) (i : ℕ) (xs : List A) → length xs ≤ i → allFrom t i (drop i xs) ≡ allFrom t 0 xs → true ≡ allFrom t 0 xs
+  all-ends t i xs h inv = rw (← inv, drop-of-length-le xs h)

@@ -1,0 +1,121 @@
+-- Laws of numbers of w bytes, of entries of fixed layout, and of runs of stores.
+use mathlib.Core.Path.{_≡_, refl, sym, ap, ap₂, _∙_, subst}
+use mathlib.Core.List.{List, [], _∷_, _++_, append-assoc}
+use Prim.Native.Nat.{ℕ, zero, suc, _+_, _*_, _/_, _%_, _^_, _≤_, _<_}
+use native.Mathlib.Nat.{add-assoc, add-zero, zero-add, div-add-mod', mod-lt, add-comm, add-suc, suc-add, pow-suc, mul-comm, mul-one, zero-lt-suc, div-lt-iff-lt-mul}
+use native.Mathlib.Numerals.{add-one}
+use native.Mathlib.Omega.{arith}
+use lib.ListN.{length, getD, take, drop, set, length-append}
+use lib.Seq.{sets, take-suc, drop-cons, getD-at, take-add, drop-drop}
+use lib.Arith.{digits-div, digits-mod, digits-lt}
+use Rattle.bits.specs.Numbers.{numAt, digits}
+use Rattle.bits.specs.Layout.{total, fieldsAt, pack}
+
+-- every element is a byte: what owning a slice of bytes tells
+abbrev pub Bytes : List ℕ → Type 0
+Bytes s = (i : ℕ) → getD s i 0 < 256
+
+-- as many numbers as the layout has, each within its width
+abbrev pub Fit : List ℕ → List ℕ → Type 0
+Fit [] [] = Unit {0}
+Fit [] (v ∷ vs) = ⊥
+Fit (w ∷ ws) [] = ⊥
+Fit (w ∷ ws) (v ∷ vs) = (v < 256 ^ w) × Fit ws vs
+
+-- ---- runs of stores
+
+pub sets-append : {A : Type 0} (l : List A) (i : ℕ) (a b : List A) → sets l i (a ++ b) ≡ sets (sets l i a) (i + length a) b
+sets-append l i [] b = rw add-zero
+sets-append l i (x ∷ a) b = sets-append (set l i x) (suc i) a b ∙ rw (add-suc, suc-add)
+
+pub digits-4 : (v : ℕ) → digits 4 v ≡ digits 2 (v / 65536) ++ digits 2 (v % 65536)
+digits-4 v =
+    let e₀ : v / 16777216 ≡ v / 65536 / 256 = omega arith in
+    let e₁ : v % 16777216 / 65536 ≡ v / 65536 % 256 / 1 = omega arith in
+    let e₂ : v % 16777216 % 65536 / 256 ≡ v % 65536 / 256 = omega arith in
+    let e₃ : v % 16777216 % 65536 % 256 / 1 ≡ v % 65536 % 256 / 1 = omega arith in
+    cc
+
+-- the two halves of a 32-bit number, stored one after the other
+pub sets-4 : (l l′ : List ℕ) (at v : ℕ) → l′ ≡ sets l at (digits 2 (v / 65536)) → sets l′ (at + 2) (digits 2 (v % 65536)) ≡ sets l at (digits 4 v)
+sets-4 l l′ at v e =
+    ap (λ (x : List ℕ). sets x (at + 2) (digits 2 (v % 65536))) e
+    ∙ sym (sets-append l at (digits 2 (v / 65536)) (digits 2 (v % 65536)))
+    ∙ ap (sets l at) (sym (digits-4 v))
+
+-- ---- a number of w bytes
+
+pow-pos : (w : ℕ) → 0 < 256 ^ w
+pow-pos zero = omega arith
+pow-pos (suc w) = rw (pow-suc 256 w) (let h = pow-pos w in omega arith)
+
+pub length-digits : (w v : ℕ) → length (digits w v) ≡ w
+length-digits zero v = refl
+length-digits (suc w) v = ap suc (length-digits w (v % 256 ^ w))
+
+pub num-lt : (w : ℕ) (s : List ℕ) (at : ℕ) → Bytes s → numAt w s at < 256 ^ w
+num-lt zero s at b = omega arith
+num-lt (suc w) s at b = rw (pow-suc 256 w, mul-comm (256 ^ w) 256) (digits-lt (b at) (num-lt w s (at + 1) b))
+
+-- a number that is read is written back as the bytes that it was read from
+pub digits-num : (w : ℕ) (s : List ℕ) (at : ℕ) → Bytes s → at + w ≤ length s → digits w (numAt w s at) ≡ take w (drop at s)
+digits-num zero s at b h = refl
+digits-num (suc w) s at b h =
+    let lt = num-lt w s (at + 1) b in
+    let inside : at < length s = omega (arith, add-suc at w) in
+    let rest : at + 1 + w ≤ length s = omega (arith, add-suc at w) in
+    rw (digits-div (getD s at 0) lt, digits-mod (getD s at 0) lt, digits-num w s (at + 1) b rest, drop-cons s at 0 inside, add-one)
+
+-- a number that is written is read back
+pub num-digits : (w v : ℕ) (p q : List ℕ) (at : ℕ) → at ≡ length p → v < 256 ^ w → numAt w (p ++ (digits w v ++ q)) at ≡ v
+num-digits zero v p q at e h = omega arith
+num-digits (suc w) v p q at e h =
+    let x = v / 256 ^ w in
+    let r = v % 256 ^ w in
+    let here : getD (p ++ (digits (suc w) v ++ q)) at 0 ≡ x = getD-at p x (digits w r ++ q) 0 at (sym e) in
+    let there : numAt w (p ++ (digits (suc w) v ++ q)) (at + 1) ≡ r =
+    ap (λ (l : List ℕ). numAt w l (at + 1)) (sym (append-assoc p (x ∷ []) (digits w r ++ q)))
+    ∙ num-digits w r (p ++ (x ∷ [])) q (at + 1) (omega (arith, length-append p (x ∷ []))) (mod-lt v (pow-pos w))
+    in
+    rw (here, there) (div-add-mod' v (256 ^ w))
+
+-- ---- entries of fixed layout
+
+pub pack-fields : (ws s : List ℕ) (at off : ℕ) → Bytes s → at + off + total ws ≤ length s → pack ws (fieldsAt ws s at off) ≡ take (total ws) (drop (at + off) s)
+pack-fields [] s at off b h = refl
+pack-fields (w ∷ ws) s at off b h =
+    rw (digits-num w s (at + off) b (omega arith), pack-fields ws s at (off + w) b (omega arith), take-add w (total ws) (drop (at + off) s), drop-drop w (at + off) s, add-assoc at off w)
+
+pub length-pack : (ws vs : List ℕ) → Fit ws vs → length (pack ws vs) ≡ total ws
+length-pack [] vs f = refl
+length-pack (w ∷ ws) [] f = absurd f
+length-pack (w ∷ ws) (v ∷ vs) f = length-append (digits w v) (pack ws vs) ∙ ap₂ (λ (a b : ℕ). a + b) (length-digits w v) (length-pack ws vs (f .1))
+
+pub fields-pack : (ws vs p q : List ℕ) (at off : ℕ) → at + off ≡ length p → Fit ws vs → fieldsAt ws (p ++ (pack ws vs ++ q)) at off ≡ vs
+fields-pack [] [] p q at off e f = refl
+fields-pack [] (v ∷ vs) p q at off e f = absurd f
+fields-pack (w ∷ ws) [] p q at off e f = absurd f
+fields-pack (w ∷ ws) (v ∷ vs) p q at off e f =
+    let t = pack ws vs in
+    let d = digits w v in
+    let again : p ++ ((d ++ t) ++ q) ≡ (p ++ d) ++ (t ++ q) = simp append-assoc in
+    let here : numAt w (p ++ ((d ++ t) ++ q)) (at + off) ≡ v = rw (append-assoc d t q) (num-digits w v p (t ++ q) (at + off) e (f .0)) in
+    let there : fieldsAt ws (p ++ ((d ++ t) ++ q)) at (off + w) ≡ vs =
+    ap (λ (l : List ℕ). fieldsAt ws l at (off + w)) again
+    ∙ fields-pack ws vs (p ++ d) q at (off + w) (omega (arith, length-append p d, length-digits w v)) (f .1)
+    in
+    ap₂ (λ (a : ℕ) (b : List ℕ). a ∷ b) here there
+
+-- ---- one run of stores after another is one run
+pub sets-then : (l l′ l″ : List ℕ) (at n : ℕ) (a b : List ℕ) → l′ ≡ sets l at a → l″ ≡ sets l′ (at + n) b → length a ≡ n → l″ ≡ sets l at (a ++ b)
+sets-then l l′ l″ at n a b p q e =
+    q ∙ ap (λ (x : List ℕ). sets x (at + n) b) p ∙ ap (λ (k : ℕ). sets (sets l at a) (at + k) b) (sym e) ∙ sym (sets-append l at a b)
+
+pub sets-5 : (l l₁ l₂ l₃ l₄ l₅ : List ℕ) (at a b c d e : ℕ)
+    → l₁ ≡ sets l at (digits 2 a) → l₂ ≡ sets l₁ (at + 2) (digits 2 b) → l₃ ≡ sets l₂ (at + 4) (digits 2 c) → l₄ ≡ sets l₃ (at + 6) (digits 2 d) → l₅ ≡ sets l₄ (at + 8) (digits 2 e)
+    → l₅ ≡ sets l at (pack (2 ∷ 2 ∷ 2 ∷ 2 ∷ 2 ∷ []) (a ∷ b ∷ c ∷ d ∷ e ∷ []))
+sets-5 l l₁ l₂ l₃ l₄ l₅ at a b c d e p₁ p₂ p₃ p₄ p₅ =
+    let t₂ = sets-then l l₁ l₂ at 2 (digits 2 a) (digits 2 b) p₁ p₂ refl in
+    let t₃ = sets-then l l₂ l₃ at 4 (digits 2 a ++ digits 2 b) (digits 2 c) t₂ p₃ refl in
+    let t₄ = sets-then l l₃ l₄ at 6 (digits 2 a ++ digits 2 b ++ digits 2 c) (digits 2 d) t₃ p₄ refl in
+    sets-then l l₄ l₅ at 8 (digits 2 a ++ digits 2 b ++ digits 2 c ++ digits 2 d) (digits 2 e) t₄ p₅ refl

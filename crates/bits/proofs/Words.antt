@@ -1,0 +1,130 @@
+-- Laws of words of bits: each once, over the bit's number.
+use mathlib.Core.Path.{_≡_, refl, ap, ap₂, sym, _∙_}
+use mathlib.Core.Bool.{Bool, true, false, cond, not, _&&_}
+use mathlib.Core.Logic.{⊎-elim}
+use Prim.Native.Nat.{ℕ, zero, suc, _+_, _-_, _*_, _/_, _%_, _^_, _<_, _≤_}
+use native.Mathlib.Nat.{pow-suc, mul-assoc, add-mul-div-right, add-mul-mod-self-right, div-eq-of-lt, mod-eq-of-lt, mod-lt, mod-one, zero-add, zero-lt-suc, eq-or-lt-of-le, le-of-suc-le-suc, not-suc-le-zero}
+use native.Mathlib.Numerals.{add-one, one-add}
+use native.Mathlib.Omega.{arith}
+use lib.Bits.{bitAnd, bitOr, or-shifted-r, and-shr, and-mod, and-le-l}
+use lib.Dec.{eqb, lit<}
+use lib.Pow.{shl-exact, pow-add, pow-pos, mod-pow-add}
+use Rattle.bits.specs.Words.{bitOf, wordOf, one}
+
+pub wordOf-lt : (t : ℕ → Bool) (n : ℕ) → wordOf t n < 2 ^ n
+unfolding wordOf
+wordOf-lt t zero = omega arith
+wordOf-lt t (suc n) = go (t n) (wordOf-lt t n)
+  where
+    go : (b : Bool) → wordOf t n < 2 ^ n → wordOf t n + cond b (2 ^ n) 0 < 2 ^ suc n
+    go true h = omega arith
+    go false h = omega arith
+
+pub wordOf-more : (t : ℕ → Bool) (n : ℕ) → wordOf t (n + 1) ≡ wordOf t n + cond (t n) (2 ^ n) 0
+unfolding wordOf
+wordOf-more t n = rw add-one
+
+-- the code's `w | 1 << i`, where w has no bit at i or above
+pub set-bit : (w i : ℕ) → w < 2 ^ i → i < 16 → bitOr w ((1 * 2 ^ i) % 2 ^ 16) ≡ w + 2 ^ i
+set-bit w i h k = rw (shl-exact 1 i 16 (lit< tt) (omega arith), or-shifted-r 1 i w h) (omega arith)
+
+-- a bit at n or above it changes no bit below n
+below : (w b d i : ℕ) → (w + b * 2 ^ (suc d + i)) / 2 ^ i % 2 ≡ w / 2 ^ i % 2
+below w b d i =
+    let e : b * 2 ^ (suc d + i) ≡ b * 2 ^ d * 2 * 2 ^ i = simp (pow-add, pow-suc, mul-assoc) in
+    rw (e, add-mul-div-right w (b * 2 ^ d * 2) (pow-pos i), add-mul-mod-self-right)
+
+at : (w b n : ℕ) → w < 2 ^ n → b < 2 → (w + b * 2 ^ n) / 2 ^ n % 2 ≡ b
+at w b n h k = rw (add-mul-div-right w b (pow-pos n), div-eq-of-lt h, zero-add, mod-eq-of-lt k)
+
+step : (t : ℕ → Bool) (n : ℕ) → wordOf t (suc n) ≡ wordOf t n + one (t n) * 2 ^ n
+unfolding wordOf
+step t n = go (t n)
+  where
+    go : (b : Bool) → wordOf t n + cond b (2 ^ n) 0 ≡ wordOf t n + one b * 2 ^ n
+    go true = omega arith
+    go false = omega arith
+
+one-lt : (b : Bool) → one b < 2
+one-lt true = lit< tt
+one-lt false = lit< tt
+
+bit-is : (b : Bool) → eqb (one b) 1 ≡ b
+bit-is true = refl
+bit-is false = refl
+
+read : (t : ℕ → Bool) (n i : ℕ) → i < n → wordOf t n / 2 ^ i % 2 ≡ one (t i)
+read t zero i h = absurd (not-suc-le-zero h)
+read t (suc n) i h = ⊎-elim last (λ k. earlier k (read t n i k)) (eq-or-lt-of-le (le-of-suc-le-suc h))
+  where
+    last : i ≡ n → wordOf t (suc n) / 2 ^ i % 2 ≡ one (t i)
+    last e = rw (e, step, at (wordOf t n) (one (t n)) n (wordOf-lt t n) (one-lt (t n)))
+
+    earlier : i < n → wordOf t n / 2 ^ i % 2 ≡ one (t i) → wordOf t (suc n) / 2 ^ i % 2 ≡ one (t i)
+    earlier k r =
+        let e : n ≡ suc (n - suc i) + i = omega arith in
+        let p : 2 ^ n ≡ 2 ^ (suc (n - suc i) + i) = ap (λ (m : ℕ). 2 ^ m) e in
+        rw (step, p, below (wordOf t n) (one (t n)) (n - suc i) i) r
+
+-- bit i of the word is t i
+pub bit-wordOf : (t : ℕ → Bool) (n i : ℕ) → i < n → bitOf (wordOf t n) i ≡ t i
+bit-wordOf t n i h = rw (read t n i h, bit-is)
+
+-- ## A word is that of its bits
+
+-- bits that agree below n give one word
+pub wordOf-ext : (f g : ℕ → Bool) (n : ℕ) → ((i : ℕ) → i < n → f i ≡ g i) → wordOf f n ≡ wordOf g n
+unfolding wordOf
+wordOf-ext f g zero h = refl
+wordOf-ext f g (suc n) h =
+    ap₂ (λ (w : ℕ) (b : Bool). w + cond b (2 ^ n) 0) (wordOf-ext f g n (λ i k. h i (omega arith))) (h n (omega arith))
+
+digit : (x m : ℕ) → x < 2 → x * m ≡ cond (eqb x 1) m 0
+digit zero m h = omega arith
+digit (suc zero) m h = omega arith
+digit (suc (suc x)) m h = absurd (omega arith)
+
+low-bits : (w n : ℕ) → wordOf (bitOf w) n ≡ w % 2 ^ n
+unfolding wordOf
+low-bits w zero = sym (mod-one w)
+low-bits w (suc n) =
+    let e : w % 2 ^ suc n ≡ w / 2 ^ n % 2 * 2 ^ n + w % 2 ^ n = rw (← one-add n) (mod-pow-add w 1 n) in
+    let d = digit (w / 2 ^ n % 2) (2 ^ n) (mod-lt (w / 2 ^ n) (zero-lt-suc 1)) in
+    rw (low-bits w n) (omega (arith, e, d))
+
+pub word-bits : (w n : ℕ) → w < 2 ^ n → wordOf (bitOf w) n ≡ w
+word-bits w n h = low-bits w n ∙ mod-eq-of-lt h
+
+-- two words of the same bits are one
+pub same-bits : (v w n : ℕ) → v < 2 ^ n → w < 2 ^ n → ((i : ℕ) → i < n → bitOf v i ≡ bitOf w i) → v ≡ w
+same-bits v w n hv hw h = sym (word-bits v n hv) ∙ wordOf-ext (bitOf v) (bitOf w) n h ∙ word-bits w n hw
+
+-- ## The bits that two words share
+
+and-digits : (x y : ℕ) → x < 2 → y < 2 → eqb (bitAnd x y) 1 ≡ (eqb x 1 && eqb y 1)
+and-digits zero y hx hy = refl
+and-digits (suc zero) zero hx hy = refl
+and-digits (suc zero) (suc zero) hx hy = refl
+and-digits (suc zero) (suc (suc y)) hx hy = absurd (omega arith)
+and-digits (suc (suc x)) y hx hy = absurd (omega arith)
+
+pub bit-and : (v w i : ℕ) → bitOf (bitAnd v w) i ≡ (bitOf v i && bitOf w i)
+bit-and v w i =
+    ap (λ (x : ℕ). eqb (x % 2) 1) (and-shr v w i) ∙ ap (λ (x : ℕ). eqb x 1) (and-mod (v / 2 ^ i) (w / 2 ^ i) 1)
+    ∙ and-digits (v / 2 ^ i % 2) (w / 2 ^ i % 2) (mod-lt (v / 2 ^ i) (zero-lt-suc 1)) (mod-lt (w / 2 ^ i) (zero-lt-suc 1))
+
+-- what is left of a, less other bits twice, lies inside a
+pub less-inside : (a m v : ℕ) → a < 65536 → bitAnd (bitAnd (bitAnd a m) v) a ≡ bitAnd (bitAnd a m) v
+less-inside a m v h =
+    let b : bitAnd (bitAnd a m) v < 2 ^ 16 = omega (arith, and-le-l (bitAnd a m) v, and-le-l a m) in
+    same-bits _ _ 16 (omega (arith, and-le-l (bitAnd (bitAnd a m) v) a)) b
+    (λ i k. bit-and (bitAnd (bitAnd a m) v) a i ∙ ap₂ _&&_ (three i) refl ∙ again (bitOf a i) (bitOf m i) (bitOf v i) ∙ sym (three i))
+  where
+    three : (i : ℕ) → bitOf (bitAnd (bitAnd a m) v) i ≡ ((bitOf a i && bitOf m i) && bitOf v i)
+    three i = bit-and (bitAnd a m) v i ∙ ap (λ (b : Bool). b && bitOf v i) (bit-and a m i)
+
+    again : (x y z : Bool) → (((x && y) && z) && x) ≡ ((x && y) && z)
+    again true true true = refl
+    again true true false = refl
+    again true false z = refl
+    again false y z = refl

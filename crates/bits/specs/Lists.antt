@@ -1,0 +1,15 @@
+-- Lists that are made or tested by their index.
+use Prim.Native.Nat.{ℕ, zero, suc, _+_}
+use mathlib.Core.Bool.{Bool, true, _&&_}
+use mathlib.Core.List.{List, [], _∷_, _++_}
+
+module _ {A : Type 0} where
+  -- the list f 0, f 1, .. of n elements
+  unfoldable pub tabulate : (ℕ → A) → ℕ → List A
+  tabulate f zero = []
+  tabulate f (suc n) = tabulate f n ++ (f n ∷ [])
+
+  -- every element passes the test, which sees its number too, from i on
+  abbrev pub allFrom : (ℕ → A → Bool) → ℕ → List A → Bool
+  allFrom t i [] = true
+  allFrom t i (x ∷ xs) = t i x && allFrom t (i + 1) xs

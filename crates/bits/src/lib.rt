@@ -1,0 +1,124 @@
+// What every other crate counts on: bits of a word, and big-endian numbers in a slice of bytes.
+ghost use mathlib.Core.Path.{_≡_};
+ghost use mathlib.Core.Bool.{cond};
+ghost use Prim.Native.Nat.{_+_, _^_, _≤_, _<_};
+ghost use lib.Count.{ones};
+ghost use lib.Dec.{ltb};
+ghost use lib.ListN.{length, take, drop};
+ghost use mathlib.Core.List.{_++_};
+ghost use lib.Seq.{sets};
+ghost use Rattle.bits.specs.Words.{bitOf};
+ghost use Rattle.bits.specs.Numbers.{numAt, digits};
+
+// ---- words of bits
+
+// Bit i of a word.
+pub fn bit(word: u16, i: usize) -> bool
+    requires { ⌜ i < 16 ⌝ }
+    ensures { λ r. ⌜ r ≡ bitOf word i ⌝ }
+{
+    (word >> i) % 2 == 1
+}
+
+// A word with bit i put in, where it has no bit at i or above.
+pub fn put_bit(word: u16, i: usize, b: bool) -> u16
+    requires { ⌜ (i < 16) × (word < 2 ^ i) ⌝ }
+    ensures { λ r. ⌜ r ≡ word + cond b (2 ^ i) 0 ⌝ }
+{
+    if b { word | 1 << i } else { word }
+}
+
+// The word has no bit at n or above.
+pub fn within(word: u16, n: u8) -> bool
+    ensures { λ r. ⌜ r ≡ ltb word (2 ^ n) ⌝ }
+{
+    if n < 16 {
+        (word as u32) < 1u32 << (n as u32)
+    } else {
+        true
+    }
+}
+
+// How many bits of the word are set, counted bit by bit.
+pub fn count_bits(word: u16) -> u32
+    ensures { λ r. ⌜ r ≡ ones word ⌝ }
+{
+    let mut rest = word;
+    let mut count: u32 = 0;
+    while 0 < rest {
+        count += (rest % 2) as u32;
+        rest = rest / 2;
+    }
+    count
+}
+
+// ---- big-endian numbers in a slice
+
+// A byte as 16 bits, with its bound, so that a caller need not show it.
+fn wide(x: u8) -> u16
+    ensures { λ r. ⌜ (r ≡ x) × (r < 256) ⌝ }
+{
+    x as u16
+}
+
+// The byte at `at`.
+pub fn get8(s: &[u8], at: usize) -> u8
+    requires { ⌜ at + 1 ≤ length (now s) ⌝ }
+    ensures { λ r. ⌜ r ≡ numAt 1 (now (s .entry)) at ⌝ }
+{
+    s[at]
+}
+
+// The 16 bits at `at`.
+pub fn get16(s: &[u8], at: usize) -> u16
+    requires { ⌜ at + 2 ≤ length (now s) ⌝ }
+    ensures { λ r. ⌜ r ≡ numAt 2 (now (s .entry)) at ⌝ }
+{
+    wide(s[at]) * 256 + wide(s[at + 1])
+}
+
+// The 32 bits at `at`.
+pub fn get32(s: &[u8], at: usize) -> u32
+    requires { ⌜ at + 4 ≤ length (now s) ⌝ }
+    ensures { λ r. ⌜ r ≡ numAt 4 (now (s .entry)) at ⌝ }
+{
+    (get16(s, at) as u32) * 65536 + (get16(s, at + 2) as u32)
+}
+
+// Writes the byte `v` at `at`; all else stays.
+pub fn put8(s: &mut [u8], at: usize, v: u8)
+    requires { ⌜ at + 1 ≤ length (now s) ⌝ }
+    ensures { λ _. ⌜ now (s .exit) ≡ sets (now (s .entry)) at (digits 1 v) ⌝ }
+{
+    s[at] = v;
+}
+
+// Writes the two bytes of `v` at `at`; all else stays.
+pub fn put16(s: &mut [u8], at: usize, v: u16)
+    requires { ⌜ at + 2 ≤ length (now s) ⌝ }
+    ensures { λ _. ⌜ now (s .exit) ≡ sets (now (s .entry)) at (digits 2 v) ⌝ }
+{
+    s[at] = (v / 256) as u8;
+    s[at + 1] = (v % 256) as u8;
+}
+
+// Writes the four bytes of `v` at `at`; all else stays.
+pub fn put32(s: &mut [u8], at: usize, v: u32)
+    requires { ⌜ at + 4 ≤ length (now s) ⌝ }
+    ensures { λ _. ⌜ now (s .exit) ≡ sets (now (s .entry)) at (digits 4 v) ⌝ }
+{
+    put16(s, at, (v / 65536) as u16);
+    put16(s, at + 2, (v % 65536) as u16);
+}
+
+// Copies the first n bytes of `src` to the front of `out`; what stands past them stays.
+pub fn copy_front(src: &[u8], n: usize, out: &mut [u8])
+    requires { ⌜ (n ≤ length (now src)) × (n ≤ length (now out)) ⌝ }
+    ensures { λ _. ⌜ now (out .exit) ≡ take n (now (src .entry)) ++ drop n (now (out .entry)) ⌝ }
+{
+    let mut i: usize = 0;
+    while i < n {
+        out[i] = src[i];
+        i += 1;
+    }
+}
