@@ -9,8 +9,6 @@ use borrow.Author.Needs.{needs}
 use Rattle.bits.proofs.Lists.{copy-more}
 use Rattle.bits.proofs.copy_front.Statement.{statement}
 use Rattle.bits.proofs.copy_front.Tie as tie
-use Rattle.bits.proofs.copy_front.Reads as reads
-use Rattle.bits.proofs.copy_front.Lts as lts
 
 abbrev Inv-loop : tie.InvT-loop
 Inv-loop src n out₀ i₀ out i = (i ≤ n) × (length out ≡ length out₀) × (out ≡ take i src ++ drop i out₀)

@@ -1,14 +1,11 @@
 -- `bits::count_bits` meets its contract. The loop's invariant: the count and the bits of what is left make those of the word.
 use mathlib.Core.Path.{_≡_, refl, ap}
-use Prim.Native.Nat.{ℕ, _+_, _%_, _/_}
-use native.Mathlib.Nat.{add-zero}
+use Prim.Native.Nat.{_+_}
 use native.Mathlib.Omega.{arith}
 use lib.Count.{ones, onesIn, ones-step, ones-le}
 use borrow.Author.Needs.{needs}
 use Rattle.bits.proofs.count_bits.Statement.{statement}
 use Rattle.bits.proofs.count_bits.Tie as tie
-use Rattle.bits.proofs.count_bits.Reads as reads
-use Rattle.bits.proofs.count_bits.Lts as lts
 
 abbrev Inv-loop : tie.InvT-loop
 Inv-loop word rest₀ count₀ rest count = count + ones rest ≡ ones word
@@ -16,19 +13,10 @@ Inv-loop word rest₀ count₀ rest count = count + ones rest ≡ ones word
 abbrev μ-loop : tie.MeasureT-loop
 μ-loop word rest₀ count₀ rest count = rest
 
-loop-holds : tie.Need-loop-holds Inv-loop μ-loop
-loop-holds c = omega arith
-
-cast-count : tie.Need-cast-count Inv-loop μ-loop
-cast-count c = search needs
-
 add-count : tie.Need-add-count Inv-loop μ-loop
 add-count c =
     let l = c .before .loop in
     omega (arith, l .inv, ones-step (l .rest), ones-le 16 (c .before .before .args .word) (c .before .before .fits .word .fits))
-
-loop-less : tie.Need-loop-less Inv-loop μ-loop
-loop-less c = omega arith
 
 loop-again : tie.Need-loop-again Inv-loop μ-loop
 loop-again c = omega (arith, c .before .loop .inv, ones-step (c .before .loop .rest))
@@ -45,4 +33,4 @@ returns c =
 pub count-bits-spec : {M : Type 1} → statement M
 count-bits-spec =
     tie.close
-    (tie.spec Inv-loop μ-loop loop-holds cast-count add-count loop-less loop-again returns)
+    (tie.spec Inv-loop μ-loop (λ c. omega arith) (λ c. search needs) add-count (λ c. omega arith) loop-again returns)

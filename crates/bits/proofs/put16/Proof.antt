@@ -1,3 +1,4 @@
+-- `bits::put16` meets its contract.
 use borrow.Author.Needs.{needs}
 use native.Mathlib.Omega.{arith}
 use native.Mathlib.Numerals.{add-one}
@@ -5,30 +6,13 @@ use native.Mathlib.Nat.{div-one}
 use lib.ListN.{length-set}
 use Rattle.bits.proofs.put16.Statement.{statement}
 use Rattle.bits.proofs.put16.Tie as tie
-use Rattle.bits.proofs.put16.Reads as reads
-use Rattle.bits.proofs.put16.Lts as lts
-
-cast-s : tie.Need-cast-s
-cast-s c = search needs
-
-slice-write-s : tie.Need-slice-write-s
-slice-write-s c = search needs
-
-cast-s-2 : tie.Need-cast-s-2
-cast-s-2 c = search needs
-
-add-s : tie.Need-add-s
-add-s c = search needs
 
 slice-write-s-2 : tie.Need-slice-write-s-2
 slice-write-s-2 c = simp length-set (omega arith)
-
-same-length : tie.Need-same-length
-same-length c = search needs
 
 returns : tie.Need-returns
 returns c = rw (add-one, div-one)
 
 pub put16-spec : {M : Type 1} → statement M
 put16-spec =
-    tie.close (tie.spec cast-s slice-write-s cast-s-2 add-s slice-write-s-2 same-length returns)
+    tie.close (tie.spec (λ c. search needs) (λ c. search needs) (λ c. search needs) (λ c. search needs) slice-write-s-2 (λ c. search needs) returns)

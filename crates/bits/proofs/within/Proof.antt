@@ -9,8 +9,6 @@ use borrow.Author.Needs.{needs}
 use borrow.Author.Tests.{lt-ltb}
 use Rattle.bits.proofs.within.Statement.{statement}
 use Rattle.bits.proofs.within.Tie as tie
-use Rattle.bits.proofs.within.Reads as reads
-use Rattle.bits.proofs.within.Lts as lts
 
 returns : tie.Need-returns
 returns c =
