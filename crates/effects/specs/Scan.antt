@@ -1,0 +1,74 @@
+-- One scan of all effects. Document 01, "The rules of one scan": effects do not read each other, so each list is gone
+-- through effect by effect: the signals of the effects that exist, and the slots.
+use Prim.Native.Nat.{ℕ, zero, suc, _+_, _%_}
+use mathlib.Core.Bool.{Bool, false, cond, _||_}
+use mathlib.Core.List.{List, [], _∷_, _++_}
+use lib.ListN.{length, getD}
+use Rattle.bits.specs.Words.{wordOf}
+use Rattle.rules.specs.declared.EffectState.the-variants.{Tripped}
+use Rattle.rules.specs.declared.Signals.{Signals}
+use Rattle.rules.specs.declared.Slot.{Slot}
+use Rattle.rules.specs.Rules.{after, next, moved, isOn, isLatent, isExercised}
+use Rattle.effects.specs.declared.Event.{Event}
+
+-- the slots after the scan; those past the effects are kept
+abbrev pub steps : List Signals → List Slot → List Slot
+steps [] xs = xs
+steps (s ∷ ss) [] = []
+steps (s ∷ ss) (x ∷ xs) = next s x ∷ steps ss xs
+
+-- the scan is live: some effect's state after it differs from before ("Held runs and their two counts")
+abbrev pub anyMoved : List Signals → List Slot → Bool
+anyMoved [] xs = false
+anyMoved (s ∷ ss) [] = false
+anyMoved (s ∷ ss) (x ∷ xs) = moved s x || anyMoved ss xs
+
+-- ## The event records
+
+-- the sequence number after q: after 65,535 comes 0
+abbrev pub wrapped : ℕ → ℕ
+wrapped q = (q + 1) % 65536
+
+-- the sequence number after a scan: one on for each effect whose state changed
+abbrev pub seqAfter : ℕ → List Signals → List Slot → ℕ
+seqAfter q [] xs = q
+seqAfter q (s ∷ ss) [] = q
+seqAfter q (s ∷ ss) (x ∷ xs) = seqAfter (cond (moved s x) (wrapped q) q) ss xs
+
+-- the event of effect number i in scan number c, with sequence number q
+abbrev pub event : ℕ → ℕ → ℕ → Signals → Slot → Event
+event q c i s x = record { seq = q; scan = c; effect = i; from = x .state; to = after s x; first = next s x .first }
+
+-- an event, where there is one
+abbrev pub only : Bool → Event → List Event
+only b e = cond b (e ∷ []) []
+
+-- the events of scan number c, from effect number i and sequence number q on: one for each effect whose state changed
+abbrev pub records : ℕ → ℕ → ℕ → List Signals → List Slot → List Event
+records q c i [] xs = []
+records q c i (s ∷ ss) [] = []
+records q c i (s ∷ ss) (x ∷ xs) = only (moved s x) (event q c i s x) ++ records (cond (moved s x) (wrapped q) q) c (suc i) ss xs
+
+-- ## The words
+
+-- the slot of no effect
+abbrev pub noSlot : Slot
+noSlot = record { state = Tripped; timer = 0; first = 0 }
+
+-- the signals of no effect
+abbrev pub noSignals : Signals
+noSignals =
+    record { active = 0; bad = false; trip = false; normal = false; require = false; permit = false; start = false; reset = false; delay = 0; period = 0 }
+
+-- the effect word, of the first n slots after the scan
+abbrev pub effectWord : ℕ → List Slot → ℕ
+effectWord n xs = wordOf (λ i. isOn (getD xs i noSlot .state)) n
+
+-- the latent word, of the effects' signals
+abbrev pub latentWord : List Signals → ℕ
+latentWord ss = wordOf (λ i. isLatent (getD ss i noSignals)) (length ss)
+
+-- some effect's active word is not 0
+abbrev pub anyExercised : List Signals → Bool
+anyExercised [] = false
+anyExercised (s ∷ ss) = isExercised s || anyExercised ss
