@@ -39,9 +39,9 @@ pub fn within(word: u16, n: u8) -> bool
     }
 }
 
-// How many bits of the word are set, counted bit by bit.
+// How many bits of the word are set, counted bit by bit; with its bound, so that a caller need not show it.
 pub fn count_bits(word: u16) -> u32
-    ensures { λ r. ⌜ r ≡ ones word ⌝ }
+    ensures { λ r. ⌜ (r ≡ ones word) × (r ≤ 16) ⌝ }
 {
     let mut rest = word;
     let mut count: u32 = 0;

@@ -10,7 +10,8 @@ use Rattle.rules.specs.declared.Slot.{Slot}
 use Rattle.bits.specs.Words.{wordOf}
 use Rattle.bits.proofs.Words.{wordOf-ext}
 use Rattle.rules.specs.Rules.{next, isLatent}
-use Rattle.effects.specs.Scan.{steps, latentWord, noSignals}
+use Rattle.rules.specs.Rules.{noSignals}
+use Rattle.effects.specs.Scan.{steps, latentWord}
 
 -- effects do not read each other: the slot after of effect i is that of its own slot and its own signals
 pub step-at : (ss : List Signals) (xs : List Slot) (i : ℕ) (d : Signals) (e : Slot) → i < length ss → i < length xs

@@ -5,10 +5,9 @@ use mathlib.Core.Bool.{Bool, false, cond, _||_}
 use mathlib.Core.List.{List, [], _∷_, _++_}
 use lib.ListN.{length, getD}
 use Rattle.bits.specs.Words.{wordOf}
-use Rattle.rules.specs.declared.EffectState.the-variants.{Tripped}
 use Rattle.rules.specs.declared.Signals.{Signals}
 use Rattle.rules.specs.declared.Slot.{Slot}
-use Rattle.rules.specs.Rules.{after, next, moved, isOn, isLatent, isExercised}
+use Rattle.rules.specs.Rules.{noSlot, noSignals, after, next, moved, isOn, isLatent, isExercised}
 use Rattle.effects.specs.declared.Event.{Event}
 
 -- the slots after the scan; those past the effects are kept
@@ -50,15 +49,6 @@ records q c i (s ∷ ss) [] = []
 records q c i (s ∷ ss) (x ∷ xs) = only (moved s x) (event q c i s x) ++ records (cond (moved s x) (wrapped q) q) c (suc i) ss xs
 
 -- ## The words
-
--- the slot of no effect
-abbrev pub noSlot : Slot
-noSlot = record { state = Tripped; timer = 0; first = 0 }
-
--- the signals of no effect
-abbrev pub noSignals : Signals
-noSignals =
-    record { active = 0; bad = false; trip = false; normal = false; require = false; permit = false; start = false; reset = false; delay = 0; period = 0 }
 
 -- the effect word, of the first n slots after the scan
 abbrev pub effectWord : ℕ → List Slot → ℕ

@@ -125,3 +125,14 @@ isLatent s = s .normal && (ltb 0 (s .active) || s .bad)
 -- it counts for the exercised scans: its active word is not 0
 abbrev pub isExercised : Signals → Bool
 isExercised s = ltb 0 (s .active)
+
+-- ## No effect
+
+-- the slot of no effect
+abbrev pub noSlot : Slot
+noSlot = record { state = Tripped; timer = 0; first = 0 }
+
+-- the signals of no effect
+abbrev pub noSignals : Signals
+noSignals =
+    record { active = 0; bad = false; trip = false; normal = false; require = false; permit = false; start = false; reset = false; delay = 0; period = 0 }

@@ -28,7 +28,8 @@ none = refl
 returns : tie.Need-returns Inv-loop μ-loop
 returns c =
     let e : c .before .loop .rest ≡ 0 = omega arith in
-    omega (arith, c .before .loop .inv, ap ones e, none)
+    let is : c .before .loop .count ≡ ones (c .before .before .args .word) = omega (arith, c .before .loop .inv, ap ones e, none) in
+    (is, omega (arith, is, ones-le 16 (c .before .before .args .word) (c .before .before .fits .word .fits)))
 
 pub count-bits-spec : {M : Type 1} → statement M
 count-bits-spec =

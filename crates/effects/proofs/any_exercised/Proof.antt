@@ -5,7 +5,8 @@ use Prim.Native.Nat.{_≤_, _-_}
 use native.Mathlib.Omega.{arith}
 use borrow.Author.Needs.{needs}
 use lib.ListN.{take, drop}
-use Rattle.effects.specs.Scan.{anyExercised, noSignals}
+use Rattle.rules.specs.Rules.{noSignals}
+use Rattle.effects.specs.Scan.{anyExercised}
 use Rattle.effects.proofs.Loops.{ends, exercised-turn, or-none}
 use Rattle.effects.proofs.any_exercised.Statement.{statement}
 use Rattle.effects.proofs.any_exercised.Tie as tie

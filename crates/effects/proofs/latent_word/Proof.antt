@@ -7,7 +7,7 @@ use lib.ListN.{getD}
 use Rattle.bits.specs.Words.{wordOf}
 use Rattle.bits.proofs.Words.{wordOf-lt, wordOf-more}
 use Rattle.rules.specs.Rules.{isLatent}
-use Rattle.effects.specs.Scan.{noSignals}
+use Rattle.rules.specs.Rules.{noSignals}
 use Rattle.effects.proofs.Laws.{latent-of-first}
 use Rattle.effects.proofs.latent_word.Statement.{statement}
 use Rattle.effects.proofs.latent_word.Tie as tie

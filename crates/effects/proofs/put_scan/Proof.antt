@@ -1,7 +1,7 @@
 -- `effects::put_scan` meets its contract.
 use Rattle.bits.specs.Words.{one}
 use Rattle.rules.specs.Rules.{moved}
-use Rattle.effects.specs.Scan.{noSignals, noSlot}
+use Rattle.rules.specs.Rules.{noSignals, noSlot}
 use borrow.Author.Needs.{needs}
 use mathlib.Core.Path.{_≡_, refl, sym, _∙_, ap}
 use Prim.Native.Nat.{_-_, _+_, _*_, _≤_}

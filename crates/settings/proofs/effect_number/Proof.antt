@@ -1,0 +1,13 @@
+-- `settings::effect_number` meets its contract.
+use borrow.Author.Needs.{needs}
+use Rattle.settings.proofs.effect_number.Statement.{statement}
+use Rattle.settings.proofs.effect_number.Tie as tie
+
+returns : tie.Need-returns
+returns c = rw (← c .before .effect-ok .ensures, c .if1 .taken)
+
+returns-2 : tie.Need-returns-2
+returns-2 c = rw (← c .before .effect-ok .ensures, c .if1 .left)
+
+pub effect-number-spec : {M : Type 1} → statement M
+effect-number-spec = tie.close (tie.spec (λ c κs. search needs) returns returns-2)

@@ -1,0 +1,13 @@
+-- `settings::fields_number` meets its contract.
+use borrow.Author.Needs.{needs}
+use Rattle.settings.proofs.fields_number.Statement.{statement}
+use Rattle.settings.proofs.fields_number.Tie as tie
+
+returns : tie.Need-returns
+returns c = rw (← c .before .words-ok .ensures, c .if1 .taken)
+
+returns-2 : tie.Need-returns-2
+returns-2 c = rw (← c .before .words-ok .ensures, c .if1 .left)
+
+pub fields-number-spec : {M : Type 1} → statement M
+fields-number-spec = tie.close (tie.spec (λ c κs. search needs) returns returns-2)

@@ -1,0 +1,12 @@
+-- `settings::hold_number` meets its contract.
+use Rattle.settings.proofs.hold_number.Statement.{statement}
+use Rattle.settings.proofs.hold_number.Tie as tie
+
+returns : tie.Need-returns
+returns c = rw (c .if1 .taken)
+
+returns-2 : tie.Need-returns-2
+returns-2 c = rw (c .if1 .left)
+
+pub hold-number-spec : {M : Type 1} → statement M
+hold-number-spec = tie.close (tie.spec returns returns-2)

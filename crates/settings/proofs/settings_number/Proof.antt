@@ -1,0 +1,18 @@
+-- `settings::settings_number` meets its contract.
+use Rattle.settings.proofs.Refusals.{or-else-first, or-else-next}
+use Rattle.settings.specs.Right.{settingsNumber}
+use borrow.Author.Needs.{needs}
+use Rattle.settings.proofs.settings_number.Statement.{statement}
+use Rattle.settings.proofs.settings_number.Tie as tie
+
+returns : tie.Need-returns
+unfolding settingsNumber
+returns c = or-else-first _ _ _ (c .before .block-number .ensures) (c .if1 .taken)
+
+returns-2 : tie.Need-returns-2
+unfolding settingsNumber
+returns-2 c = or-else-next _ _ _ _ (c .before .before .block-number .ensures) (c .before .if1 .left) (c .effects-number .ensures)
+
+pub settings-number-spec : {M : Type 1} → statement M
+settings-number-spec =
+    tie.close (tie.spec (λ c κs. search needs) returns (λ c κs. search needs) returns-2)

@@ -1,0 +1,14 @@
+-- `settings::several_number` meets its contract.
+use borrow.Author.Needs.{needs}
+use Rattle.settings.proofs.several_number.Statement.{statement}
+use Rattle.settings.proofs.several_number.Tie as tie
+
+returns : tie.Need-returns
+returns c = rw (← c .before .before .bit .ensures, ← c .before .is-several .ensures, c .if1 .taken)
+
+returns-2 : tie.Need-returns-2
+returns-2 c = rw (← c .before .before .bit .ensures, ← c .before .is-several .ensures, c .if1 .left)
+
+pub several-number-spec : {M : Type 1} → statement M
+several-number-spec =
+    tie.close (tie.spec (λ c. search needs) (λ c κs. search needs) (λ c κs. search needs) returns returns-2)

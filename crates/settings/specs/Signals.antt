@@ -1,0 +1,49 @@
+-- What an effect sees in a scan, of the settings and the ten words. Document 01, "The rules of one scan".
+use Prim.Native.Nat.{ℕ, _-_}
+use mathlib.Core.Bool.{Bool, _&&_, _||_}
+use mathlib.Core.List.{List}
+use lib.Bits.{bitAnd}
+use lib.Dec.{eqb, ltb}
+use lib.ListN.{getD}
+use Rattle.bits.specs.Lists.{tabulate}
+use Rattle.bits.specs.Words.{bitOf}
+use Rattle.rules.specs.declared.Signals.{Signals}
+use Rattle.settings.specs.declared.Effect.{Effect}
+use Rattle.settings.specs.declared.Settings.{Settings}
+use Rattle.settings.specs.declared.Words.{Words}
+
+-- active: the association word, less the masked causes, less those whose value is 1
+abbrev pub activeOf : (association mask values : ℕ) → ℕ
+activeOf association mask values = bitAnd (bitAnd association (65535 - mask)) (65535 - values)
+
+-- Bad trip: option bit 0 is set and any cause is Bad, masked or not, associated or not
+abbrev pub badTrip : (options : ℕ) → Words → Bool
+badTrip options w = bitOf options 0 && ltb 0 (w .bad)
+
+-- forces count only if force permit is 1 or option bit 1 is set
+abbrev pub forcesCount : (options : ℕ) → Words → Bool
+forcesCount options w = eqb (w .«force_permit») 1 || bitOf options 1
+
+-- the settings of no effect
+abbrev pub noEffect : Effect
+noEffect = record { association = 0; delay = 0 }
+
+-- what effect i sees, counted from 0
+unfoldable pub signalsOf : Settings → Words → ℕ → Signals
+signalsOf st w i =
+    record {
+      active = activeOf (getD (st .effects) i noEffect .association) (w .mask) (w .values);
+      bad = badTrip (st .options) w;
+      trip = forcesCount (st .options) w && bitOf (w .«force_trip») i;
+      normal = forcesCount (st .options) w && bitOf (w .«force_normal») i;
+      require = bitOf (w .«require_reset») i;
+      permit = bitOf (w .«reset_permit») i;
+      start = bitOf (w .«start_permit») i;
+      reset = bitOf (w .reset) i;
+      delay = getD (st .effects) i noEffect .delay;
+      period = st .period;
+    }
+
+-- what the effects see, in their order
+abbrev pub signals : Settings → Words → List Signals
+signals st w = tabulate (signalsOf st w) (st .count)

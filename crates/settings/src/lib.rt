@@ -1,0 +1,329 @@
+// Settings and rows: what they are, which number refuses them, and what an effect sees of them in a scan.
+// Document 01, "Settings, row, state", "Refusal numbers" and "The rules of one scan".
+ghost use mathlib.Core.Path.{_≡_};
+ghost use mathlib.Core.Bool.{_&&_, _||_, not};
+ghost use mathlib.Core.List.{_++_};
+ghost use Prim.Native.Nat.{_+_, _<_, _≤_};
+ghost use lib.Bits.{bitAnd};
+ghost use lib.Count.{ones};
+ghost use lib.Dec.{eqb, leb, ltb};
+ghost use lib.ListN.{drop, replicate};
+ghost use Rattle.bits.specs.Lists.{allFrom};
+ghost use Rattle.rules.specs.Rules.{noSignals};
+ghost use Rattle.settings.specs.Limits.{mostDelay, mostHold};
+ghost use Rattle.settings.specs.Right.{limitsOf, blockNumber, effectOk, effectNumber, countOk, slotOk, effectsNumber, settingsNumber, wordsOk, fieldsNumber, apart, apartNumber, several, severalNumber, wordsNumber, holdNumber, rowNumber};
+ghost use Rattle.settings.specs.Signals.{activeOf, forcesCount, badTrip, signalsOf, signals};
+use rules::Signals;
+
+// The settings of one effect: its association word and its delay in milliseconds.
+pub struct Effect {
+    pub association: u16,
+    pub delay: u32,
+}
+
+// Cause count, options, scan period in milliseconds, effect count, and sixteen slots of effects.
+pub struct Settings {
+    pub causes: u8,
+    pub options: u8,
+    pub period: u16,
+    pub count: u8,
+    pub effects: [Effect; 16],
+}
+
+// The ten words of a row.
+pub struct Words {
+    pub values: u16,
+    pub bad: u16,
+    pub mask: u16,
+    pub require_reset: u16,
+    pub reset_permit: u16,
+    pub start_permit: u16,
+    pub reset: u16,
+    pub force_permit: u16,
+    pub force_trip: u16,
+    pub force_normal: u16,
+}
+
+pub struct Row {
+    pub hold: u32,
+    pub words: Words,
+}
+
+// What the checks of effects and rows ask of the settings: the causes and effects that exist, and the options.
+pub struct Limits {
+    pub causes: u8,
+    pub count: u8,
+    pub options: u8,
+}
+
+impl Effect {
+    pub const MOST_DELAY: u32 = 3600000;
+
+    // The constant is the definition's.
+    pub fn most_delay() -> u32
+        ensures { λ r. ⌜ r ≡ mostDelay ⌝ }
+    {
+        Effect::MOST_DELAY
+    }
+}
+
+impl Row {
+    pub const MOST_HOLD: u32 = 1000000;
+
+    // The constant is the definition's.
+    pub fn most_hold() -> u32
+        ensures { λ r. ⌜ r ≡ mostHold ⌝ }
+    {
+        Row::MOST_HOLD
+    }
+}
+
+// ---- settings: 2, then 3
+
+pub fn limits_of(st: Settings) -> Limits
+    ensures { λ r. ⌜ r ≡ limitsOf st ⌝ }
+{
+    Limits {
+        causes: st.causes,
+        count: st.count,
+        options: st.options,
+    }
+}
+
+// 0 for a block section that is right, else 2.
+pub fn block_number(causes: u8, options: u8, period: u16) -> u8
+    ensures { λ r. ⌜ r ≡ blockNumber causes options period ⌝ }
+{
+    if (1 <= causes) & (causes <= 16) & (options < 8) & (1 <= period) & (period <= 1000) {
+        0
+    } else {
+        2
+    }
+}
+
+fn effect_ok(causes: u8, e: Effect) -> bool
+    ensures { λ r. ⌜ r ≡ effectOk causes e ⌝ }
+{
+    (1 <= e.association) & bits::within(e.association, causes) & (e.delay <= Effect::MOST_DELAY)
+}
+
+// 0 for an effect that is right, else 3.
+pub fn effect_number(causes: u8, e: Effect) -> u8
+    ensures { λ r. ⌜ r ≡ effectNumber causes e ⌝ }
+{
+    if effect_ok(causes, e) { 0 } else { 3 }
+}
+
+// Slot i holds an effect that is right, or nothing past the count.
+fn slot_ok(known: Limits, i: usize, e: Effect) -> bool
+    ensures { λ r. ⌜ r ≡ slotOk known i e ⌝ }
+{
+    if i < (known.count as usize) {
+        effect_ok(known.causes, e)
+    } else {
+        (e.association == 0) & (e.delay == 0)
+    }
+}
+
+fn slots_ok(known: Limits, effects: [Effect; 16]) -> bool
+    ensures { λ r. ⌜ r ≡ allFrom (slotOk known) 0 effects ⌝ }
+{
+    let mut i = 0;
+    while i < 16 {
+        let e = effects[i];
+        if !slot_ok(known, i, e) {
+            return false;
+        }
+        i += 1;
+    }
+    true
+}
+
+fn count_ok(count: u8) -> bool
+    ensures { λ r. ⌜ r ≡ countOk count ⌝ }
+{
+    (1 <= count) & (count <= 16)
+}
+
+// 0 for an effect count and slots that are right, else 3.
+fn effects_number(st: Settings) -> u8
+    ensures { λ r. ⌜ r ≡ effectsNumber st ⌝ }
+{
+    let effects = st.effects;
+    if count_ok(st.count) & slots_ok(limits_of(st), effects) {
+        0
+    } else {
+        3
+    }
+}
+
+// 0 for settings that are right, or their refusal's number.
+pub fn settings_number(st: Settings) -> u8
+    ensures { λ r. ⌜ r ≡ settingsNumber st ⌝ }
+{
+    let number = block_number(st.causes, st.options, st.period);
+    if number != 0 {
+        return number;
+    }
+    effects_number(st)
+}
+
+// ---- rows: 4, 5, then 6
+
+fn words_ok(known: Limits, w: Words) -> bool
+    ensures { λ r. ⌜ r ≡ wordsOk known w ⌝ }
+{
+    let causes = known.causes;
+    let count = known.count;
+    bits::within(w.values, causes)
+        & bits::within(w.bad, causes)
+        & bits::within(w.mask, causes)
+        & bits::within(w.require_reset, count)
+        & bits::within(w.reset_permit, count)
+        & bits::within(w.start_permit, count)
+        & bits::within(w.reset, count)
+        & (w.force_permit <= 1)
+        & bits::within(w.force_trip, count)
+        & bits::within(w.force_normal, count)
+}
+
+fn fields_number(known: Limits, w: Words) -> u8
+    ensures { λ r. ⌜ r ≡ fieldsNumber known w ⌝ }
+{
+    if words_ok(known, w) { 0 } else { 4 }
+}
+
+// No effect stands in both force words.
+fn is_apart(w: Words) -> bool
+    ensures { λ r. ⌜ r ≡ apart w ⌝ }
+{
+    w.force_trip & w.force_normal == 0
+}
+
+fn apart_number(w: Words) -> u8
+    ensures { λ r. ⌜ r ≡ apartNumber w ⌝ }
+{
+    if is_apart(w) { 0 } else { 5 }
+}
+
+// The two force words hold more than one bit together.
+fn is_several(w: Words) -> bool
+    ensures { λ r. ⌜ r ≡ several w ⌝ }
+{
+    1 < bits::count_bits(w.force_trip) + bits::count_bits(w.force_normal)
+}
+
+fn several_number(known: Limits, w: Words) -> u8
+    ensures { λ r. ⌜ r ≡ severalNumber known w ⌝ }
+{
+    if bits::bit(known.options as u16, 2) | !is_several(w) {
+        0
+    } else {
+        6
+    }
+}
+
+// 0 for words that are right, or their refusal's number.
+pub fn words_number(known: Limits, w: Words) -> u8
+    ensures { λ r. ⌜ r ≡ wordsNumber known w ⌝ }
+{
+    let fields = fields_number(known, w);
+    if fields != 0 {
+        return fields;
+    }
+    let both = apart_number(w);
+    if both != 0 {
+        return both;
+    }
+    several_number(known, w)
+}
+
+fn hold_number(hold: u32) -> u8
+    ensures { λ r. ⌜ r ≡ holdNumber hold ⌝ }
+{
+    if (1 <= hold) & (hold <= Row::MOST_HOLD) {
+        0
+    } else {
+        4
+    }
+}
+
+// 0 for a row that is right, or its refusal's number.
+pub fn row_number(known: Limits, row: Row) -> u8
+    ensures { λ r. ⌜ r ≡ rowNumber known row ⌝ }
+{
+    let number = hold_number(row.hold);
+    if number != 0 {
+        return number;
+    }
+    words_number(known, row.words)
+}
+
+// ---- what an effect sees in a scan
+
+// The association word, less the masked causes, less those whose value is 1.
+fn active(association: u16, mask: u16, values: u16) -> u16
+    ensures { λ r. ⌜ r ≡ activeOf association mask values ⌝ }
+{
+    association & !mask & !values
+}
+
+fn forces_count(options: u8, w: Words) -> bool
+    ensures { λ r. ⌜ r ≡ forcesCount options w ⌝ }
+{
+    (w.force_permit == 1) | bits::bit(options as u16, 1)
+}
+
+fn bad_trip(options: u8, w: Words) -> bool
+    ensures { λ r. ⌜ r ≡ badTrip options w ⌝ }
+{
+    bits::bit(options as u16, 0) & (0 < w.bad)
+}
+
+// What effect i sees, counted from 0.
+fn signals_of(st: Settings, w: Words, i: usize) -> Signals
+    requires { ⌜ i < 16 ⌝ }
+    ensures { λ r. ⌜ r ≡ signalsOf st w i ⌝ }
+{
+    let e = st.effects[i];
+    let counts = forces_count(st.options, w);
+    Signals {
+        active: active(e.association, w.mask, w.values),
+        bad: bad_trip(st.options, w),
+        trip: (counts) & bits::bit(w.force_trip, i),
+        normal: (counts) & bits::bit(w.force_normal, i),
+        require: bits::bit(w.require_reset, i),
+        permit: bits::bit(w.reset_permit, i),
+        start: bits::bit(w.start_permit, i),
+        reset: bits::bit(w.reset, i),
+        delay: e.delay,
+        period: st.period as u32,
+    }
+}
+
+// What the effects see; the slots past them see nothing.
+pub fn all_signals(st: Settings, w: Words) -> [Signals; 16]
+    requires { ⌜ st .count ≤ 16 ⌝ }
+    ensures { λ r. ⌜ r ≡ signals st w ++ drop (st .count) (replicate 16 noSignals) ⌝ }
+{
+    let none = Signals {
+        active: 0,
+        bad: false,
+        trip: false,
+        normal: false,
+        require: false,
+        permit: false,
+        start: false,
+        reset: false,
+        delay: 0,
+        period: 0,
+    };
+    let n = st.count as usize;
+    let mut ss = [none; 16];
+    let mut i: usize = 0;
+    while i < n {
+        ss[i] = signals_of(st, w, i);
+        i += 1;
+    }
+    ss
+}
