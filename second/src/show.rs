@@ -1,0 +1,149 @@
+//! Cases and answers for a person to read.
+
+use crate::block::{Answer, Row, State, RECORD_BYTES};
+use crate::cases::{answer_writing, call_run, hex, Kind, RunCase, Stream, WritingCase};
+use crate::recording::{number16, number32, read};
+use crate::settings::Settings;
+
+fn show_settings(settings: &Settings) -> String {
+    let mut text = format!(
+        "  settings: causes {} options {:03b} period {} effects {}\n",
+        settings.causes, settings.options, settings.period, settings.effects
+    );
+    for (index, effect) in settings.slots.iter().enumerate() {
+        if effect.association != 0 || effect.delay != 0 || index < usize::from(settings.effects) {
+            text += &format!(
+                "    effect {}: association {:04x} delay {}\n",
+                index + 1,
+                effect.association,
+                effect.delay
+            );
+        }
+    }
+    text
+}
+
+fn show_state(title: &str, settings: &Settings, state: &State) -> String {
+    let mut text = format!(
+        "  {title}: scans done {} next sequence {}\n",
+        state.scans_done, state.next_sequence
+    );
+    for (index, slot) in state.slots.iter().enumerate() {
+        if *slot != Default::default() || index < usize::from(settings.effects) {
+            text += &format!(
+                "    effect {}: {} timer {} first-out {:04x}\n",
+                index + 1,
+                slot.phase.name(),
+                slot.timer,
+                slot.first_out
+            );
+        }
+    }
+    text
+}
+
+fn show_row(row: &Row) -> String {
+    let words = &row.words;
+    format!(
+        "  row: hold {} values {:04x} Bad {:04x} mask {:04x} require reset {:04x} \
+         reset permit {:04x} start permit {:04x} reset {:04x} force permit {} \
+         force trip {:04x} force normal {:04x}\n",
+        row.hold,
+        words.values,
+        words.bad,
+        words.mask,
+        words.require_reset,
+        words.reset_permit,
+        words.start_permit,
+        words.reset,
+        words.force_permit,
+        words.force_trip,
+        words.force_normal
+    )
+}
+
+fn state_name(code: u8) -> &'static str {
+    crate::block::Phase::from_code(code).map_or("?", |phase| phase.name())
+}
+
+fn show_record(record: &[u8]) -> String {
+    format!(
+        "    record: sequence {} scan {} effect {} {} to {} first-out {:04x}\n",
+        number16(&record[0..2]),
+        number32(&record[2..6]),
+        record[6],
+        state_name(record[7]),
+        state_name(record[8]),
+        number16(&record[10..12])
+    )
+}
+
+fn show_answer(case: &RunCase, answer: &Answer, buffer: &[u8]) -> String {
+    if answer.number != 0 {
+        return format!("  refused {} at {}\n", answer.number, answer.place);
+    }
+    let mut text = show_state("after", &case.settings, &answer.state);
+    text += &format!(
+        "  effect word {:04x} latent word {:04x} records {} live {} exercised {}\n",
+        answer.effect_word, answer.latent_word, answer.records, answer.live, answer.exercised
+    );
+    for record in buffer
+        .chunks(RECORD_BYTES)
+        .take(usize::from(answer.records))
+    {
+        text += &show_record(record);
+    }
+    text
+}
+
+fn show_run(kind: Kind, case: &RunCase) -> String {
+    let (answer, buffer) = call_run(kind, case);
+    show_settings(&case.settings)
+        + &show_state("before", &case.settings, &case.state)
+        + &show_row(&case.row)
+        + &format!("  room: {} bytes\n", case.room)
+        + &show_answer(case, &answer, &buffer)
+}
+
+/// At most this many bytes and rows of a file are shown.
+const SHOWN_BYTES: usize = 600;
+const SHOWN_ROWS: usize = 20;
+
+fn show_file(file: &[u8]) -> String {
+    let shown = &file[..file.len().min(SHOWN_BYTES)];
+    let more = if shown.len() < file.len() { "..." } else { "" };
+    let mut text = format!("  file: {} bytes {}{more}\n", file.len(), hex(shown));
+    match read(file) {
+        Err(refusal) => text += &format!("  refused {} at {}\n", refusal.number, refusal.place),
+        Ok(recording) => {
+            text += &show_settings(&recording.settings);
+            text += &format!(
+                "  rows: {} first at {}\n",
+                recording.rows.len(),
+                recording.first_row
+            );
+            for row in recording.rows.iter().take(SHOWN_ROWS) {
+                text += &show_row(row);
+            }
+        }
+    }
+    text
+}
+
+fn show_writing(case: &WritingCase) -> String {
+    show_settings(&case.settings)
+        + &format!("  row count {}\n", case.row_count)
+        + &show_row(&case.row)
+        + &format!("  room: {} bytes\n", case.room)
+        + "  answer (opening, its buffer, row, its buffer):\n  "
+        + &answer_writing(case)
+}
+
+/// Shows the next case of a stream.
+pub fn show_next(kind: Kind, stream: &mut Stream) -> Result<String, String> {
+    Ok(match kind {
+        Kind::Scan | Kind::Held => show_run(kind, &stream.run_case(kind)?),
+        Kind::Recording => show_file(stream.file()?),
+        Kind::Writing => show_writing(&stream.writing_case()?),
+    })
+}

@@ -1,0 +1,313 @@
+//! What the made streams reach. The expectations are planted by hand in the generators or
+//! listed here from document 01.
+
+use second::block::{deciding_rule, step, Inputs, Phase, Words, RECORD_BYTES};
+use second::cases::{answer_writing, call_run, lent, written_back, Kind, RunCase};
+use second::make::Named;
+use second::make_files::{file_cases, writing_cases};
+use second::make_runs::{run_cases, ORDER};
+use second::recording::read;
+use std::collections::{BTreeMap, BTreeSet};
+use Phase::*;
+
+fn scans() -> Vec<Named<RunCase>> {
+    run_cases(Kind::Scan, 1, 3000)
+}
+
+fn helds() -> Vec<Named<RunCase>> {
+    run_cases(Kind::Held, 1, 2000)
+}
+
+/// The first of the planted refusals in the order of document 01, or 0.
+fn first_of(planted: &[u8]) -> u8 {
+    let first = ORDER.iter().find(|number| planted.contains(number));
+    first.copied().unwrap_or(0)
+}
+
+/// The (before, after) pairs that the rules allow: from every state to Tripped (force
+/// trip, Bad trip) and to Normal (force normal), then rules 4 to 9.
+const POSSIBLE: [(Phase, Phase); 23] = [
+    (Tripped, Tripped),
+    (Tripped, WaitReset),
+    (Tripped, Ready),
+    (Tripped, WaitStart),
+    (Tripped, Normal),
+    (WaitReset, Tripped),
+    (WaitReset, WaitReset),
+    (WaitReset, Ready),
+    (WaitReset, Normal),
+    (Ready, Tripped),
+    (Ready, WaitReset),
+    (Ready, Ready),
+    (Ready, WaitStart),
+    (Ready, Normal),
+    (WaitStart, Tripped),
+    (WaitStart, WaitStart),
+    (WaitStart, Normal),
+    (Normal, Tripped),
+    (Normal, Normal),
+    (Normal, Delayed),
+    (Delayed, Tripped),
+    (Delayed, Normal),
+    (Delayed, Delayed),
+];
+
+#[test]
+fn scans_reach_every_rule_and_every_pair_of_states() {
+    let mut rules = BTreeMap::new();
+    let mut pairs = BTreeMap::new();
+    let cases = scans();
+    let mut accepted = 0;
+    for Named { case, .. } in &cases {
+        let (answer, _) = call_run(Kind::Scan, case);
+        if answer.number != 0 {
+            continue;
+        }
+        accepted += 1;
+        for index in 0..usize::from(case.settings.effects) {
+            let before = case.state.slots[index].phase;
+            let inputs = Inputs::of(&case.settings, &case.row.words, index);
+            *rules.entry(deciding_rule(before, &inputs)).or_insert(0) += 1;
+            let pair = (before, answer.state.slots[index].phase);
+            *pairs.entry(pair).or_insert(0) += 1;
+        }
+    }
+    assert!(accepted * 2 >= cases.len(), "{accepted} accepted");
+    for rule in 1..=9 {
+        let times = rules.get(&rule).copied().unwrap_or(0);
+        assert!(times >= 50, "rule {rule} decides {times} times");
+    }
+    let seen: BTreeSet<_> = pairs.keys().copied().collect();
+    assert_eq!(seen, BTreeSet::from(POSSIBLE));
+    for (pair, times) in pairs {
+        assert!(times >= 5, "{pair:?} occurs {times} times");
+    }
+}
+
+fn planted_cases_are_answered(kind: Kind, cases: &[Named<RunCase>]) {
+    for (index, named) in cases.iter().enumerate() {
+        let Some(planted) = &named.planted else {
+            continue;
+        };
+        let (answer, _) = call_run(kind, &named.case);
+        let name = &named.name;
+        assert_eq!(
+            answer.number,
+            first_of(planted),
+            "case {} {name}",
+            index + 1
+        );
+    }
+}
+
+#[test]
+fn planted_scans_are_answered() {
+    planted_cases_are_answered(Kind::Scan, &scans());
+}
+
+#[test]
+fn planted_held_runs_are_answered() {
+    planted_cases_are_answered(Kind::Held, &helds());
+}
+
+/// Document 01's refusals seen one by one, whatever comes before them. The records due are
+/// those of the first scan by the rules, even where something else is wrong.
+fn faults(case: &RunCase) -> BTreeSet<u8> {
+    let words: &Words = &case.row.words;
+    let scans_after = u64::from(case.state.scans_done) + u64::from(case.row.hold);
+    let due = match case.row.hold {
+        0 => 0,
+        _ => step(&case.settings, &case.state, words).records.len(),
+    };
+    let hold_is_right = (1..=1_000_000).contains(&case.row.hold);
+    let seen = [
+        (2, !case.settings.block_is_right()),
+        (3, !case.settings.effects_are_right()),
+        (8, case.state.check(&case.settings).is_err()),
+        (4, !hold_is_right || !words.words_are_right(&case.settings)),
+        (5, words.force_words_meet()),
+        (6, words.several_forced(&case.settings)),
+        (9, scans_after > 1_000_000_000),
+        (10, usize::from(case.room) < RECORD_BYTES * due),
+    ];
+    let seen = seen.into_iter().filter(|(_, wrong)| *wrong);
+    seen.map(|(number, _)| number).collect()
+}
+
+/// Each pair of faults at once, both truly there; the earlier one is given.
+fn fault_pairs_occur(kind: Kind, cases: &[Named<RunCase>]) {
+    let mut pairs = BTreeSet::new();
+    let mut numbers = BTreeSet::new();
+    for Named { case, .. } in cases {
+        let faults = faults(case);
+        let (answer, buffer) = call_run(kind, case);
+        numbers.insert(answer.number);
+        if answer.number != 0 {
+            assert_eq!(answer.state, case.state);
+            assert_eq!(buffer, lent(case.room));
+        }
+        for (position, first) in ORDER.iter().enumerate() {
+            for second in &ORDER[position + 1..] {
+                if faults.contains(first) && faults.contains(second) {
+                    assert_ne!(answer.number, *second);
+                    if answer.number == *first {
+                        pairs.insert((*first, *second));
+                    }
+                }
+            }
+        }
+    }
+    assert_eq!(numbers, BTreeSet::from([0, 2, 3, 4, 5, 6, 8, 9, 10]));
+    assert_eq!(pairs.len(), 28, "{pairs:?}");
+}
+
+#[test]
+fn every_pair_of_faults_occurs_in_scans() {
+    fault_pairs_occur(Kind::Scan, &scans());
+}
+
+#[test]
+fn every_pair_of_faults_occurs_in_held_runs() {
+    fault_pairs_occur(Kind::Held, &helds());
+}
+
+#[test]
+fn scans_reach_latents_wraps_and_rooms() {
+    let (mut latent, mut wraps, mut all_change, mut exact, mut spare) = (0, 0, 0, 0, 0);
+    for Named { case, .. } in &scans() {
+        let (answer, _) = call_run(Kind::Scan, case);
+        if answer.number != 0 {
+            continue;
+        }
+        latent += usize::from(answer.latent_word != 0);
+        wraps += usize::from(answer.state.next_sequence < case.state.next_sequence);
+        all_change += usize::from(answer.records == 16);
+        let due = RECORD_BYTES as u16 * answer.records;
+        exact += usize::from(due > 0 && case.room == due);
+        spare += usize::from(due > 0 && case.room > due);
+    }
+    for (what, times) in [
+        ("latent", latent),
+        ("wraps", wraps),
+        ("all change", all_change),
+        ("exact room", exact),
+        ("spare room", spare),
+    ] {
+        assert!(times >= 10, "{what}: {times}");
+    }
+}
+
+#[test]
+fn held_runs_reach_live_scans_and_the_ends_of_timers() {
+    let mut live = BTreeMap::new();
+    let (mut ended, mut running, mut went_on, mut half) = (0, 0, 0, 0);
+    for Named { case, .. } in &helds() {
+        let (answer, _) = call_run(Kind::Held, case);
+        if answer.number != 0 {
+            continue;
+        }
+        *live.entry(answer.live.min(4)).or_insert(0) += 1;
+        half += usize::from(answer.exercised != 0);
+        for (before, after) in case.state.slots.iter().zip(&answer.state.slots) {
+            match (before.phase, after.phase) {
+                (Delayed, Tripped) => ended += 1,
+                (Delayed, Delayed) => running += 1,
+                (Delayed, Ready | WaitReset | WaitStart) => went_on += 1,
+                _ => {}
+            }
+        }
+    }
+    for scans in 0..=4 {
+        let times = live.get(&scans).copied().unwrap_or(0);
+        assert!(times >= 20, "{scans} live scans: {times}");
+    }
+    for times in [ended, running, went_on, half] {
+        assert!(times >= 50, "{ended} {running} {went_on} {half}");
+    }
+}
+
+#[test]
+fn held_runs_have_the_corner_of_the_scan_numbers() {
+    let mut seen = BTreeSet::new();
+    for Named { case, .. } in &helds() {
+        if case.state.scans_done == 999_999_999 {
+            let (answer, _) = call_run(Kind::Held, case);
+            seen.insert((case.row.hold, answer.number));
+        }
+    }
+    assert!(seen.contains(&(1, 0)) && seen.contains(&(2, 9)), "{seen:?}");
+    assert!(!seen.contains(&(2, 0)), "{seen:?}");
+}
+
+/// The planted refusal that the reader meets first is the first in the list.
+#[test]
+fn planted_recordings_are_answered() {
+    let mut numbers = BTreeMap::new();
+    for (index, named) in file_cases(1, 2000).iter().enumerate() {
+        let result = read(&named.case);
+        let number = result.as_ref().map_or_else(|refusal| refusal.number, |_| 0);
+        *numbers.entry(number).or_insert(0) += 1;
+        if let Some(planted) = &named.planted {
+            let expected = planted.first().copied().unwrap_or(0);
+            assert_eq!(number, expected, "file {} {}", index + 1, named.name);
+        }
+        match result {
+            Ok(recording) => assert_eq!(written_back(&recording), named.case),
+            Err(refusal) if refusal.number == 1 => {
+                assert_eq!(refusal.place as usize, named.case.len());
+            }
+            Err(refusal) => assert!((refusal.place as usize) < named.case.len()),
+        }
+    }
+    for number in 0..=7 {
+        let times = numbers.get(&number).copied().unwrap_or(0);
+        assert!(times >= 10, "number {number}: {times}");
+    }
+}
+
+#[test]
+fn largest_recordings_stand_in_long_streams_alone() {
+    let sizes = |count| -> Vec<usize> {
+        let files = file_cases(1, count);
+        let sizes = files.iter().map(|named| named.case.len());
+        sizes.filter(|size| *size > 40_000).collect()
+    };
+    assert_eq!(sizes(2000), [49_258, 49_259, 49_262]);
+    assert_eq!(sizes(1999), []);
+}
+
+#[test]
+fn planted_writings_are_answered() {
+    let mut openings = BTreeSet::new();
+    let mut rows = BTreeSet::new();
+    for (index, named) in writing_cases(1, 1000).iter().enumerate() {
+        let answer = answer_writing(&named.case);
+        let parts: Vec<&str> = answer.trim_end_matches('\n').split(' ').collect();
+        assert_eq!(parts.len(), 4);
+        let number = |part: &str| u8::from_str_radix(&part[..2], 16).expect("a number");
+        let numbers = [number(parts[0]), number(parts[2])];
+        openings.insert(numbers[0]);
+        rows.insert(numbers[1]);
+        if let Some(planted) = &named.planted {
+            assert_eq!(
+                numbers[..],
+                planted[..],
+                "case {} {}",
+                index + 1,
+                named.name
+            );
+        }
+    }
+    assert_eq!(openings, BTreeSet::from([0, 2, 3, 4, 10]));
+    assert_eq!(rows, BTreeSet::from([0, 2, 3, 4, 5, 6, 10]));
+}
+
+#[test]
+fn named_cases_leave_room_for_random_ones() {
+    for (kind, count) in [(Kind::Scan, 3000), (Kind::Held, 2000)] {
+        let cases = run_cases(kind, 1, count);
+        let random = cases.iter().filter(|named| named.planted.is_none()).count();
+        assert_eq!(cases.len(), count);
+        assert!(random >= 300, "{kind:?}: {random} random cases");
+    }
+}
