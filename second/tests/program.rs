@@ -1,0 +1,206 @@
+//! The program itself: its lines byte for byte, and what it does with bad input. Every
+//! expected line is worked out by hand.
+
+use second::make_files::{bytes_of_hex, SESSION};
+use std::fs::{File, OpenOptions};
+use std::io::Write;
+use std::process::{Command, Output, Stdio};
+
+fn program(words: &[&str]) -> Command {
+    let mut command = Command::new(env!("CARGO_BIN_EXE_second"));
+    command
+        .args(words)
+        .stdin(Stdio::null())
+        .stdout(Stdio::piped())
+        .stderr(Stdio::piped());
+    command
+}
+
+fn run(words: &[&str], input: &[u8]) -> Output {
+    let mut child = program(words)
+        .stdin(Stdio::piped())
+        .spawn()
+        .expect("the program starts");
+    let mut pipe = child.stdin.take().expect("a pipe");
+    pipe.write_all(input).expect("the program reads its input");
+    drop(pipe);
+    child.wait_with_output().expect("the program ends")
+}
+
+fn answer(kind: &str, cases: &str) -> String {
+    let output = run(&["answer", kind], &bytes_of_hex(cases));
+    assert_eq!(output.status.code(), Some(0));
+    assert!(output.stderr.is_empty());
+    String::from_utf8(output.stdout).expect("text")
+}
+
+/// The digits alone; a `|` stands for a space.
+fn line(text: &str) -> String {
+    let digits: String = text.split_whitespace().collect();
+    digits.replace('|', " ") + "\n"
+}
+
+fn zeros(bytes: usize) -> String {
+    "00".repeat(bytes)
+}
+
+/// The buffer's bytes from `first` up to `room`, before the call.
+fn pattern(first: usize, room: usize) -> String {
+    (first..room)
+        .map(|index| format!("{:02x}", (index * 7 + 3) % 256))
+        .collect()
+}
+
+/// One cause, one effect without a delay, period 100; Normal after 5 scans; next sequence
+/// number 65,535.
+fn settings_and_state() -> String {
+    let settings = format!("01 00 0064 01 0001 00000000 {}", zeros(15 * 6));
+    let state = format!("00000005 ffff 04 00000000 0000 {}", zeros(15 * 7));
+    settings + &state
+}
+
+#[test]
+fn scan_line() {
+    let case = format!("{} {} 000e", settings_and_state(), zeros(20));
+    let expected = format!(
+        "00 00000000 00000006 0000 00 00000000 0001 {} 0000 0000 0001 |
+         ffff 00000006 01 04 00 00 0001 {}",
+        zeros(15 * 7),
+        pattern(12, 14)
+    );
+    assert_eq!(answer("scan", &case), line(&expected));
+}
+
+#[test]
+fn scan_line_of_a_refusal() {
+    let case = format!("{} {} 000b", settings_and_state(), zeros(20));
+    let expected = format!(
+        "0a 00000000 00000005 ffff 04 00000000 0000 {} 0000 0000 0000 | {}",
+        zeros(15 * 7),
+        pattern(0, 11)
+    );
+    assert_eq!(answer("scan", &case), line(&expected));
+}
+
+#[test]
+fn held_line() {
+    let case = format!("{} 00000003 {} 000c", settings_and_state(), zeros(20));
+    let expected = format!(
+        "00 00000000 00000008 0000 00 00000000 0001 {} 0000 0000 0001 00000001 00000003 |
+         ffff 00000006 01 04 00 00 0001",
+        zeros(15 * 7)
+    );
+    assert_eq!(answer("held", &case), line(&expected));
+}
+
+fn session_settings() -> String {
+    let slots = zeros(14 * 6);
+    format!("02 00 0064 02 0001 00000000 0003 000000fa {slots}")
+}
+
+#[test]
+fn recording_lines() {
+    let cases = format!("00000046 {SESSION} 00000000");
+    let heading = format!("00 00000000 {} 0002 00000016 00000018", session_settings());
+    let words = "0000 0000 0000 0003 0003 0000 0000 0000 0000";
+    let refused = format!("01 00000000 {}", zeros(101 + 10));
+    let expected = line(&heading)
+        + &line(&format!("00000016 00000003 0003 {words}"))
+        + &line(&format!("0000002e 00000005 0002 {words}"))
+        + &line(SESSION).to_lowercase()
+        + &line(&refused);
+    assert_eq!(answer("recording", &cases), expected);
+}
+
+#[test]
+fn writing_line() {
+    let words = "0003 0000 0000 0000 0003 0003 0000 0000 0000 0000";
+    let case = format!("{} 0002 00000003 {words} 0017", session_settings());
+    let expected = format!(
+        "00 00000000 0016 |
+         0001 0200 0064 0002 0001 00000000 0003 000000fa 0002 {} |
+         0a 00000000 0000 | {}",
+        pattern(22, 23),
+        pattern(0, 23)
+    );
+    assert_eq!(answer("writing", &case), line(&expected));
+}
+
+/// Exit status 2 and a message.
+fn fails(output: &Output) {
+    assert_eq!(output.status.code(), Some(2));
+    assert!(!output.stderr.is_empty());
+}
+
+#[test]
+fn bad_usage_fails() {
+    for words in [
+        &[][..],
+        &["answer"],
+        &["answer", "scans"],
+        &["answer", "scan", "1"],
+        &["make", "scan", "1"],
+        &["make", "scan", "one", "1"],
+        &["make", "scan", "1", "-1"],
+        &["show"],
+        &["help", "scan"],
+    ] {
+        let output = program(words).output().expect("the program ends");
+        fails(&output);
+        assert!(output.stdout.is_empty());
+    }
+}
+
+#[test]
+fn truncated_streams_fail() {
+    for kind in ["scan", "held", "recording", "writing"] {
+        let made = run(&["make", kind, "1", "3"], &[]).stdout;
+        assert_eq!(run(&["answer", kind], &made).status.code(), Some(0));
+        let cut = &made[..made.len() - 1];
+        fails(&run(&["answer", kind], cut));
+        fails(&run(&["show", kind], cut));
+        fails(&run(&["answer", kind], &made[..3]));
+    }
+}
+
+#[test]
+fn streams_outside_the_format_fail() {
+    let room = format!("{} {} 0191", settings_and_state(), zeros(20));
+    fails(&run(&["answer", "scan"], &bytes_of_hex(&room)));
+    let state_code = format!(
+        "{} {} 06 {}",
+        zeros(101),
+        zeros(6),
+        zeros(241 - 101 - 6 - 1)
+    );
+    fails(&run(&["answer", "scan"], &bytes_of_hex(&state_code)));
+    let mut file = 49_263_u32.to_be_bytes().to_vec();
+    file.resize(4 + 49_263, 0);
+    fails(&run(&["answer", "recording"], &file));
+}
+
+#[test]
+fn failing_input_and_output_are_not_taken_for_data() {
+    let folder = File::open(env!("CARGO_MANIFEST_DIR")).expect("a folder");
+    let output = program(&["answer", "scan"]).stdin(folder).output();
+    fails(&output.expect("the program ends"));
+    let full = OpenOptions::new().write(true).open("/dev/full");
+    let full = full.expect("the full device");
+    let output = program(&["make", "scan", "1", "1"]).stdout(full).output();
+    fails(&output.expect("the program ends"));
+}
+
+#[test]
+fn seeds_repeat_and_differ() {
+    for (kind, count) in [
+        ("scan", "3000"),
+        ("held", "2000"),
+        ("recording", "1000"),
+        ("writing", "600"),
+    ] {
+        let made = |seed| run(&["make", kind, seed, count], &[]).stdout;
+        let one = made("1");
+        assert_eq!(one, made("1"));
+        assert_ne!(one, made("2"));
+    }
+}
