@@ -24,7 +24,7 @@ impl Random {
         Random { state: seed }
     }
 
-    pub fn next(&mut self) -> u64 {
+    pub fn number(&mut self) -> u64 {
         self.state = self.state.wrapping_add(0x9e37_79b9_7f4a_7c15);
         let mut mixed = self.state;
         mixed = (mixed ^ mixed >> 30).wrapping_mul(0xbf58_476d_1ce4_e5b9);
@@ -35,7 +35,7 @@ impl Random {
     /// A number in `low..=high`.
     pub fn between(&mut self, low: u32, high: u32) -> u32 {
         let width = u64::from(high) - u64::from(low) + 1;
-        (u64::from(low) + self.next() % width) as u32
+        (u64::from(low) + self.number() % width) as u32
     }
 
     /// True once in `times`.
@@ -48,7 +48,7 @@ impl Random {
     }
 
     pub fn word(&mut self) -> u16 {
-        self.next() as u16
+        self.number() as u16
     }
 
     /// A word with about one bit in four.

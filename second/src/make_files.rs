@@ -473,7 +473,8 @@ pub fn file_cases(seed: u64, count: usize) -> Files {
 
 // ---- Writing ----
 
-/// What one writing case must give for its opening and for its row; 0 is accepted.
+/// Writing cases. What is planted is the number for the opening, then the number for the
+/// row; 0 is accepted.
 pub type Pieces = Vec<Named<WritingCase>>;
 
 /// The length of the opening piece.
@@ -491,7 +492,6 @@ fn plain_writing(causes: u8, effects: u8) -> WritingCase {
     }
 }
 
-/// `planted` is what the opening gives, then what the row gives.
 fn add_writing(pieces: &mut Pieces, name: &str, planted: [u8; 2], case: WritingCase) {
     pieces.push(Named {
         name: name.to_string(),
@@ -613,8 +613,8 @@ fn plant_in_writing(number: u8, row: bool, case: &mut WritingCase) {
     }
 }
 
-/// Each pair of refusals at once; every one can be made. 6 needs two force bits, so with 2
-/// to 4 and 10 it is given one more, in `plant_in_writing`, than the row already has.
+/// Each refusal alone and each pair at once; every pair can be made. A row meant for 6
+/// starts with one force bit, to which the planting adds another.
 fn writing_pairs(pieces: &mut Pieces) {
     let opening_order = [2, 3, 4, 10];
     for (position, first) in opening_order.iter().enumerate() {
@@ -670,7 +670,7 @@ fn random_writing(random: &mut Random) -> WritingCase {
     case
 }
 
-/// The named writing cases; `planted` holds the opening's and the row's number.
+/// The named writing cases.
 pub fn named_writings() -> Pieces {
     let mut pieces = Vec::new();
     writing_rooms(&mut pieces);

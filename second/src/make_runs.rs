@@ -854,7 +854,14 @@ fn whole_delays(list: &mut List) {
 
 /// A few runs of up to the longest hold.
 fn long_runs(list: &mut List) {
-    for (period, hold) in [(4, 900_000), (4, 900_001), (4, 1_000_000), (3, 1_000_000)] {
+    for (period, hold) in [
+        (1, 1_000_000),
+        (3, 1_000_000),
+        (4, 900_000),
+        (4, 900_001),
+        (4, 1_000_000),
+        (1_000, 1_000_000),
+    ] {
         let mut case = all_in(Phase::Normal, 1, 2);
         case.settings.period = period;
         case.settings.slots[0].delay = MAX_DELAY;
@@ -1078,7 +1085,7 @@ fn wild(random: &mut Random) -> u32 {
         0 => near,
         1 => near + 1,
         2 => 1 << random.between(0, 31),
-        _ => random.next() as u32,
+        _ => random.number() as u32,
     }
 }
 

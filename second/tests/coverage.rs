@@ -8,14 +8,17 @@ use second::make_files::{file_cases, writing_cases};
 use second::make_runs::{run_cases, ORDER};
 use second::recording::read;
 use std::collections::{BTreeMap, BTreeSet};
+use std::sync::OnceLock;
 use Phase::*;
 
-fn scans() -> Vec<Named<RunCase>> {
-    run_cases(Kind::Scan, 1, 3000)
+fn scans() -> &'static [Named<RunCase>] {
+    static CASES: OnceLock<Vec<Named<RunCase>>> = OnceLock::new();
+    CASES.get_or_init(|| run_cases(Kind::Scan, 1, 3000))
 }
 
-fn helds() -> Vec<Named<RunCase>> {
-    run_cases(Kind::Held, 1, 2000)
+fn helds() -> &'static [Named<RunCase>] {
+    static CASES: OnceLock<Vec<Named<RunCase>>> = OnceLock::new();
+    CASES.get_or_init(|| run_cases(Kind::Held, 1, 2000))
 }
 
 /// The first of the planted refusals in the order of document 01, or 0.
@@ -58,7 +61,7 @@ fn scans_reach_every_rule_and_every_pair_of_states() {
     let mut pairs = BTreeMap::new();
     let cases = scans();
     let mut accepted = 0;
-    for Named { case, .. } in &cases {
+    for Named { case, .. } in cases {
         let (answer, _) = call_run(Kind::Scan, case);
         if answer.number != 0 {
             continue;
@@ -102,12 +105,12 @@ fn planted_cases_are_answered(kind: Kind, cases: &[Named<RunCase>]) {
 
 #[test]
 fn planted_scans_are_answered() {
-    planted_cases_are_answered(Kind::Scan, &scans());
+    planted_cases_are_answered(Kind::Scan, scans());
 }
 
 #[test]
 fn planted_held_runs_are_answered() {
-    planted_cases_are_answered(Kind::Held, &helds());
+    planted_cases_are_answered(Kind::Held, helds());
 }
 
 /// Document 01's refusals seen one by one, whatever comes before them. The records due are
@@ -163,18 +166,18 @@ fn fault_pairs_occur(kind: Kind, cases: &[Named<RunCase>]) {
 
 #[test]
 fn every_pair_of_faults_occurs_in_scans() {
-    fault_pairs_occur(Kind::Scan, &scans());
+    fault_pairs_occur(Kind::Scan, scans());
 }
 
 #[test]
 fn every_pair_of_faults_occurs_in_held_runs() {
-    fault_pairs_occur(Kind::Held, &helds());
+    fault_pairs_occur(Kind::Held, helds());
 }
 
 #[test]
 fn scans_reach_latents_wraps_and_rooms() {
     let (mut latent, mut wraps, mut all_change, mut exact, mut spare) = (0, 0, 0, 0, 0);
-    for Named { case, .. } in &scans() {
+    for Named { case, .. } in scans() {
         let (answer, _) = call_run(Kind::Scan, case);
         if answer.number != 0 {
             continue;
@@ -201,7 +204,7 @@ fn scans_reach_latents_wraps_and_rooms() {
 fn held_runs_reach_live_scans_and_the_ends_of_timers() {
     let mut live = BTreeMap::new();
     let (mut ended, mut running, mut went_on, mut half) = (0, 0, 0, 0);
-    for Named { case, .. } in &helds() {
+    for Named { case, .. } in helds() {
         let (answer, _) = call_run(Kind::Held, case);
         if answer.number != 0 {
             continue;
@@ -229,7 +232,7 @@ fn held_runs_reach_live_scans_and_the_ends_of_timers() {
 #[test]
 fn held_runs_have_the_corner_of_the_scan_numbers() {
     let mut seen = BTreeSet::new();
-    for Named { case, .. } in &helds() {
+    for Named { case, .. } in helds() {
         if case.state.scans_done == 999_999_999 {
             let (answer, _) = call_run(Kind::Held, case);
             seen.insert((case.row.hold, answer.number));
@@ -304,10 +307,9 @@ fn planted_writings_are_answered() {
 
 #[test]
 fn named_cases_leave_room_for_random_ones() {
-    for (kind, count) in [(Kind::Scan, 3000), (Kind::Held, 2000)] {
-        let cases = run_cases(kind, 1, count);
+    for (cases, count) in [(scans(), 3000), (helds(), 2000)] {
         let random = cases.iter().filter(|named| named.planted.is_none()).count();
         assert_eq!(cases.len(), count);
-        assert!(random >= 300, "{kind:?}: {random} random cases");
+        assert!(random >= 300, "{random} random cases of {count}");
     }
 }
