@@ -1,16 +1,29 @@
 -- Laws of lists that are made or tested by their index.
 use mathlib.Core.Path.{_≡_, refl, ap, ap₂, sym, _∙_}
-use mathlib.Core.Bool.{Bool, true, false, not, _&&_}
+use mathlib.Core.Bool.{Bool, true, false, not, _&&_, false≢true}
 use mathlib.Core.List.{List, [], _∷_, _++_, append-assoc, append-nil}
 use mathlib.Core.Logic.{⊎-elim}
-use Prim.Native.Nat.{ℕ, zero, suc, _+_, _-_, _<_, _≤_}
-use native.Mathlib.Nat.{eq-or-lt-of-le, le-of-suc-le-suc, not-suc-le-zero}
+use Prim.Native.Nat.{ℕ, zero, suc, _+_, _-_, _<_, _≤_, suc-le-suc}
+use native.Mathlib.Nat.{add-zero, eq-or-lt-of-le, le-of-suc-le-suc, not-suc-le-zero}
 use native.Mathlib.Numerals.{add-one}
 use native.Mathlib.Omega.{arith}
 use borrow.Author.Tests.{not-true, not-false}
 use lib.ListN.{length, take, drop, set, getD, length-append, drop-of-length-le, List·getD-append}
 use lib.Seq.{set-at, drop-cons, getD-at, take-at, take-suc, length-take-le}
 use Rattle.bits.specs.Lists.{tabulate, allFrom}
+
+-- ## Both tests
+
+pub and-left : (a b : Bool) → (a && b) ≡ true → a ≡ true
+and-left true b e = refl
+and-left false b e = e
+
+pub and-right : (a b : Bool) → (a && b) ≡ true → b ≡ true
+and-right true b e = e
+and-right false b e = absurd (false≢true e)
+
+pub both : (a b : Bool) → a ≡ true → b ≡ true → (a && b) ≡ true
+both a b e f = rw (e, f)
 
 module _ {A : Type 0} where
   -- ## Made by index
@@ -72,3 +85,18 @@ module _ {A : Type 0} where
 
   pub all-ends : (t : ℕ → A → Bool) (i : ℕ) (xs : List A) → length xs ≤ i → allFrom t i (drop i xs) ≡ allFrom t 0 xs → true ≡ allFrom t 0 xs
   all-ends t i xs h inv = rw (← inv, drop-of-length-le xs h)
+
+  -- a list that passes, element by element
+  pub all-at : (t : ℕ → A → Bool) (i : ℕ) (xs : List A) (d : A) → allFrom t i xs ≡ true → (j : ℕ) → j < length xs → t (i + j) (getD xs j d) ≡ true
+  all-at t i [] d e j h = absurd (not-suc-le-zero h)
+  all-at t i (x ∷ xs) d e zero h = rw add-zero (and-left (t i x) _ e)
+  all-at t i (x ∷ xs) d e (suc j) h =
+      let n : i + suc j ≡ i + 1 + j = omega arith in
+      rw n (all-at t (i + 1) xs d (and-right (t i x) _ e) j (le-of-suc-le-suc h))
+
+  -- a list whose elements all pass
+  pub all-pass : (t : ℕ → A → Bool) (i : ℕ) (xs : List A) (d : A) → ((j : ℕ) → j < length xs → t (i + j) (getD xs j d) ≡ true) → allFrom t i xs ≡ true
+  all-pass t i [] d h = refl
+  all-pass t i (x ∷ xs) d h =
+      both (t i x) _ (rw add-zero at (h 0 (omega arith)))
+      (all-pass t (i + 1) xs d (λ j k. let n : i + suc j ≡ i + 1 + j = omega arith in rw n at (h (suc j) (suc-le-suc k))))

@@ -2,11 +2,11 @@
 use mathlib.Core.Path.{_≡_, refl, ap, sym, _∙_}
 use mathlib.Core.Bool.{Bool, true, false}
 use mathlib.Core.List.{List, [], _∷_, _++_, append-assoc}
-use Prim.Native.Nat.{ℕ, zero, suc, _+_, _*_}
-use native.Mathlib.Nat.{add-zero}
+use Prim.Native.Nat.{ℕ, zero, suc, _+_, _*_, _≤_}
+use native.Mathlib.Nat.{add-zero, zero-add}
 use native.Mathlib.Omega.{arith}
-use lib.ListN.{length, length-append}
-use lib.Seq.{sets}
+use lib.ListN.{length, take, drop, length-append}
+use lib.Seq.{sets, sets-eq, take-at}
 use Rattle.bits.specs.Words.{one}
 use Rattle.bits.proofs.Numbers.{sets-append}
 use Rattle.effects.specs.declared.Event.{Event}
@@ -35,3 +35,8 @@ pub put-turn : (l : List ℕ) (at : ℕ) (m : Bool) (e : Event) (rest : List Eve
 unfolding encode
 put-turn l at true e rest = sets-append l at (encode e) (bytes rest)
 put-turn l at false e rest = rw add-zero
+
+-- the front of a buffer to which records were written is those records
+pub front-bytes : (es : List Event) (l : List ℕ) → 12 * length es ≤ length l → take (12 * length es) (sets l 0 (bytes es)) ≡ bytes es
+front-bytes es l h =
+    rw (sets-eq (bytes es) l 0 (omega (arith, length-bytes es))) (take-at (bytes es) (drop (0 + length (bytes es)) l) (12 * length es) (length-bytes es))

@@ -1,0 +1,10 @@
+-- `block::slot_unused` meets its contract.
+use borrow.Author.Needs.{needs}
+use Rattle.block.proofs.slot_unused.Statement.{statement}
+use Rattle.block.proofs.slot_unused.Tie as tie
+
+returns : tie.Need-returns
+returns c = rw (c .before .before .same .ensures)
+
+pub slot-unused-spec : {M : Type 1} → statement M
+slot-unused-spec = tie.close (tie.spec (λ c κs. search needs) returns)

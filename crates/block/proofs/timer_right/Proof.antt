@@ -1,0 +1,13 @@
+-- `block::timer_right` meets its contract.
+use borrow.Author.Needs.{needs}
+use Rattle.block.proofs.timer_right.Statement.{statement}
+use Rattle.block.proofs.timer_right.Tie as tie
+
+returns : tie.Need-returns
+returns c = rw (← c .before .before .before .same .ensures, c .before .before .if1 .taken)
+
+returns-2 : tie.Need-returns-2
+returns-2 c = rw (← c .before .before .same .ensures, c .before .if1 .left)
+
+pub timer-right-spec : {M : Type 1} → statement M
+timer-right-spec = tie.close (tie.spec (λ c κs. search needs) returns returns-2)

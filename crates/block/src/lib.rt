@@ -1,0 +1,242 @@
+// The block: its state, what is right of it, and one scan of it. Document 01, "Settings, row, state", "The rules of one
+// scan" and "Refusal numbers".
+ghost use mathlib.Core.Path.{_≡_};
+ghost use Prim.Native.Nat.{_<_};
+ghost use lib.ListN.{length};
+ghost use Rattle.bits.specs.Lists.{allFrom};
+ghost use Rattle.settings.specs.Limits.{mostScans};
+ghost use Rattle.block.specs.State.{timerRight, firstRight, slotRight, slotUnused, slotOk, stateNumber, fresh as freshState};
+ghost use Rattle.block.specs.Scan.{scansNumber, inputNumber, refusedScan, scanOf, scanInto};
+ghost use Rattle.block.specs.Run.{startOf, reachedBy};
+use effects::Progress;
+use rules::EffectState;
+use rules::Slot;
+use settings::Effect;
+use settings::Row;
+use settings::Settings;
+use settings::Words;
+
+// The state of the block: scans done, the next sequence number, and sixteen slots, one for each effect.
+pub struct State {
+    pub done: u32,
+    pub next: u16,
+    pub slots: [Slot; 16],
+}
+
+// What a scan answers: a refusal's number (0 for none) and place, the state after it or the given one, the effect and
+// the latent word, and the number of records.
+pub struct Scanned {
+    pub number: u8,
+    pub place: usize,
+    pub state: State,
+    pub effect: u16,
+    pub latent: u16,
+    pub records: usize,
+}
+
+// ---- what is right of a state: 8
+
+fn timer_right(delay: u32, x: Slot) -> bool
+    ensures { λ r. ⌜ r ≡ timerRight delay x ⌝ }
+{
+    let p = x.state;
+    if rules::same(p, EffectState::Delayed) {
+        (1 <= x.timer) & (x.timer <= delay)
+    } else {
+        x.timer == 0
+    }
+}
+
+fn first_right(association: u16, x: Slot) -> bool
+    ensures { λ r. ⌜ r ≡ firstRight association x ⌝ }
+{
+    let p = x.state;
+    if rules::same(p, EffectState::Normal) {
+        x.first == 0
+    } else {
+        x.first & association == x.first
+    }
+}
+
+// What is kept of an effect is right.
+fn slot_right(e: Effect, x: Slot) -> bool
+    ensures { λ r. ⌜ r ≡ slotRight e x ⌝ }
+{
+    timer_right(e.delay, x) & first_right(e.association, x)
+}
+
+// What is kept of no effect.
+fn slot_unused(x: Slot) -> bool
+    ensures { λ r. ⌜ r ≡ slotUnused x ⌝ }
+{
+    let p = x.state;
+    rules::same(p, EffectState::Tripped) & (x.timer == 0) & (x.first == 0)
+}
+
+// Slot i is right, or unused past the count.
+fn slot_ok(st: Settings, i: usize, x: Slot) -> bool
+    requires { ⌜ i < 16 ⌝ }
+    ensures { λ r. ⌜ r ≡ slotOk st i x ⌝ }
+{
+    if i < (st.count as usize) {
+        let e = st.effects[i];
+        slot_right(e, x)
+    } else {
+        slot_unused(x)
+    }
+}
+
+fn slots_ok(st: Settings, slots: [Slot; 16]) -> bool
+    ensures { λ r. ⌜ r ≡ allFrom (slotOk st) 0 slots ⌝ }
+{
+    let mut i = 0;
+    while i < 16 {
+        let x = slots[i];
+        if !slot_ok(st, i, x) {
+            return false;
+        }
+        i += 1;
+    }
+    true
+}
+
+// 0 for a state that is right, else 8.
+fn state_number(st: Settings, x: State) -> u8
+    ensures { λ r. ⌜ r ≡ stateNumber st x ⌝ }
+{
+    let slots = x.slots;
+    if (x.done <= State::MOST_SCANS) & slots_ok(st, slots) {
+        0
+    } else {
+        8
+    }
+}
+
+// ---- what is right of a scan or a held run: 2, 3, 8, 4, 5, 6, 9
+
+// 0 where the scans of a hold end at or before the last that is counted, else 9.
+fn scans_number(done: u32, hold: u32) -> u8
+    ensures { λ r. ⌜ r ≡ scansNumber done hold ⌝ }
+{
+    if (done as u64) + (hold as u64) <= State::MOST_SCANS as u64 {
+        0
+    } else {
+        9
+    }
+}
+
+// 0 where settings, state and row are right and the scans can be counted, or the number that refuses them.
+fn input_number(st: Settings, x: State, row: Row) -> u8
+    ensures { λ r. ⌜ r ≡ inputNumber st x row ⌝ }
+{
+    let settings = settings::settings_number(st);
+    if settings != 0 {
+        return settings;
+    }
+    let state = state_number(st, x);
+    if state != 0 {
+        return state;
+    }
+    let words = settings::row_number(settings::limits_of(st), row);
+    if words != 0 {
+        return words;
+    }
+    scans_number(x.done, row.hold)
+}
+
+// ---- one scan
+
+fn refused_scan(number: u8, x: State) -> Scanned
+    ensures { λ r. ⌜ r ≡ refusedScan x number ⌝ }
+{
+    Scanned {
+        number: number,
+        place: 0,
+        state: x,
+        effect: 0,
+        latent: 0,
+        records: 0,
+    }
+}
+
+// A run that starts at a state, and the state that it has come to.
+fn start(x: State) -> Progress
+    ensures { λ r. ⌜ r ≡ startOf x ⌝ }
+{
+    let slots = x.slots;
+    Progress {
+        done: x.done,
+        next: x.next,
+        slots: slots,
+        at: 0,
+        live: 0,
+    }
+}
+
+fn reached(p: Progress) -> State
+    ensures { λ r. ⌜ r ≡ reachedBy p ⌝ }
+{
+    let slots = p.slots;
+    State {
+        done: p.done,
+        next: p.next,
+        slots: slots,
+    }
+}
+
+impl State {
+    pub const MOST_SCANS: u32 = 1000000000;
+
+    // The constant is the definition's.
+    pub fn most_scans() -> u32
+        ensures { λ r. ⌜ r ≡ mostScans ⌝ }
+    {
+        State::MOST_SCANS
+    }
+
+    // Every effect Tripped, all numbers 0.
+    pub fn fresh() -> Self
+        ensures { λ r. ⌜ r ≡ freshState ⌝ }
+    {
+        let x = Slot {
+            state: EffectState::Tripped,
+            timer: 0,
+            first: 0,
+        };
+        Self {
+            done: 0,
+            next: 0,
+            slots: [x; 16],
+        }
+    }
+
+    // One scan: its records go to the front of `out`. They are laid out apart first, since a scan that is refused for
+    // want of room touches no byte of `out`.
+    pub fn scan(self, st: Settings, w: Words, out: &mut [u8]) -> Scanned
+        ensures { λ r. ⌜ r ≡ scanOf st w self (length (now (out .entry))) ⌝ }
+        ensures { λ _. ⌜ now (out .exit) ≡ scanInto st w self (now (out .entry)) ⌝ }
+    {
+        let number = input_number(st, self, Row { hold: 1, words: w });
+        if number != 0 {
+            return refused_scan(number, self);
+        }
+        let count = st.count as usize;
+        let ss = settings::all_signals(st, w);
+        let mut space = [0u8; 192];
+        let p = effects::scan(&mut space, count, ss, start(self));
+        let at = p.at;
+        if out.len() < at {
+            return refused_scan(10, self);
+        }
+        bits::copy_front(&space, at, out);
+        let after = p.slots;
+        Scanned {
+            number: 0,
+            place: 0,
+            state: reached(p),
+            effect: effects::effect_word(count, after),
+            latent: effects::latent_word(count, ss),
+            records: at / 12,
+        }
+    }
+}
