@@ -1,0 +1,270 @@
+-- The laws of one effect.
+use mathlib.Core.Path.{_≡_, refl, ap, sym, _∙_, subst}
+use mathlib.Core.Bool.{Bool, true, false, cond, not, _&&_}
+use mathlib.Core.Logic.{⊎-elim, _⊎_, inl, inr}
+use Prim.Native.Nat.{ℕ, zero, suc, _+_, _-_, _*_, _/_, min, _≤_, _<_}
+use native.Mathlib.Omega.{arith}
+use native.Mathlib.Nat.{le-div-iff-mul-le, div-lt-iff-lt-mul}
+use lib.Dec.{leb, ltb, eqb, T, leb→le}
+use borrow.Author.Tests.{eqb-true, eq-eqb, lt-leb, le-leb, leb-false, leb-true}
+use Rattle.bits.specs.Words.{one}
+use Rattle.rules.specs.declared.EffectState.{EffectState}
+use Rattle.rules.specs.declared.EffectState.the-variants.{Tripped, WaitReset, Ready, WaitStart, Normal, Delayed}
+use Rattle.rules.specs.declared.Slot.{Slot}
+use Rattle.rules.specs.declared.Signals.{Signals}
+use Rattle.rules.specs.declared.Asks.{Asks}
+use Rattle.rules.specs.Rules.{code, same, rule, asks, after, enter, next, moved}
+use Rattle.rounds.specs.Steps.{clear, moves}
+use Rattle.rounds.specs.Stroke.{quiet, advance}
+
+-- ## What holds of every answer to what the rules ask: computed at all of them
+
+all : (Bool → Bool) → Bool
+all f = f true && f false
+
+all-at : (f : Bool → Bool) → T (all f) → (b : Bool) → T (f b)
+unfolding all
+all-at f t b = go (f true) (f false) refl refl t b
+  where
+    go : (x y : Bool) → f true ≡ x → f false ≡ y → T (x && y) → (b : Bool) → T (f b)
+    go true true e₁ e₂ t true = subst T (sym e₁) tt
+    go true true e₁ e₂ t false = subst T (sym e₂) tt
+    go true false e₁ e₂ t b = absurd t
+    go false y e₁ e₂ t b = absurd t
+
+allStates : (EffectState → Bool) → Bool
+allStates f = f Tripped && (f WaitReset && (f Ready && (f WaitStart && (f Normal && f Delayed))))
+
+and-l : (a b : Bool) → T (a && b) → T a
+and-l true b t = tt
+and-l false b t = t
+
+and-r : (a b : Bool) → T (a && b) → T b
+and-r true b t = t
+and-r false b t = absurd t
+
+every : (Asks → Bool → EffectState → Bool) → Bool
+every f =
+    all λ ft. all λ fn. all λ bt. all λ ac. all λ rr. all λ rp. all λ sp. all λ rs. all λ de. all λ due.
+    allStates λ p. f (record { trip = ft; normal = fn; bad = bt; active = ac; require = rr; permit = rp; start = sp; reset = rs; delayed = de }) due p
+
+abbrev unreset : Asks → Asks
+unreset a =
+    record { trip = a .trip; normal = a .normal; bad = a .bad; active = a .active; require = a .require; permit = a .permit; start = a .start; reset = false; delayed = a .delayed }
+
+abbrev goes : Asks → EffectState → EffectState
+goes a p = rule (unreset a) true p
+
+states-at : (f : EffectState → Bool) → T (allStates f) → (p : EffectState) → T (f p)
+unfolding allStates
+states-at f t Tripped = and-l (f Tripped) _ t
+states-at f t WaitReset = and-l (f WaitReset) _ (and-r (f Tripped) _ t)
+states-at f t Ready = and-l (f Ready) _ (and-r (f WaitReset) _ (and-r (f Tripped) _ t))
+states-at f t WaitStart = and-l (f WaitStart) _ (and-r (f Ready) _ (and-r (f WaitReset) _ (and-r (f Tripped) _ t)))
+states-at f t Normal = and-l (f Normal) _ (and-r (f WaitStart) _ (and-r (f Ready) _ (and-r (f WaitReset) _ (and-r (f Tripped) _ t))))
+states-at f t Delayed = and-r (f Normal) _ (and-r (f WaitStart) _ (and-r (f Ready) _ (and-r (f WaitReset) _ (and-r (f Tripped) _ t))))
+
+every-at : (f : Asks → Bool → EffectState → Bool) → T (every f) → (a : Asks) (d : Bool) (p : EffectState) → T (f a d p)
+unfolding every
+every-at f t a d p =
+    states-at _ (all-at _ (all-at _ (all-at _ (all-at _ (all-at _ (all-at _ (all-at _ (all-at _ (all-at _ (all-at _ t (a .trip)) (a .normal)) (a .bad)) (a .active)) (a .require)) (a .permit)) (a .start)) (a .reset)) (a .delayed)) d) p
+
+-- ## States are told apart by their codes
+
+named : ℕ → EffectState
+named zero = Tripped
+named (suc zero) = WaitReset
+named (suc (suc zero)) = Ready
+named (suc (suc (suc zero))) = WaitStart
+named (suc (suc (suc (suc zero)))) = Normal
+named (suc (suc (suc (suc (suc n))))) = Delayed
+
+named-code : (p : EffectState) → named (code p) ≡ p
+unfolding named
+named-code Tripped = refl
+named-code WaitReset = refl
+named-code Ready = refl
+named-code WaitStart = refl
+named-code Normal = refl
+named-code Delayed = refl
+
+pub same-eq : (p q : EffectState) → same p q ≡ true → p ≡ q
+same-eq p q e = sym (named-code p) ∙ ap named (eqb-true (code p) (code q) e) ∙ named-code q
+
+pub same-refl : (p : EffectState) → same p p ≡ true
+same-refl p = eq-eqb (code p) (code p) refl
+
+-- ## A slot that a step has left
+
+-- the timer is 0 but in Delayed, and first-out is 0 in Normal
+abbrev pub Settled : Slot → Type 0
+Settled x = (cond (same (x .state) Delayed) 0 (x .timer) ≡ 0) × (cond (same (x .state) Normal) (x .first) 0 ≡ 0)
+
+settled-enter : (s : Signals) (x : Slot) (q : EffectState) → Settled (enter s x q)
+settled-enter s x Tripped = (refl, refl)
+settled-enter s x WaitReset = (refl, refl)
+settled-enter s x Ready = (refl, refl)
+settled-enter s x WaitStart = (refl, refl)
+settled-enter s x Normal = (refl, refl)
+settled-enter s x Delayed = (refl, refl)
+
+pub settled-next : (s : Signals) (x : Slot) → Settled (next s x)
+settled-next s x = settled-enter s x (after s x)
+
+abbrev slot : EffectState → ℕ → ℕ → Slot
+slot p t f = record { state = p; timer = t; first = f }
+
+slot-path : (p : EffectState) {t t′ f f′ : ℕ} → t ≡ t′ → f ≡ f′ → slot p t f ≡ slot p t′ f′
+slot-path p e h = λ i. slot p (e i) (h i)
+
+rests : (k : ℕ) (s : Signals) (p : EffectState) (t f : ℕ) → Settled (slot p t f) → enter s (advance k s (slot p t f)) p ≡ advance (suc k) s (slot p t f)
+rests k s Tripped t f h = slot-path Tripped (omega arith) refl
+rests k s WaitReset t f h = slot-path WaitReset (omega arith) refl
+rests k s Ready t f h = slot-path Ready (omega arith) refl
+rests k s WaitStart t f h = slot-path WaitStart (omega arith) refl
+rests k s Normal t f h = slot-path Normal (omega arith) (omega arith)
+rests k s Delayed t f h = slot-path Delayed (omega arith) refl
+
+lt-cond : (b : Bool) (m k : ℕ) → k < cond (not b) 0 m → (b ≡ true) × (k < m)
+lt-cond true m k h = (refl, h)
+lt-cond false m k h = absurd (omega arith)
+
+-- k scans below those that `quiet` counts leave the timer above the period
+runs-on : (n k t p : ℕ) → 0 < p → k < min n ((t - 1) / p) → p < t - k * p
+runs-on n k t p h w =
+    let v : suc k * p ≤ t - 1 = le-div-iff-mul-le h .0 (omega arith) in
+    omega (arith, v)
+
+stays : (n k : ℕ) (s : Signals) (p : EffectState) (t f : ℕ) → 0 < s .period → k < quiet n s (slot p t f) → after s (advance k s (slot p t f)) ≡ p
+stays n k s Tripped t f h w = same-eq _ Tripped (lt-cond _ n k w .0)
+stays n k s WaitReset t f h w = same-eq _ WaitReset (lt-cond _ n k w .0)
+stays n k s Ready t f h w = same-eq _ Ready (lt-cond _ n k w .0)
+stays n k s WaitStart t f h w = same-eq _ WaitStart (lt-cond _ n k w .0)
+stays n k s Normal t f h w = same-eq _ Normal (lt-cond _ n k w .0)
+stays n k s Delayed t f h w =
+    let u = lt-cond (same (after s (slot Delayed t f)) Delayed) (min n ((t - 1) / s .period)) k w in
+    let v = runs-on n k t (s .period) h (u .1) in
+    ap (λ (d : Bool). rule (asks s) d Delayed) (lt-leb (t - k * s .period) (s .period) v ∙ sym (lt-leb t (s .period) (omega arith)))
+    ∙ same-eq _ Delayed (u .0)
+
+-- the law of a skip: one scan more
+pub more : (n k : ℕ) (s : Signals) (x : Slot) → 0 < s .period → Settled x → k < quiet n s x → next s (advance k s x) ≡ advance (suc k) s x
+more n k s x h g w =
+    ap (enter s (advance k s x)) (stays n k s (x .state) (x .timer) (x .first) h w) ∙ rests k s (x .state) (x .timer) (x .first) g
+
+pub unmoved : (n k : ℕ) (s : Signals) (x : Slot) → 0 < s .period → k < quiet n s x → moved s (advance k s x) ≡ false
+unmoved n k s x h w = rw (stays n k s (x .state) (x .timer) (x .first) h w) (ap not (same-refl (x .state)))
+
+pub none : (s : Signals) (x : Slot) → advance 0 s x ≡ x
+none s x = slot-path (x .state) (omega arith) refl
+
+quiet-cond : (b d : Bool) (n m : ℕ) → cond b 0 (cond d (min n m) n) ≤ n
+quiet-cond true d n m = omega arith
+quiet-cond false true n m = omega arith
+quiet-cond false false n m = omega arith
+
+pub within : (n : ℕ) (s : Signals) (x : Slot) → quiet n s x ≤ n
+within n s x = quiet-cond (moved s x) (same (x .state) Delayed) n ((x .timer - 1) / s .period)
+
+-- ## The scan after those that `quiet` counts moves
+
+either : (b : Bool) → (b ≡ true) ⊎ (b ≡ false)
+either true = inl refl
+either false = inr refl
+
+due-test : Asks → Bool → EffectState → Bool
+due-test a d p = not (same (rule a true Delayed) Delayed)
+
+due-all : T (every due-test)
+unfolding all allStates every due-test
+due-all = tt
+
+holds : (b : Bool) → T b → b ≡ true
+holds true t = refl
+holds false t = absurd t
+
+due-moves : (a : Asks) → not (same (rule a true Delayed) Delayed) ≡ true
+unfolding due-test
+due-moves a = holds _ (every-at due-test due-all a true Delayed)
+
+cond-lt : (b : Bool) (n : ℕ) → cond b 0 n < n → b ≡ true
+cond-lt true n h = refl
+cond-lt false n h = absurd (omega arith)
+
+runs-out : (n t p : ℕ) → 0 < p → min n ((t - 1) / p) < n → t - min n ((t - 1) / p) * p ≤ p
+runs-out n t p h w =
+    let e : min n ((t - 1) / p) ≡ (t - 1) / p = omega arith in
+    let u : t - 1 < suc ((t - 1) / p) * p = div-lt-iff-lt-mul h .0 (omega arith) in
+    rw e (omega arith)
+
+wakes-at : (n : ℕ) (s : Signals) (p : EffectState) (t f : ℕ) → 0 < s .period → quiet n s (slot p t f) < n
+    → moved s (advance (quiet n s (slot p t f)) s (slot p t f)) ≡ true
+wakes-at n s Tripped t f h w = cond-lt _ n w
+wakes-at n s WaitReset t f h w = cond-lt _ n w
+wakes-at n s Ready t f h w = cond-lt _ n w
+wakes-at n s WaitStart t f h w = cond-lt _ n w
+wakes-at n s Normal t f h w = cond-lt _ n w
+wakes-at n s Delayed t f h w = ⊎-elim at-once later (either (moved s x))
+  where
+    x : Slot
+    x = slot Delayed t f
+
+    m : ℕ
+    m = min n ((t - 1) / s .period)
+
+    at-once : moved s x ≡ true → moved s (advance (quiet n s x) s x) ≡ true
+    at-once e = subst (λ (j : ℕ). moved s (advance j s x) ≡ true) (sym (ap (λ (b : Bool). cond b 0 m) e)) (ap (moved s) (none s x) ∙ e)
+
+    later : moved s x ≡ false → moved s (advance (quiet n s x) s x) ≡ true
+    later e =
+        let q : quiet n s x ≡ m = ap (λ (b : Bool). cond b 0 m) e in
+        let v : t - m * s .period ≤ s .period = runs-out n t (s .period) h (omega arith) in
+        subst (λ (j : ℕ). moved s (advance j s x) ≡ true) (sym q)
+        (ap (λ (d : Bool). not (same (rule (asks s) d Delayed) Delayed)) (le-leb (t - m * s .period) (s .period) v) ∙ due-moves (asks s))
+
+pub wakes : (n : ℕ) (s : Signals) (x : Slot) → 0 < s .period → quiet n s x < n → moved s (advance (quiet n s x) s x) ≡ true
+wakes n s x h w = wakes-at n s (x .state) (x .timer) (x .first) h w
+
+-- ## Each effect moves at most twice
+
+-- how many moves are left, in scans without reset
+pub rank : Asks → EffectState → ℕ
+rank a p = one (not (same (goes a p) p)) + one (not (same (goes a (goes a p)) (goes a p)))
+
+two-test : Asks → Bool → EffectState → Bool
+two-test a d p = leb (one (not (same (rule a d p) p)) + rank a (rule a d p)) 2
+
+falls-test : Asks → Bool → EffectState → Bool
+falls-test a d p = leb (one (not (same (rule (unreset a) d p) p)) + rank a (rule (unreset a) d p)) (rank a p)
+
+two-all : T (every two-test)
+unfolding all allStates every two-test rank
+two-all = tt
+
+falls-all : T (every falls-test)
+unfolding all allStates every falls-test rank
+falls-all = tt
+
+-- the first scan, with the reset as given: its move and those left are at most two
+pub two : (s : Signals) (x : Slot) → one (moved s x) + rank (asks s) (after s x) ≤ 2
+unfolding two-test
+two s x = leb→le _ _ (every-at two-test two-all (asks s) (leb (x .timer) (s .period)) (x .state))
+
+-- the scans after it: each move takes one
+pub falls : (s : Signals) (x : Slot) → one (moved (clear s) x) + rank (asks s) (after (clear s) x) ≤ rank (asks s) (x .state)
+unfolding falls-test
+falls s x = leb→le _ _ (every-at falls-test falls-all (asks s) (leb (x .timer) (s .period)) (x .state))
+
+pub rank-clear : (s : Signals) (p : EffectState) → rank (asks (clear s)) p ≡ rank (asks s) p
+unfolding rank
+rank-clear s p = refl
+
+-- those of scans without reset are at most its rank
+moves-left : (s : Signals) (n : ℕ) (x : Slot) → moves (clear s) n x ≤ rank (asks s) (x .state)
+moves-left s zero x = omega arith
+moves-left s (suc n) x = omega (arith, falls s x, moves-left s n (next (clear s) x))
+
+-- whatever the signals, the effect's state changes in at most two of the scans of a held run
+pub moves-at-most-two : (s : Signals) (n : ℕ) (x : Slot) → moves s n x ≤ 2
+moves-at-most-two s zero x = omega arith
+moves-at-most-two s (suc n) x = omega (arith, two s x, moves-left s n (next s x))

@@ -1,0 +1,10 @@
+-- `rounds::skip` meets its contract.
+use borrow.Author.Needs.{needs}
+use Rattle.rounds.proofs.skip.Statement.{statement}
+use Rattle.rounds.proofs.skip.Tie as tie
+
+returns : tie.Need-returns
+returns c = rw (c .advances .ensures)
+
+pub skip-spec : {M : Type 1} → statement M
+skip-spec = tie.close (tie.spec (λ c. search needs) (λ c κs. search needs) returns)

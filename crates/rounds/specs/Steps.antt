@@ -1,0 +1,72 @@
+-- The meaning of a held run: scan by scan. Document 01, "Held runs and their two counts".
+use Prim.Native.Nat.{ℕ, zero, suc, _+_, _*_}
+use mathlib.Core.Bool.{false}
+use mathlib.Core.List.{List, [], _++_, map}
+use lib.ListN.{length}
+use Rattle.bits.specs.Words.{one}
+use Rattle.rules.specs.declared.Signals.{Signals}
+use Rattle.rules.specs.declared.Slot.{Slot}
+use Rattle.rules.specs.Rules.{next, moved}
+use Rattle.effects.specs.declared.Event.{Event}
+use Rattle.effects.specs.declared.Progress.{Progress}
+use Rattle.effects.specs.Scan.{steps, anyMoved, seqAfter, records}
+
+-- a run: the scans done, the next sequence number and the slots, and what it has given so far, its events and its live scans
+pub record Run : Type 0 where
+  pub done : ℕ
+  pub next : ℕ
+  pub slots : List Slot
+  pub events : List Event
+  pub live : ℕ
+
+-- a run that starts
+abbrev pub start : ℕ → ℕ → List Slot → Run
+start d q xs = record { done = d; next = q; slots = xs; events = []; live = 0 }
+
+-- one scan more
+abbrev pub scan : List Signals → Run → Run
+scan ss r =
+    record {
+      done = r .done + 1;
+      next = seqAfter (r .next) ss (r .slots);
+      slots = steps ss (r .slots);
+      events = r .events ++ records (r .next) (r .done + 1) 1 ss (r .slots);
+      live = r .live + one (anyMoved ss (r .slots));
+    }
+
+-- the signals of the scans after the first: the reset counts in the first scan and is zero afterwards
+abbrev pub clear : Signals → Signals
+clear s =
+    record {
+      active = s .active;
+      bad = s .bad;
+      trip = s .trip;
+      normal = s .normal;
+      require = s .require;
+      permit = s .permit;
+      start = s .start;
+      reset = false;
+      delay = s .delay;
+      period = s .period;
+    }
+
+-- n scans of one row
+abbrev pub held : List Signals → ℕ → Run → Run
+held ss zero r = r
+held ss (suc n) r = held (map clear ss) n (scan ss r)
+
+-- how many of n scans, the reset in the first only, change the state of one effect
+abbrev pub moves : Signals → ℕ → Slot → ℕ
+moves s zero x = 0
+moves s (suc n) x = one (moved s x) + moves (clear s) n (next s x)
+
+-- the run as code carries it: its events lie in a buffer, 12 bytes each
+abbrev pub progressOf : Run → Progress
+progressOf r =
+    record {
+      done = r .done;
+      next = r .next;
+      slots = r .slots;
+      at = 12 * length (r .events);
+      live = r .live;
+    }
