@@ -1,12 +1,13 @@
--- The laws of one effect.
+-- One effect: the scans that `quiet` counts leave its state as it is, the scan after them moves it, and it moves at most
+-- twice in a held run. What depends on the rules alone is computed at every answer to what they ask, so a changed rule
+-- changes no proof; the timer is arithmetic beside it.
 use mathlib.Core.Path.{_≡_, refl, ap, sym, _∙_, subst}
-use mathlib.Core.Bool.{Bool, true, false, cond, not, _&&_}
-use mathlib.Core.Logic.{⊎-elim, _⊎_, inl, inr}
+use mathlib.Core.Bool.{Bool, true, false, cond, not}
 use Prim.Native.Nat.{ℕ, zero, suc, _+_, _-_, _*_, _/_, min, _≤_, _<_}
 use native.Mathlib.Omega.{arith}
 use native.Mathlib.Nat.{le-div-iff-mul-le, div-lt-iff-lt-mul}
-use lib.Dec.{leb, ltb, eqb, T, leb→le}
-use borrow.Author.Tests.{eqb-true, eq-eqb, lt-leb, le-leb, leb-false, leb-true}
+use lib.Dec.{leb}
+use borrow.Author.Tests.{eqb-true, eq-eqb, leb-true, lt-leb, le-leb}
 use Rattle.bits.specs.Words.{one}
 use Rattle.rules.specs.declared.EffectState.{EffectState}
 use Rattle.rules.specs.declared.EffectState.the-variants.{Tripped, WaitReset, Ready, WaitStart, Normal, Delayed}
@@ -16,61 +17,11 @@ use Rattle.rules.specs.declared.Asks.{Asks}
 use Rattle.rules.specs.Rules.{code, same, rule, asks, after, enter, next, moved}
 use Rattle.rounds.specs.Steps.{clear, moves}
 use Rattle.rounds.specs.Stroke.{quiet, advance}
-
--- ## What holds of every answer to what the rules ask: computed at all of them
-
-all : (Bool → Bool) → Bool
-all f = f true && f false
-
-all-at : (f : Bool → Bool) → T (all f) → (b : Bool) → T (f b)
-unfolding all
-all-at f t b = go (f true) (f false) refl refl t b
-  where
-    go : (x y : Bool) → f true ≡ x → f false ≡ y → T (x && y) → (b : Bool) → T (f b)
-    go true true e₁ e₂ t true = subst T (sym e₁) tt
-    go true true e₁ e₂ t false = subst T (sym e₂) tt
-    go true false e₁ e₂ t b = absurd t
-    go false y e₁ e₂ t b = absurd t
-
-allStates : (EffectState → Bool) → Bool
-allStates f = f Tripped && (f WaitReset && (f Ready && (f WaitStart && (f Normal && f Delayed))))
-
-and-l : (a b : Bool) → T (a && b) → T a
-and-l true b t = tt
-and-l false b t = t
-
-and-r : (a b : Bool) → T (a && b) → T b
-and-r true b t = t
-and-r false b t = absurd t
-
-every : (Asks → Bool → EffectState → Bool) → Bool
-every f =
-    all λ ft. all λ fn. all λ bt. all λ ac. all λ rr. all λ rp. all λ sp. all λ rs. all λ de. all λ due.
-    allStates λ p. f (record { trip = ft; normal = fn; bad = bt; active = ac; require = rr; permit = rp; start = sp; reset = rs; delayed = de }) due p
-
-abbrev unreset : Asks → Asks
-unreset a =
-    record { trip = a .trip; normal = a .normal; bad = a .bad; active = a .active; require = a .require; permit = a .permit; start = a .start; reset = false; delayed = a .delayed }
-
-abbrev goes : Asks → EffectState → EffectState
-goes a p = rule (unreset a) true p
-
-states-at : (f : EffectState → Bool) → T (allStates f) → (p : EffectState) → T (f p)
-unfolding allStates
-states-at f t Tripped = and-l (f Tripped) _ t
-states-at f t WaitReset = and-l (f WaitReset) _ (and-r (f Tripped) _ t)
-states-at f t Ready = and-l (f Ready) _ (and-r (f WaitReset) _ (and-r (f Tripped) _ t))
-states-at f t WaitStart = and-l (f WaitStart) _ (and-r (f Ready) _ (and-r (f WaitReset) _ (and-r (f Tripped) _ t)))
-states-at f t Normal = and-l (f Normal) _ (and-r (f WaitStart) _ (and-r (f Ready) _ (and-r (f WaitReset) _ (and-r (f Tripped) _ t))))
-states-at f t Delayed = and-r (f Normal) _ (and-r (f WaitStart) _ (and-r (f Ready) _ (and-r (f WaitReset) _ (and-r (f Tripped) _ t))))
-
-every-at : (f : Asks → Bool → EffectState → Bool) → T (every f) → (a : Asks) (d : Bool) (p : EffectState) → T (f a d p)
-unfolding every
-every-at f t a d p =
-    states-at _ (all-at _ (all-at _ (all-at _ (all-at _ (all-at _ (all-at _ (all-at _ (all-at _ (all-at _ (all-at _ t (a .trip)) (a .normal)) (a .bad)) (a .active)) (a .require)) (a .permit)) (a .start)) (a .reset)) (a .delayed)) d) p
+use Rattle.rounds.proofs.Answers.{both, allStates, every, every-at}
 
 -- ## States are told apart by their codes
 
+-- the state of a code
 named : ℕ → EffectState
 named zero = Tripped
 named (suc zero) = WaitReset
@@ -79,6 +30,7 @@ named (suc (suc (suc zero))) = WaitStart
 named (suc (suc (suc (suc zero)))) = Normal
 named (suc (suc (suc (suc (suc n))))) = Delayed
 
+-- it has that code
 named-code : (p : EffectState) → named (code p) ≡ p
 unfolding named
 named-code Tripped = refl
@@ -88,9 +40,11 @@ named-code WaitStart = refl
 named-code Normal = refl
 named-code Delayed = refl
 
+-- states that are the same are one
 pub same-eq : (p q : EffectState) → same p q ≡ true → p ≡ q
 same-eq p q e = sym (named-code p) ∙ ap named (eqb-true (code p) (code q) e) ∙ named-code q
 
+-- and a state is the same as itself
 pub same-refl : (p : EffectState) → same p p ≡ true
 same-refl p = eq-eqb (code p) (code p) refl
 
@@ -100,6 +54,7 @@ same-refl p = eq-eqb (code p) (code p) refl
 abbrev pub Settled : Slot → Type 0
 Settled x = (cond (same (x .state) Delayed) 0 (x .timer) ≡ 0) × (cond (same (x .state) Normal) (x .first) 0 ≡ 0)
 
+-- whatever state is entered
 settled-enter : (s : Signals) (x : Slot) (q : EffectState) → Settled (enter s x q)
 settled-enter s x Tripped = (refl, refl)
 settled-enter s x WaitReset = (refl, refl)
@@ -108,15 +63,19 @@ settled-enter s x WaitStart = (refl, refl)
 settled-enter s x Normal = (refl, refl)
 settled-enter s x Delayed = (refl, refl)
 
+-- so a slot is settled after any scan
 pub settled-next : (s : Signals) (x : Slot) → Settled (next s x)
 settled-next s x = settled-enter s x (after s x)
 
+-- a slot by its parts
 abbrev slot : EffectState → ℕ → ℕ → Slot
 slot p t f = record { state = p; timer = t; first = f }
 
+-- slots of equal parts are equal
 slot-path : (p : EffectState) {t t′ f f′ : ℕ} → t ≡ t′ → f ≡ f′ → slot p t f ≡ slot p t′ f′
 slot-path p e h = λ i. slot p (e i) (h i)
 
+-- where the state stays, a scan advances the slot once more
 rests : (k : ℕ) (s : Signals) (p : EffectState) (t f : ℕ) → Settled (slot p t f) → enter s (advance k s (slot p t f)) p ≡ advance (suc k) s (slot p t f)
 rests k s Tripped t f h = slot-path Tripped (omega arith) refl
 rests k s WaitReset t f h = slot-path WaitReset (omega arith) refl
@@ -125,16 +84,18 @@ rests k s WaitStart t f h = slot-path WaitStart (omega arith) refl
 rests k s Normal t f h = slot-path Normal (omega arith) (omega arith)
 rests k s Delayed t f h = slot-path Delayed (omega arith) refl
 
+-- what is left to count from is not 0 only where the test holds
 lt-cond : (b : Bool) (m k : ℕ) → k < cond (not b) 0 m → (b ≡ true) × (k < m)
 lt-cond true m k h = (refl, h)
 lt-cond false m k h = absurd (omega arith)
 
--- k scans below those that `quiet` counts leave the timer above the period
+-- scans below those that `quiet` counts leave the timer above the period
 runs-on : (n k t p : ℕ) → 0 < p → k < min n ((t - 1) / p) → p < t - k * p
 runs-on n k t p h w =
     let v : suc k * p ≤ t - 1 = le-div-iff-mul-le h .0 (omega arith) in
     omega (arith, v)
 
+-- and the state as it is: the rules read nothing of the timer but whether it is due
 stays : (n k : ℕ) (s : Signals) (p : EffectState) (t f : ℕ) → 0 < s .period → k < quiet n s (slot p t f) → after s (advance k s (slot p t f)) ≡ p
 stays n k s Tripped t f h w = same-eq _ Tripped (lt-cond _ n k w .0)
 stays n k s WaitReset t f h w = same-eq _ WaitReset (lt-cond _ n k w .0)
@@ -152,51 +113,52 @@ pub more : (n k : ℕ) (s : Signals) (x : Slot) → 0 < s .period → Settled x 
 more n k s x h g w =
     ap (enter s (advance k s x)) (stays n k s (x .state) (x .timer) (x .first) h w) ∙ rests k s (x .state) (x .timer) (x .first) g
 
+-- such a scan is not live
 pub unmoved : (n k : ℕ) (s : Signals) (x : Slot) → 0 < s .period → k < quiet n s x → moved s (advance k s x) ≡ false
 unmoved n k s x h w = rw (stays n k s (x .state) (x .timer) (x .first) h w) (ap not (same-refl (x .state)))
 
+-- no scans change nothing
 pub none : (s : Signals) (x : Slot) → advance 0 s x ≡ x
 none s x = slot-path (x .state) (omega arith) refl
 
+-- each way of `quiet` is at most n
 quiet-cond : (b d : Bool) (n m : ℕ) → cond b 0 (cond d (min n m) n) ≤ n
 quiet-cond true d n m = omega arith
 quiet-cond false true n m = omega arith
 quiet-cond false false n m = omega arith
 
+-- `quiet` stays below its cap
 pub within : (n : ℕ) (s : Signals) (x : Slot) → quiet n s x ≤ n
 within n s x = quiet-cond (moved s x) (same (x .state) Delayed) n ((x .timer - 1) / s .period)
 
 -- ## The scan after those that `quiet` counts moves
 
-either : (b : Bool) → (b ≡ true) ⊎ (b ≡ false)
-either true = inl refl
-either false = inr refl
-
+-- a timer that is due moves a Delayed effect, whatever else is asked
 due-test : Asks → Bool → EffectState → Bool
 due-test a d p = not (same (rule a true Delayed) Delayed)
 
-due-all : T (every due-test)
-unfolding all allStates every due-test
-due-all = tt
+due-all : every due-test ≡ true
+unfolding both allStates every due-test
+due-all = refl
 
-holds : (b : Bool) → T b → b ≡ true
-holds true t = refl
-holds false t = absurd t
-
+-- so it moves for any answers
 due-moves : (a : Asks) → not (same (rule a true Delayed) Delayed) ≡ true
 unfolding due-test
-due-moves a = holds _ (every-at due-test due-all a true Delayed)
+due-moves a = every-at due-test due-all a true Delayed
 
+-- without a timer `quiet` is below n only where the effect moves at once
 cond-lt : (b : Bool) (n : ℕ) → cond b 0 n < n → b ≡ true
 cond-lt true n h = refl
 cond-lt false n h = absurd (omega arith)
 
+-- after the scans that `quiet` counts the timer is due
 runs-out : (n t p : ℕ) → 0 < p → min n ((t - 1) / p) < n → t - min n ((t - 1) / p) * p ≤ p
 runs-out n t p h w =
     let e : min n ((t - 1) / p) ≡ (t - 1) / p = omega arith in
     let u : t - 1 < suc ((t - 1) / p) * p = div-lt-iff-lt-mul h .0 (omega arith) in
     rw e (omega arith)
 
+-- by state: at once, or when the timer is due
 wakes-at : (n : ℕ) (s : Signals) (p : EffectState) (t f : ℕ) → 0 < s .period → quiet n s (slot p t f) < n
     → moved s (advance (quiet n s (slot p t f)) s (slot p t f)) ≡ true
 wakes-at n s Tripped t f h w = cond-lt _ n w
@@ -204,7 +166,7 @@ wakes-at n s WaitReset t f h w = cond-lt _ n w
 wakes-at n s Ready t f h w = cond-lt _ n w
 wakes-at n s WaitStart t f h w = cond-lt _ n w
 wakes-at n s Normal t f h w = cond-lt _ n w
-wakes-at n s Delayed t f h w = ⊎-elim at-once later (either (moved s x))
+wakes-at n s Delayed t f h w = go (moved s x) refl
   where
     x : Slot
     x = slot Delayed t f
@@ -212,54 +174,75 @@ wakes-at n s Delayed t f h w = ⊎-elim at-once later (either (moved s x))
     m : ℕ
     m = min n ((t - 1) / s .period)
 
-    at-once : moved s x ≡ true → moved s (advance (quiet n s x) s x) ≡ true
-    at-once e = subst (λ (j : ℕ). moved s (advance j s x) ≡ true) (sym (ap (λ (b : Bool). cond b 0 m) e)) (ap (moved s) (none s x) ∙ e)
-
-    later : moved s x ≡ false → moved s (advance (quiet n s x) s x) ≡ true
-    later e =
+    go : (b : Bool) → moved s x ≡ b → moved s (advance (quiet n s x) s x) ≡ true
+    go true e = subst (λ (j : ℕ). moved s (advance j s x) ≡ true) (sym (ap (λ (b : Bool). cond b 0 m) e)) (ap (moved s) (none s x) ∙ e)
+    go false e =
         let q : quiet n s x ≡ m = ap (λ (b : Bool). cond b 0 m) e in
         let v : t - m * s .period ≤ s .period = runs-out n t (s .period) h (omega arith) in
         subst (λ (j : ℕ). moved s (advance j s x) ≡ true) (sym q)
         (ap (λ (d : Bool). not (same (rule (asks s) d Delayed) Delayed)) (le-leb (t - m * s .period) (s .period) v) ∙ due-moves (asks s))
 
+-- the law of the scan after a skip: it moves
 pub wakes : (n : ℕ) (s : Signals) (x : Slot) → 0 < s .period → quiet n s x < n → moved s (advance (quiet n s x) s x) ≡ true
 wakes n s x h w = wakes-at n s (x .state) (x .timer) (x .first) h w
 
 -- ## Each effect moves at most twice
 
+-- the same answers without the reset
+abbrev unreset : Asks → Asks
+unreset a =
+    record {
+      trip = a .trip;
+      normal = a .normal;
+      bad = a .bad;
+      active = a .active;
+      require = a .require;
+      permit = a .permit;
+      start = a .start;
+      reset = false;
+      delayed = a .delayed;
+    }
+
+-- the state that p comes to in scans without reset, at once or when its timer has run out
+abbrev goes : Asks → EffectState → EffectState
+goes a p = rule (unreset a) true p
+
 -- how many moves are left, in scans without reset
 pub rank : Asks → EffectState → ℕ
 rank a p = one (not (same (goes a p) p)) + one (not (same (goes a (goes a p)) (goes a p)))
 
+-- a move and those left after it are at most two
 two-test : Asks → Bool → EffectState → Bool
 two-test a d p = leb (one (not (same (rule a d p) p)) + rank a (rule a d p)) 2
 
+two-all : every two-test ≡ true
+unfolding both allStates every two-test rank
+two-all = refl
+
+-- without reset, a move and those left after it are at most those left before
 falls-test : Asks → Bool → EffectState → Bool
 falls-test a d p = leb (one (not (same (rule (unreset a) d p) p)) + rank a (rule (unreset a) d p)) (rank a p)
 
-two-all : T (every two-test)
-unfolding all allStates every two-test rank
-two-all = tt
-
-falls-all : T (every falls-test)
-unfolding all allStates every falls-test rank
-falls-all = tt
+falls-all : every falls-test ≡ true
+unfolding both allStates every falls-test rank
+falls-all = refl
 
 -- the first scan, with the reset as given: its move and those left are at most two
 pub two : (s : Signals) (x : Slot) → one (moved s x) + rank (asks s) (after s x) ≤ 2
 unfolding two-test
-two s x = leb→le _ _ (every-at two-test two-all (asks s) (leb (x .timer) (s .period)) (x .state))
+two s x = leb-true _ _ (every-at two-test two-all (asks s) (leb (x .timer) (s .period)) (x .state))
 
 -- the scans after it: each move takes one
 pub falls : (s : Signals) (x : Slot) → one (moved (clear s) x) + rank (asks s) (after (clear s) x) ≤ rank (asks s) (x .state)
 unfolding falls-test
-falls s x = leb→le _ _ (every-at falls-test falls-all (asks s) (leb (x .timer) (s .period)) (x .state))
+falls s x = leb-true _ _ (every-at falls-test falls-all (asks s) (leb (x .timer) (s .period)) (x .state))
 
+-- the reset does not matter to the moves left
 pub rank-clear : (s : Signals) (p : EffectState) → rank (asks (clear s)) p ≡ rank (asks s) p
 unfolding rank
 rank-clear s p = refl
 
--- those of scans without reset are at most its rank
+-- the moves in scans without reset are at most those left
 moves-left : (s : Signals) (n : ℕ) (x : Slot) → moves (clear s) n x ≤ rank (asks s) (x .state)
 moves-left s zero x = omega arith
 moves-left s (suc n) x = omega (arith, falls s x, moves-left s n (next (clear s) x))

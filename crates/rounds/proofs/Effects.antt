@@ -3,7 +3,7 @@ use mathlib.Core.Path.{_≡_, refl, ap, ap₂, sym, subst}
 use mathlib.Core.Bool.{Bool, true, false, cond, _||_}
 use mathlib.Core.List.{List, [], _∷_, map}
 use mathlib.Core.Logic.{⊎-elim}
-use Prim.Native.Nat.{ℕ, zero, suc, _+_, _*_, _≤_, _<_}
+use Prim.Native.Nat.{ℕ, suc, _+_, _*_, _≤_, _<_}
 use native.Mathlib.Nat.{eq-or-lt-of-le, le-trans, lt-of-lt-of-le}
 use native.Mathlib.Omega.{arith}
 use lib.ListN.{length}
@@ -82,6 +82,7 @@ still n k (s ∷ ss) (x ∷ xs) h w =
     (each.unmoved n k s x (h .0) (lt-of-lt-of-le w (quiets-le (quiet n s x) ss xs)))
     (still (quiet n s x) k ss xs (h .2) w)
 
+-- where neither holds
 or-false : (a b : Bool) → (a || b) ≡ false → (a ≡ false) × (b ≡ false)
 or-false true b e = (e, cc)
 or-false false b e = (refl, e)
@@ -102,6 +103,7 @@ same-seq q (s ∷ ss) (x ∷ xs) e =
     let h = or-false (moved s x) (anyMoved ss xs) e in
     rw (h .0) (same-seq q ss xs (h .1))
 
+-- where the second holds
 or-right : (a b : Bool) → b ≡ true → (a || b) ≡ true
 or-right true b e = refl
 or-right false b e = e
@@ -162,6 +164,7 @@ records-two q c i (s ∷ ss) (x ∷ xs) =
     let r = cond (moved s x) (wrapped q) q in
     omega (arith, length-only (moved s x) (event q c i s x) (records r c (suc i) ss xs), each.two s x, records-two r c (suc i) ss xs)
 
+-- the count of a disjunction
 one-or : (a b : Bool) → one (a || b) ≤ one a + one b
 one-or true b = omega arith
 one-or false b = omega arith

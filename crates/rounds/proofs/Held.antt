@@ -2,7 +2,7 @@
 -- The scans after the first are steps of one kind, so the generic theorem of Rounds applies: the skip is a law of the
 -- lists of effects, and the rank is the moves left to them.
 use mathlib.Core.Path.{_≡_, refl, ap, sym, _∙_}
-use mathlib.Core.List.{List, [], _∷_, _++_, map, append-nil, append-assoc}
+use mathlib.Core.List.{List, _++_, map, append-nil, append-assoc}
 use Prim.Native.Nat.{ℕ, zero, suc, _+_, _-_, _*_, _≤_, _<_}
 use native.Mathlib.Nat.{add-sub-of-le, add-zero, not-suc-le-zero}
 use native.Mathlib.Numerals.{add-one, sub-one}
@@ -50,10 +50,12 @@ grows ss n r =
 
 -- ## The skip
 
+-- runs of equal parts are equal
 run-path : {d d′ q q′ l l′ : ℕ} {xs xs′ : List Slot} {es es′ : List Event} → d ≡ d′ → q ≡ q′ → xs ≡ xs′ → es ≡ es′ → l ≡ l′
     → _≡_ {A = Run} (record { done = d; next = q; slots = xs; events = es; live = l }) (record { done = d′; next = q′; slots = xs′; events = es′; live = l′ })
 run-path a b c d e = λ i. record { done = a i; next = b i; slots = c i; events = d i; live = e i }
 
+-- no scans change nothing
 skip-none : (cs : List Signals) (r : Run) → skip 0 cs r ≡ r
 skip-none cs r = run-path (add-zero (r .done)) refl (advances-none cs (r .slots)) refl refl
 
@@ -88,10 +90,12 @@ skips ss h =
 
 -- ## Rounds
 
+-- scans without reset are one step, again and again
 held-iterate : (n : ℕ) (ss : List Signals) (r : Run) → held (map clear ss) n r ≡ iterate (scan (map clear ss)) n r
 held-iterate zero ss r = refl
 held-iterate (suc n) ss r = rw clear-clear (held-iterate n ss (scan (map clear ss) r))
 
+-- and rounds without reset are the generic rounds
 rounds-rounds : (f n : ℕ) (ss : List Signals) (r : Run)
     → byRounds f (map clear ss) n r ≡ rounds (scan (map clear ss)) (λ k r. skip k (map clear ss) r) (λ n r. quiets n (map clear ss) (r .slots)) f n r
 rounds-rounds zero n ss r = refl
@@ -121,6 +125,7 @@ one-stroke ss n r h = rw add-one (go n)
 
 -- ## At most two records an effect, and no more live scans than records
 
+-- without reset, the records and the moves left are together no more than before
 due-falls : (n : ℕ) (ss : List Signals) (r : Run)
     → length ((iterate (scan (map clear ss)) n r) .events) + ranks ss ((iterate (scan (map clear ss)) n r) .slots) ≤ length (r .events) + ranks ss (r .slots)
 due-falls zero ss r = omega arith
@@ -147,6 +152,7 @@ live-at-most ss n r = omega (arith, live-due ss n r, due-at-most ss n r)
 -- ## One turn of the loop over rounds
 
 module _ (ss : List Signals) (h : Timed ss) (r : Run) where
+  -- how many scans the skip after the first takes
   abbrev kept : ℕ → ℕ
   kept n = quiets n (map clear ss) (steps ss (r .slots))
 

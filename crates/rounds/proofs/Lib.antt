@@ -1,4 +1,5 @@
 pub mod Rounds
+pub mod Answers
 pub mod Effect
 pub mod Effects
 pub mod Held

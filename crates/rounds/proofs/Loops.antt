@@ -11,6 +11,7 @@ use Rattle.effects.proofs.Loops.{left-of, left-all, turned}
 use Rattle.rounds.specs.Steps.{clear}
 use Rattle.rounds.specs.Stroke.{Timed, quiet, advance, quiets, advances}
 
+-- the period of one of the signals
 timed-in : (ss : List Signals) (i : ℕ) (d : Signals) → Timed ss → i < length ss → (0 < (getD ss i d) .period) × ((getD ss i d) .period ≤ 1000)
 timed-in [] i d h w = absurd (not-suc-le-zero w)
 timed-in (s ∷ ss) zero d h w = (h .0, h .1)
@@ -31,9 +32,11 @@ module _ (c : ℕ) (ss : List Signals) (i : ℕ) (d : Signals) (w : i < c) (v : 
     abbrev x : Slot
     x = getD xs i e
 
+    -- the count goes on from effect i
     pub quiets-turn : (k : ℕ) → quiets k (drop i (take c ss)) (drop i xs) ≡ quiets (quiet k s x) rest (drop (i + 1) xs)
     quiets-turn k = rw (left-of c ss i d w v, left-all xs i e u)
 
+    -- slot i is advanced
     pub advances-turn : (k : ℕ) → take i xs ++ advances k (drop i (take c ss)) (drop i xs)
         ≡ take (i + 1) (set xs i (advance k s x)) ++ advances k rest (drop (i + 1) (set xs i (advance k s x)))
     advances-turn k = rw (left-of c ss i d w v, left-all xs i e u) (sym (turned xs i (advance k s x) (λ (l : List Slot). advances k rest l) u))

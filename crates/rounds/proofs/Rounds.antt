@@ -1,21 +1,24 @@
--- Rounds give what single steps give, if the fuel is the rank or more. Nothing here knows of effects.
-use mathlib.Core.Path.{_≡_, refl, ap, sym, _∙_, subst}
+-- Rounds give what single steps give, if the fuel is the rank or more: a skip is as many steps as `quiet` counts, and the
+-- step after it lowers the rank, so no fuel is wanting. Nothing here knows of effects.
+use mathlib.Core.Path.{_≡_, refl, ap, sym, _∙_}
 use Prim.Native.Nat.{ℕ, zero, suc, _+_, _-_, _≤_, _<_}
-use native.Mathlib.Nat.{zero-add, suc-add, add-sub-of-le, eq-or-lt-of-le, sub-self}
+use native.Mathlib.Nat.{zero-add, suc-add, add-sub-of-le}
 use native.Mathlib.Omega.{arith}
-use mathlib.Core.Logic.{⊎-elim, _⊎_, inl, inr}
 use Rattle.rounds.specs.Iterate.{iterate, rounds}
 
 module _ {X : Type 0} (step : X → X) where
-  pub iterate-suc : (n : ℕ) (x : X) → iterate step (suc n) x ≡ step (iterate step n x)
+  -- the last step apart
+  iterate-suc : (n : ℕ) (x : X) → iterate step (suc n) x ≡ step (iterate step n x)
   iterate-suc zero x = refl
   iterate-suc (suc n) x = iterate-suc n (step x)
 
-  pub iterate-add : (k n : ℕ) (x : X) → iterate step (k + n) x ≡ iterate step n (iterate step k x)
+  -- some steps, and then the others
+  iterate-add : (k n : ℕ) (x : X) → iterate step (k + n) x ≡ iterate step n (iterate step k x)
   iterate-add zero n x = rw zero-add
   iterate-add (suc k) n x = rw suc-add (iterate-add k n (step x))
 
--- what a skip has to keep. `Good` holds after every step; `rank` falls at the step after a skip that left steps over
+-- what a skip has to keep: no steps change nothing; below those that `quiet` counts one step more is a longer skip; `quiet`
+-- stays below its cap; `Good` holds after every step; `rank` falls at the step after a skip that left steps over
 pub record Skips {X : Type 0} (step : X → X) (skip : ℕ → X → X) (quiet : ℕ → X → ℕ) (rank : X → ℕ) (Good : X → Type 0) : Type 0 where
   pub none : (x : X) → skip 0 x ≡ x
   pub more : (n k : ℕ) (x : X) → Good x → k < quiet n x → step (skip k x) ≡ skip (suc k) x
@@ -25,16 +28,17 @@ pub record Skips {X : Type 0} (step : X → X) (skip : ℕ → X → X) (quiet :
 
 module _ {X : Type 0} {step : X → X} {skip : ℕ → X → X} {quiet : ℕ → X → ℕ} {rank : X → ℕ} {Good : X → Type 0} (L : Skips step skip quiet rank Good) where
   -- as many steps as `quiet` counts are a skip
-  pub skipped : (n k : ℕ) (x : X) → Good x → k ≤ quiet n x → iterate step k x ≡ skip k x
+  skipped : (n k : ℕ) (x : X) → Good x → k ≤ quiet n x → iterate step k x ≡ skip k x
   skipped n zero x g h = sym (L .none x)
   skipped n (suc k) x g h = iterate-suc step k x ∙ ap step (skipped n k x g (omega arith)) ∙ L .more n k x g h
 
+  -- a skip and the steps after it are the steps
   pub joined : (n m : ℕ) (y : X) → Good y → quiet n y + m ≡ n → iterate step m (skip (quiet n y) y) ≡ iterate step n y
   joined n m y g e =
       ap (iterate step m) (sym (skipped n (quiet n y) y g (omega arith))) ∙ sym (iterate-add step (quiet n y) m y) ∙ ap (λ (j : ℕ). iterate step j y) e
 
   -- from a good state, a skip and then rounds give the single steps
-  pub settles : (f n m : ℕ) (y : X) → Good y → rank y ≤ f → quiet n y + m ≡ n → rounds step skip quiet f m (skip (quiet n y) y) ≡ iterate step n y
+  settles : (f n m : ℕ) (y : X) → Good y → rank y ≤ f → quiet n y + m ≡ n → rounds step skip quiet f m (skip (quiet n y) y) ≡ iterate step n y
   settles zero n zero y g h e = joined n 0 y g e
   settles zero n (suc m) y g h e = let w = L .falls n y g (omega arith) in absurd (omega arith)
   settles (suc f) n zero y g h e = joined n 0 y g e
@@ -43,6 +47,6 @@ module _ {X : Type 0} {step : X → X} {skip : ℕ → X → X} {quiet : ℕ →
       let w = L .falls n y g (omega arith) in
       settles f m (m - quiet m (step z)) (step z) (L .good z) (omega arith) (add-sub-of-le (L .within m (step z))) ∙ joined n (suc m) y g e
 
-  -- the whole run: `first` may be another step than those after it
+  -- the same from the number of steps alone
   pub rounds-are-steps : (f n : ℕ) (y : X) → Good y → rank y ≤ f → rounds step skip quiet f (n - quiet n y) (skip (quiet n y) y) ≡ iterate step n y
   rounds-are-steps f n y g h = settles f n (n - quiet n y) y g h (add-sub-of-le (L .within n y))

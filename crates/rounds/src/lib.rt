@@ -159,11 +159,12 @@ pub fn stroke(
         let y = effects::scan(buf, count, sigs, p);
         let cs = clears(sigs);
         let after = y.slots;
-        let k = quiets(left - 1, count, cs, after);
+        let rest = left - 1;
+        let k = quiets(rest, count, cs, after);
         let z = skip(k, count, cs, y);
         sigs = cs;
         p = z;
-        left = left - 1 - k;
+        left = rest - k;
     }
     p
 }

@@ -9,7 +9,7 @@ use Rattle.effects.specs.declared.Progress.{Progress}
 use Rattle.effects.specs.Records.{bytes}
 use Rattle.rounds.specs.Steps.{Run, progressOf}
 use Rattle.rounds.proofs.Effects.{quiets-le}
-use Rattle.rounds.proofs.Going.{Going, begins, turn, fit, progress-run}
+use Rattle.rounds.proofs.Going.{Going, begins, turn, fit, progress-run, timed-after}
 use Rattle.rounds.proofs.stroke.Statement.{statement}
 use Rattle.rounds.proofs.stroke.Tie as tie
 
@@ -22,7 +22,7 @@ abbrev μ-loop : tie.MeasureT-loop
 loop-holds : tie.Need-loop-holds Inv-loop μ-loop
 loop-holds c =
     let s = c .before in
-    begins (s .args .hold) (s .args .count) (s .args .ss) _ (s .args .buf .now) (search needs) (s .pre .2) (s .pre .1) (s .pre .3) refl refl
+    begins (s .args .hold) (s .args .count) (s .args .ss) _ (s .args .buf .now) _ (s .pre .2) (s .pre .1) (s .pre .3) refl refl (omega arith)
 
 sub-fuel : tie.Need-sub-fuel Inv-loop μ-loop
 sub-fuel c = omega (arith, c .before .loop .inv .fuelled (c .loop-test .taken))
@@ -34,24 +34,22 @@ scan-requires c κs =
 
 quiets-requires : tie.Need-quiets-requires Inv-loop μ-loop
 quiets-requires c κs =
-    let a = c .before .before .before .before .before .before .before in
-    (omega arith, rw (c .before .clears .ensures) (turn (a .loop .inv) (c .before .before .before .before .before .before .loop-test .taken) .timed))
+    (omega arith, timed-after (c .before .before .before .before .before .before .before .loop .inv) (c .before .before .before .before .before .before .loop-test .taken) (c .before .clears .ensures))
 
 skip-requires : tie.Need-skip-requires Inv-loop μ-loop
 skip-requires c κs =
     let a = c .before .before .before .before .before .before .before .before in
-    let s = a .before .before in
     let y = c .before .before .before .before .before .scan in
-    let q = quiets-le (a .loop .left - 1) (take (s .args .count) (c .before .before .clears .result)) (y .result .slots) in
+    let q = quiets-le (a .loop .left - 1) (take (a .before .before .args .count) (c .before .before .clears .result)) (y .result .slots) in
     let e = ap (λ (r : Progress). r .done) (y .ensures .0) in (
       omega arith,
       omega (arith, c .quiets .ensures, q, a .loop .inv .few),
-      rw (c .before .before .clears .ensures) (turn (a .loop .inv) (c .before .before .before .before .before .before .before .loop-test .taken) .timed),
+      timed-after (a .loop .inv) (c .before .before .before .before .before .before .before .loop-test .taken) (c .before .before .clears .ensures),
       omega (arith, c .quiets .ensures, q, e, a .loop .inv .room),
     )
 
-sub-left-2 : tie.Need-sub-left-2 Inv-loop μ-loop
-sub-left-2 c =
+sub-left : tie.Need-sub-left Inv-loop μ-loop
+sub-left c =
     let a = c .before .before .before .before .before .before .before .before .before in
     omega (arith, c .before .quiets .ensures, quiets-le (a .loop .left - 1) (take (a .before .before .args .count) (c .before .before .before .clears .result)) (c .before .before .before .before .before .before .scan .result .slots))
 
@@ -63,8 +61,8 @@ loop-less c =
 loop-again : tie.Need-loop-again Inv-loop μ-loop
 loop-again c =
     let y = c .before .before .before .before .before .before .scan in
-    rw (c .skip .ensures, c .before .quiets .ensures, c .before .before .before .clears .ensures, y .ensures .0, y .ensures .1)
-    (turn (c .before .before .before .before .before .before .before .before .before .loop .inv) (c .before .before .before .before .before .before .before .before .loop-test .taken))
+    turn (c .before .before .before .before .before .before .before .before .before .loop .inv) (c .before .before .before .before .before .before .before .before .loop-test .taken)
+    (y .ensures .0) (y .ensures .1) (c .before .before .before .clears .ensures) (c .before .quiets .ensures) (c .skip .ensures)
 
 same-length : tie.Need-same-length Inv-loop μ-loop
 same-length c =
@@ -93,8 +91,7 @@ stroke-spec =
     (λ c. search needs)
     quiets-requires
     skip-requires
-    (λ c. search needs)
-    sub-left-2
+    sub-left
     loop-less
     loop-again
     same-length
