@@ -17,36 +17,8 @@ use Rattle.rules.specs.declared.Asks.{Asks}
 use Rattle.rules.specs.Rules.{code, same, rule, asks, after, enter, next, moved}
 use Rattle.rounds.specs.Steps.{clear, moves}
 use Rattle.rounds.specs.Stroke.{quiet, advance}
-use Rattle.rounds.proofs.Answers.{both, allStates, every, every-at}
-
--- ## States are told apart by their codes
-
--- the state of a code
-named : ℕ → EffectState
-named zero = Tripped
-named (suc zero) = WaitReset
-named (suc (suc zero)) = Ready
-named (suc (suc (suc zero))) = WaitStart
-named (suc (suc (suc (suc zero)))) = Normal
-named (suc (suc (suc (suc (suc n))))) = Delayed
-
--- it has that code
-named-code : (p : EffectState) → named (code p) ≡ p
-unfolding named
-named-code Tripped = refl
-named-code WaitReset = refl
-named-code Ready = refl
-named-code WaitStart = refl
-named-code Normal = refl
-named-code Delayed = refl
-
--- states that are the same are one
-pub same-eq : (p q : EffectState) → same p q ≡ true → p ≡ q
-same-eq p q e = sym (named-code p) ∙ ap named (eqb-true (code p) (code q) e) ∙ named-code q
-
--- and a state is the same as itself
-pub same-refl : (p : EffectState) → same p p ≡ true
-same-refl p = eq-eqb (code p) (code p) refl
+use Rattle.rules.proofs.Answers.{both, allStates, every, every-at}
+use Rattle.rules.proofs.States.{same-eq, same-refl}
 
 -- ## A slot that a step has left
 

@@ -1,5 +1,4 @@
 pub mod Rounds
-pub mod Answers
 pub mod Effect
 pub mod Effects
 pub mod Held

@@ -1,9 +1,10 @@
 -- A test that holds at every answer to what the rules ask and every state holds of any: it is computed at all of them.
-use mathlib.Core.Path.{_≡_, refl}
+use mathlib.Core.Path.{_≡_}
 use mathlib.Core.Bool.{Bool, true, false, _&&_}
+use Rattle.bits.proofs.Lists.{and-left, and-right}
 use Rattle.rules.specs.declared.EffectState.{EffectState}
 use Rattle.rules.specs.declared.EffectState.the-variants.{Tripped, WaitReset, Ready, WaitStart, Normal, Delayed}
 use Rattle.rules.specs.declared.Asks.{Asks}
 
 -- the test holds of both bools
 unfoldable pub both : (Bool → Bool) → Bool
@@ -19,30 +20,21 @@ every f =
     both λ trip. both λ normal. both λ bad. both λ active. both λ require. both λ permit. both λ start. both λ reset. both λ delayed. both λ due.
     allStates λ p. f (record { trip = trip; normal = normal; bad = bad; active = active; require = require; permit = permit; start = start; reset = reset; delayed = delayed }) due p
 
--- the parts of a conjunction
-and-l : (a b : Bool) → (a && b) ≡ true → a ≡ true
-and-l true b e = refl
-and-l false b e = e
-
-and-r : (a b : Bool) → (a && b) ≡ true → b ≡ true
-and-r true b e = e
-and-r false b e = cc
-
 -- a test that holds of both bools holds of any
 both-at : (f : Bool → Bool) → both f ≡ true → (b : Bool) → f b ≡ true
 unfolding both
-both-at f e true = and-l (f true) (f false) e
-both-at f e false = and-r (f true) (f false) e
+both-at f e true = and-left (f true) (f false) e
+both-at f e false = and-right (f true) (f false) e
 
 -- a test that holds of all states holds of any
 states-at : (f : EffectState → Bool) → allStates f ≡ true → (p : EffectState) → f p ≡ true
 unfolding allStates
-states-at f e Tripped = and-l (f Tripped) _ e
-states-at f e WaitReset = and-l (f WaitReset) _ (and-r (f Tripped) _ e)
-states-at f e Ready = and-l (f Ready) _ (and-r (f WaitReset) _ (and-r (f Tripped) _ e))
-states-at f e WaitStart = and-l (f WaitStart) _ (and-r (f Ready) _ (and-r (f WaitReset) _ (and-r (f Tripped) _ e)))
-states-at f e Normal = and-l (f Normal) _ (and-r (f WaitStart) _ (and-r (f Ready) _ (and-r (f WaitReset) _ (and-r (f Tripped) _ e))))
-states-at f e Delayed = and-r (f Normal) _ (and-r (f WaitStart) _ (and-r (f Ready) _ (and-r (f WaitReset) _ (and-r (f Tripped) _ e))))
+states-at f e Tripped = and-left (f Tripped) _ e
+states-at f e WaitReset = and-left (f WaitReset) _ (and-right (f Tripped) _ e)
+states-at f e Ready = and-left (f Ready) _ (and-right (f WaitReset) _ (and-right (f Tripped) _ e))
+states-at f e WaitStart = and-left (f WaitStart) _ (and-right (f Ready) _ (and-right (f WaitReset) _ (and-right (f Tripped) _ e)))
+states-at f e Normal = and-left (f Normal) _ (and-right (f WaitStart) _ (and-right (f Ready) _ (and-right (f WaitReset) _ (and-right (f Tripped) _ e))))
+states-at f e Delayed = and-right (f Normal) _ (and-right (f WaitStart) _ (and-right (f Ready) _ (and-right (f WaitReset) _ (and-right (f Tripped) _ e))))
 
 -- so it holds of any
 pub every-at : (f : Asks → Bool → EffectState → Bool) → every f ≡ true → (a : Asks) (due : Bool) (p : EffectState) → f a due p ≡ true
