@@ -8,7 +8,7 @@ use native.Mathlib.Nat.{add-zero, eq-or-lt-of-le, le-of-suc-le-suc, not-suc-le-z
 use native.Mathlib.Numerals.{add-one}
 use native.Mathlib.Omega.{arith}
 use borrow.Author.Tests.{not-true, not-false}
-use lib.ListN.{length, take, drop, set, getD, length-append, drop-of-length-le, List·getD-append}
+use lib.ListN.{length, take, drop, set, getD, replicate, length-append, drop-of-length-le, List·getD-append}
 use lib.Seq.{set-at, drop-cons, getD-at, take-at, take-suc, length-take-le}
 use Rattle.bits.specs.Lists.{tabulate, allFrom}
 
@@ -100,3 +100,7 @@ module _ {A : Type 0} where
   all-pass t i (x ∷ xs) d h =
       both (t i x) _ (rw add-zero at (h 0 (omega arith)))
       (all-pass t (i + 1) xs d (λ j k. let n : i + suc j ≡ i + 1 + j = omega arith in rw n at (h (suc j) (suc-le-suc k))))
+
+  pub all-replicate : (t : ℕ → A → Bool) (i n : ℕ) (x : A) → ((j : ℕ) → t j x ≡ true) → allFrom t i (replicate n x) ≡ true
+  all-replicate t i zero x h = refl
+  all-replicate t i (suc n) x h = both (t i x) _ (h i) (all-replicate t (i + 1) n x h)

@@ -1,2 +1,4 @@
 pub mod Answers
 pub mod Scans
+pub mod RightStates
+pub mod Corners

@@ -1,3 +1,4 @@
 pub mod State
 pub mod Scan
 pub mod Run
+pub mod Corners
