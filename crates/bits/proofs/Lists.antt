@@ -1,7 +1,7 @@
 -- Laws of lists that are made or tested by their index.
 use mathlib.Core.Path.{_≡_, refl, ap, ap₂, sym, _∙_}
 use mathlib.Core.Bool.{Bool, true, false, not, _&&_, false≢true}
-use mathlib.Core.List.{List, [], _∷_, _++_, append-assoc, append-nil}
+use mathlib.Core.List.{List, [], _∷_, _++_, map, append-assoc, append-nil}
 use mathlib.Core.Logic.{⊎-elim}
 use Prim.Native.Nat.{ℕ, zero, suc, _+_, _-_, _<_, _≤_, suc-le-suc}
 use native.Mathlib.Nat.{add-zero, eq-or-lt-of-le, le-of-suc-le-suc, not-suc-le-zero}
@@ -104,3 +104,15 @@ module _ {A : Type 0} where
   pub all-replicate : (t : ℕ → A → Bool) (i n : ℕ) (x : A) → ((j : ℕ) → t j x ≡ true) → allFrom t i (replicate n x) ≡ true
   all-replicate t i zero x h = refl
   all-replicate t i (suc n) x h = both (t i x) _ (h i) (all-replicate t (i + 1) n x h)
+
+-- ## Mapped
+
+module _ {A B : Type 0} (f : A → B) where
+  map-append : (xs ys : List A) → map f (xs ++ ys) ≡ map f xs ++ map f ys
+  map-append [] ys = refl
+  map-append (x ∷ xs) ys = ap (λ (l : List B). f x ∷ l) (map-append xs ys)
+
+  pub map-tabulate : (g : ℕ → A) (n : ℕ) → map f (tabulate g n) ≡ tabulate (λ i. f (g i)) n
+  unfolding tabulate
+  map-tabulate g zero = refl
+  map-tabulate g (suc n) = map-append (tabulate g n) (g n ∷ []) ∙ ap (λ (l : List B). l ++ (f (g n) ∷ [])) (map-tabulate g n)

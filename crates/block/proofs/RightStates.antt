@@ -85,10 +85,10 @@ module _ (s : Signals) (x : Slot) where
 -- ## All slots
 
 -- what an effect sees agrees with its settings
-module _ (st : Settings) (w : Words) (right : settingsNumber st ≡ 0) (sixteen : length (st .effects) ≡ 16) (i : ℕ) (h : i < st .count) where
+module _ (st : Settings) (w : Words) (right : settingsNumber st ≡ 0) (i : ℕ) (h : i < st .count) where
   active-inside : bitAnd (signalsOf st w i .active) (getD (st .effects) i noEffect .association) ≡ signalsOf st w i .active
   unfolding signalsOf
-  active-inside = less-inside _ _ _ (association-lt st right i h (omega (arith, h, count-few st right, sixteen)))
+  active-inside = less-inside _ _ _ (association-lt st right i h)
 
   pub slot-keeps : (x : Slot) → slotRight (getD (st .effects) i noEffect) x ≡ true → slotRight (getD (st .effects) i noEffect) (next (signalsOf st w i) x) ≡ true
   unfolding signalsOf
@@ -111,14 +111,14 @@ pub right-state : (st : Settings) (x : State) → x .done ≤ mostScans → allF
 unfolding stateNumber
 right-state st x h a = rw (le-leb (x .done) mostScans h, a)
 
-module _ (st : Settings) (w : Words) (right : settingsNumber st ≡ 0) (sixteen : length (st .effects) ≡ 16) (xs : List Slot) (rights : allFrom (slotOk st) 0 xs ≡ true) where
+module _ (st : Settings) (w : Words) (right : settingsNumber st ≡ 0) (xs : List Slot) (rights : allFrom (slotOk st) 0 xs ≡ true) where
   slot-at : (i : ℕ) → i < length xs → slotOk st i (getD xs i noSlot) ≡ true
   slot-at i k = rw zero-add at (all-at (slotOk st) 0 xs noSlot rights i k)
 
   below : (i : ℕ) → i < length xs → i < st .count → slotOk st i (getD (steps (signals st w) xs) i noSlot) ≡ true
   below i k h =
       rw (step-at (signals st w) xs i noSignals noSlot (rw length-tabulate h) k, getD-tabulate (signalsOf st w) (st .count) i noSignals h, lt-ltb i (st .count) h)
-      (slot-keeps st w right sixteen i h (getD xs i noSlot) (rw (lt-ltb i (st .count) h) at (slot-at i k)))
+      (slot-keeps st w right i h (getD xs i noSlot) (rw (lt-ltb i (st .count) h) at (slot-at i k)))
 
   past : (i : ℕ) → i < length xs → st .count ≤ i → slotOk st i (getD (steps (signals st w) xs) i noSlot) ≡ true
   past i k h = rw (step-past (signals st w) xs i noSlot (rw length-tabulate h)) (slot-at i k)
@@ -146,8 +146,8 @@ pub fresh-right : (st : Settings) → stateNumber st fresh ≡ 0
 fresh-right st = right-state st fresh (omega arith) (all-replicate (slotOk st) 0 16 noSlot (unused-right st))
 
 -- a scan of a right state gives a right state
-pub scan-keeps-right : (st : Settings) (w : Words) (x : State) → settingsNumber st ≡ 0 → length (st .effects) ≡ 16 → stateNumber st x ≡ 0 → x .done < mostScans
+pub scan-keeps-right : (st : Settings) (w : Words) (x : State) → settingsNumber st ≡ 0 → stateNumber st x ≡ 0 → x .done < mostScans
     → stateNumber st (after st w x) ≡ 0
 unfolding after
-scan-keeps-right st w x right sixteen ok h =
-    right-state st (after st w x) (omega arith) (steps-right st w right sixteen (x .slots) (slots-right st x ok))
+scan-keeps-right st w x right ok h =
+    right-state st (after st w x) (omega arith) (steps-right st w right (x .slots) (slots-right st x ok))

@@ -1,4 +1,5 @@
 pub mod State
 pub mod Scan
+pub mod Held
 pub mod Run
 pub mod Corners

@@ -1,12 +1,14 @@
 // The block: its state, what is right of it, and one scan of it. Document 01, "Settings, row, state", "The rules of one
 // scan" and "Refusal numbers".
 ghost use mathlib.Core.Path.{_≡_};
-ghost use Prim.Native.Nat.{_<_};
+ghost use Prim.Native.Nat.{_*_, _<_};
 ghost use lib.ListN.{length};
 ghost use Rattle.bits.specs.Lists.{allFrom};
+ghost use Rattle.bits.specs.Words.{one};
 ghost use Rattle.settings.specs.Limits.{mostScans};
 ghost use Rattle.block.specs.State.{timerRight, firstRight, slotRight, slotUnused, slotOk, stateNumber, fresh as freshState};
 ghost use Rattle.block.specs.Scan.{scansNumber, inputNumber, refusedScan, scanOf, scanInto};
+ghost use Rattle.block.specs.Held.{refusedHeld, heldOf, heldInto};
 ghost use Rattle.block.specs.Run.{startOf, reachedBy};
 use effects::Progress;
 use rules::EffectState;
@@ -32,6 +34,18 @@ pub struct Scanned {
     pub effect: u16,
     pub latent: u16,
     pub records: usize,
+}
+
+// What a held run answers: as a scan, with the words of its last scan, and its live and exercised scans.
+pub struct Held {
+    pub number: u8,
+    pub place: usize,
+    pub state: State,
+    pub effect: u16,
+    pub latent: u16,
+    pub records: usize,
+    pub live: u32,
+    pub exercised: u32,
 }
 
 // ---- what is right of a state: 8
@@ -159,7 +173,7 @@ fn refused_scan(number: u8, x: State) -> Scanned
     }
 }
 
-// A run that starts at a state, and the state that it has come to.
+// A run that starts at a state, and the state that a run has come to.
 fn start(x: State) -> Progress
     ensures { λ r. ⌜ r ≡ startOf x ⌝ }
 {
@@ -182,6 +196,30 @@ fn reached(p: Progress) -> State
         next: p.next,
         slots: slots,
     }
+}
+
+// ---- a held run
+
+fn refused_held(number: u8, x: State) -> Held
+    ensures { λ r. ⌜ r ≡ refusedHeld x number ⌝ }
+{
+    Held {
+        number: number,
+        place: 0,
+        state: x,
+        effect: 0,
+        latent: 0,
+        records: 0,
+        live: 0,
+        exercised: 0,
+    }
+}
+
+// The exercised scans of a hold.
+fn exercised_scans(hold: u32, exercised: bool) -> u32
+    ensures { λ r. ⌜ r ≡ hold * one exercised ⌝ }
+{
+    if exercised { hold } else { 0 }
 }
 
 impl State {
@@ -237,6 +275,39 @@ impl State {
             effect: effects::effect_word(count, after),
             latent: effects::latent_word(count, ss),
             records: at / 12,
+        }
+    }
+
+    // A held run in one stroke: the row's words for its hold, the reset word in the first scan only. Its records go to the
+    // front of `out`, as those of a scan do.
+    pub fn held(self, st: Settings, row: Row, out: &mut [u8]) -> Held
+        ensures { λ r. ⌜ r ≡ heldOf st row self (length (now (out .entry))) ⌝ }
+        ensures { λ _. ⌜ now (out .exit) ≡ heldInto st row self (now (out .entry)) ⌝ }
+    {
+        let number = input_number(st, self, row);
+        if number != 0 {
+            return refused_held(number, self);
+        }
+        let count = st.count as usize;
+        let ss = settings::all_signals(st, row.words);
+        let slots = self.slots;
+        let mut space = [0u8; 384];
+        let p = rounds::stroke(&mut space, row.hold, count, ss, self.done, self.next, slots);
+        let at = p.at;
+        if out.len() < at {
+            return refused_held(10, self);
+        }
+        bits::copy_front(&space, at, out);
+        let after = p.slots;
+        Held {
+            number: 0,
+            place: 0,
+            state: reached(p),
+            effect: effects::effect_word(count, after),
+            latent: effects::latent_word(count, ss),
+            records: at / 12,
+            live: p.live,
+            exercised: exercised_scans(row.hold, effects::any_exercised(count, ss)),
         }
     }
 }

@@ -4,9 +4,9 @@ use mathlib.Core.Bool.{Bool, true, false, cond, _&&_}
 use Prim.Native.Nat.{ℕ, _^_, _≤_, _<_}
 use native.Mathlib.Nat.{zero-add}
 use native.Mathlib.Omega.{arith}
-use borrow.Author.Tests.{leb-true, ltb-true, lt-ltb}
+use borrow.Author.Tests.{leb-true, ltb-true, ltb-false, lt-ltb}
 use lib.Dec.{leb, ltb}
-use lib.ListN.{length, getD}
+use lib.ListN.{length, getD, List·getD-eq-default}
 use lib.Pow.{pow-mono}
 use Rattle.bits.specs.Lists.{allFrom}
 use Rattle.bits.proofs.Lists.{and-left, and-right, all-at}
@@ -42,16 +42,22 @@ module _ (st : Settings) (right : settingsNumber st ≡ 0) where
   pub period-most : st .period ≤ 1000
   period-most = leb-true _ _ (and-right (leb 1 (st .causes) && leb (st .causes) 16 && ltb (st .options) 8 && leb 1 (st .period)) _ block-right)
 
-  module _ (i : ℕ) (h : i < st .count) (k : i < length (st .effects)) where
+  module _ (i : ℕ) (h : i < st .count) where
     abbrev e : Effect
     e = getD (st .effects) i noEffect
 
-    effect-right : effectOk (st .causes) e ≡ true
-    effect-right =
+    effect-right : i < length (st .effects) → effectOk (st .causes) e ≡ true
+    effect-right k =
         rw (zero-add, lt-ltb i (st .count) h) at (all-at (slotOk (limitsOf st)) 0 (st .effects) noEffect (and-right (countOk (st .count)) _ effects-right) i k)
 
     -- the association word of an effect has 16 bits
     pub association-lt : e .association < 65536
-    association-lt =
-        let lt : e .association < 2 ^ st .causes = ltb-true _ _ (and-right (leb 1 (e .association)) _ (and-left (leb 1 (e .association) && ltb (e .association) (2 ^ st .causes)) _ effect-right)) in
-        omega (arith, lt, pow-mono causes-few)
+    association-lt = go (ltb i (length (st .effects))) refl
+      where
+        go : (b : Bool) → ltb i (length (st .effects)) ≡ b → e .association < 65536
+        go true k =
+            let lt : e .association < 2 ^ st .causes =
+            ltb-true _ _ (and-right (leb 1 (e .association)) _ (and-left (leb 1 (e .association) && ltb (e .association) (2 ^ st .causes)) _ (effect-right (ltb-true i (length (st .effects)) k))))
+            in
+            omega (arith, lt, pow-mono causes-few)
+        go false k = rw (List·getD-eq-default (st .effects) noEffect {n = i} (ltb-false i (length (st .effects)) k)) (omega arith)

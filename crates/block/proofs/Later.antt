@@ -1,0 +1,92 @@
+-- The scans of a hold after the first: with the reset word zero, the words are right again, and the effects see the same but
+-- for the reset.
+use mathlib.Core.Path.{_≡_, refl, ap, sym, _∙_}
+use mathlib.Core.Bool.{Bool, true, false, _&&_, _||_}
+use mathlib.Core.List.{List, [], _∷_, _++_, map}
+use Prim.Native.Nat.{ℕ, zero, suc, _%_, _/_, _^_, _≤_, _<_}
+use native.Mathlib.Nat.{zero-div}
+use native.Mathlib.Omega.{arith}
+use borrow.Author.Tests.{lt-ltb, le-leb}
+use lib.Dec.{eqb, ltb, leb}
+use lib.ListN.{length, getD, length-map, List·getD-map}
+use lib.Pow.{pow-pos}
+use Rattle.bits.specs.Lists.{tabulate}
+use Rattle.bits.specs.Words.{bitOf, wordOf}
+use Rattle.bits.proofs.Lists.{and-left, and-right, map-tabulate, tabulate-ext}
+use Rattle.bits.proofs.Words.{wordOf-ext}
+use Rattle.rules.specs.declared.Signals.{Signals}
+use Rattle.rules.specs.Rules.{isLatent, isExercised, noSignals}
+use Rattle.effects.specs.Scan.{latentWord, anyExercised}
+use Rattle.rounds.specs.Steps.{clear}
+use Rattle.rounds.specs.Stroke.{Timed}
+use Rattle.settings.specs.declared.Limits.{Limits}
+use Rattle.settings.specs.declared.Settings.{Settings}
+use Rattle.settings.specs.declared.Words.{Words}
+use Rattle.settings.specs.declared.Row.{Row}
+use Rattle.settings.specs.Refusals.{orElse, unless}
+use Rattle.settings.specs.Right.{settingsNumber, wordsOk, fieldsNumber, apartNumber, severalNumber, wordsNumber, holdNumber, rowNumber}
+use Rattle.settings.specs.Signals.{signals, signalsOf}
+use Rattle.settings.proofs.Refusals.{or-else-none, unless-none}
+use Rattle.settings.proofs.Right.{period-some, period-most}
+use Rattle.block.specs.Scan.{once}
+use Rattle.block.specs.Held.{later}
+
+-- ## Right words
+
+-- a test among others, exchanged for one that holds too
+exchanged : (p r f t n r′ : Bool) → (p && r && f && t && n) ≡ true → r′ ≡ true → (p && r′ && f && t && n) ≡ true
+exchanged p r f t n r′ e g =
+    let e₁ = and-left (p && r && f && t) n e in
+    let e₂ = and-left (p && r && f) t e₁ in
+    let e₃ = and-left (p && r) f e₂ in
+    rw (and-left p r e₃, g, and-right (p && r) f e₂, and-right (p && r && f) t e₁, and-right (p && r && f && t) n e)
+
+pub later-right : (k : Limits) (w : Words) → wordsNumber k w ≡ 0 → wordsNumber k (later w) ≡ 0
+unfolding wordsNumber
+later-right k w e =
+    let parts = or-else-none (fieldsNumber k w) _ e in
+    let ok = unless-none (wordsOk k w) 3 (parts .0) in
+    rw (exchanged _ _ _ _ _ (ltb 0 (2 ^ k .count)) ok (lt-ltb 0 (2 ^ k .count) (pow-pos (k .count)))) (parts .1)
+
+-- the words of a right row are right for a single scan
+pub once-right : (k : Limits) (w : Words) → wordsNumber k w ≡ 0 → rowNumber k (once w) ≡ 0
+unfolding rowNumber
+once-right k w e = e
+
+pub row-words : (k : Limits) (row : Row) → rowNumber k row ≡ 0 → wordsNumber k (row .words) ≡ 0
+unfolding rowNumber
+row-words k row e = or-else-none (holdNumber (row .hold)) _ e .1
+
+-- ## What the effects see
+
+no-reset : (i : ℕ) → bitOf 0 i ≡ false
+no-reset i = ap (λ (x : ℕ). eqb (x % 2) 1) (zero-div (2 ^ i))
+
+signals-at : (st : Settings) (w : Words) (i : ℕ) → signalsOf st (later w) i ≡ clear (signalsOf st w i)
+unfolding signalsOf
+signals-at st w i = rw (no-reset i)
+
+pub signals-later : (st : Settings) (w : Words) → signals st (later w) ≡ map clear (signals st w)
+signals-later st w = tabulate-ext _ _ (st .count) (λ i h. signals-at st w i) ∙ sym (map-tabulate clear (signalsOf st w) (st .count))
+
+-- the latent word and the exercised scans do not read the reset
+pub latent-clear : (ss : List Signals) → latentWord (map clear ss) ≡ latentWord ss
+latent-clear ss = rw (length-map ss clear) (wordOf-ext _ _ (length ss) (λ i h. ap isLatent (List·getD-map clear ss i noSignals)))
+
+pub exercised-clear : (ss : List Signals) → anyExercised (map clear ss) ≡ anyExercised ss
+exercised-clear [] = refl
+exercised-clear (s ∷ ss) = ap (λ (b : Bool). isExercised s || b) (exercised-clear ss)
+
+timed-append : (xs ys : List Signals) → Timed xs → Timed ys → Timed (xs ++ ys)
+timed-append [] ys h k = k
+timed-append (x ∷ xs) ys h k = (h .0, h .1, timed-append xs ys (h .2) k)
+
+timed-tabulate : (f : ℕ → Signals) (n : ℕ) → ((i : ℕ) → (0 < f i .period) × (f i .period ≤ 1000)) → Timed (tabulate f n)
+unfolding tabulate
+timed-tabulate f zero h = tt
+timed-tabulate f (suc n) h = timed-append (tabulate f n) (f n ∷ []) (timed-tabulate f n h) (h n .0, h n .1, tt)
+
+-- every effect sees the period of the settings
+pub signals-timed : (st : Settings) (w : Words) → settingsNumber st ≡ 0 → Timed (signals st w)
+unfolding signalsOf
+signals-timed st w right = timed-tabulate (signalsOf st w) (st .count) (λ i. (period-some st right, period-most st right))

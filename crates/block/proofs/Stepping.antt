@@ -1,0 +1,99 @@
+-- Single scans of a right state are all accepted, and what they give is what the run over lists of signals and slots gives.
+use mathlib.Core.Path.{_≡_, refl, ap, ap₂, sym, _∙_}
+use mathlib.Core.Bool.{Bool, true, false}
+use mathlib.Core.List.{List, [], _∷_, _++_, map}
+use Prim.Native.Nat.{ℕ, zero, suc, _+_, _*_, _≤_, _<_}
+use native.Mathlib.Nat.{mul-zero, add-zero, suc-mul}
+use native.Mathlib.Omega.{arith}
+use borrow.Author.Tests.{le-leb}
+use lib.Dec.{leb}
+use lib.ListN.{length}
+use Rattle.bits.specs.Words.{one}
+use Rattle.rules.specs.declared.Signals.{Signals}
+use Rattle.effects.specs.declared.Event.{Event}
+use Rattle.effects.specs.Scan.{effectWord, latentWord, anyExercised}
+use Rattle.rounds.specs.Steps.{Run, clear, scan, held}
+use Rattle.settings.specs.declared.Settings.{Settings}
+use Rattle.settings.specs.declared.Words.{Words}
+use Rattle.settings.specs.Limits.{mostScans}
+use Rattle.settings.specs.Refusals.{orElse, unless}
+use Rattle.settings.specs.Right.{limitsOf, settingsNumber, wordsNumber, rowNumber}
+use Rattle.settings.specs.Signals.{signals}
+use Rattle.block.specs.declared.State.{State}
+use Rattle.block.specs.declared.Scanned.{Scanned}
+use Rattle.block.specs.State.{stateNumber}
+use Rattle.block.specs.Scan.{scansNumber, inputNumber, once, after, events, scanNumber, grantedScan, refusedScan, scanOf}
+use Rattle.block.specs.Held.{later, Stepped, single, step, stepped}
+use Rattle.block.proofs.Answers.{granted-in-room}
+use Rattle.block.proofs.Later.{later-right, once-right, signals-later, latent-clear, exercised-clear}
+use Rattle.block.proofs.RightStates.{scan-keeps-right}
+
+-- the run over lists that single scans have come to
+abbrev pub runOf : Stepped → Run
+runOf r = record { done = r .state .done; next = r .state .next; slots = r .state .slots; events = r .events; live = r .live }
+
+-- ## Each single scan is accepted
+
+module _ (st : Settings) (right : settingsNumber st ≡ 0) where
+  input-accepted : (w : Words) (x : State) → wordsNumber (limitsOf st) w ≡ 0 → stateNumber st x ≡ 0 → x .done + 1 ≤ mostScans → inputNumber st x (once w) ≡ 0
+  unfolding inputNumber
+  input-accepted w x ok state h = rw (right, state, once-right (limitsOf st) w ok, le-leb (x .done + 1) mostScans h)
+
+  -- a scan of a right state and right words, with room, is accepted
+  pub scan-accepted : (w : Words) (x : State) (room : ℕ) → wordsNumber (limitsOf st) w ≡ 0 → stateNumber st x ≡ 0 → x .done + 1 ≤ mostScans → 12 * length (events st w x) ≤ room
+      → scanOf st w x room ≡ grantedScan st w x
+  unfolding scanOf scanNumber
+  scan-accepted w x room ok state h fits =
+      sym (granted-in-room (inputNumber st x (once w)) (length (events st w x)) room 0 (sym (input-accepted w x ok state h)) (grantedScan st w x) (refusedScan x) refl fits)
+
+  -- what can go on for n scans more
+  pub record Ready (w : Words) (n : ℕ) (x : State) : Type 0 where
+    pub words : wordsNumber (limitsOf st) w ≡ 0
+    pub state : stateNumber st x ≡ 0
+    pub scans : x .done + n ≤ mostScans
+
+  module _ (w : Words) (n : ℕ) (x : State) (ready : Ready w (suc n) x) where
+    pub single-accepted : single st w x ≡ grantedScan st w x
+    single-accepted = scan-accepted w x (12 * length (events st w x)) (ready .words) (ready .state) (omega (arith, ready .scans)) (omega arith)
+
+    pub ready-after : Ready (later w) n (single st w x .state)
+    unfolding after
+    ready-after =
+        rw single-accepted
+        (record {
+          words = later-right (limitsOf st) w (ready .words);
+          state = scan-keeps-right st w x right (ready .state) (omega (arith, ready .scans));
+          scans = omega (arith, ready .scans);
+        })
+
+  -- ## What single scans give
+
+  step-runs : (w : Words) (n : ℕ) (r : Stepped) → Ready w (suc n) (r .state) → runOf (step st w r) ≡ scan (signals st w) (runOf r)
+  unfolding after events
+  step-runs w n r ready = rw (single-accepted w n (r .state) ready)
+
+  -- the state, the events and the live scans
+  pub stepped-runs : (n : ℕ) (w : Words) (r : Stepped) → Ready w n (r .state) → runOf (stepped st w n r) ≡ held (signals st w) n (runOf r)
+  stepped-runs zero w r ready = refl
+  stepped-runs (suc n) w r ready =
+      stepped-runs n (later w) (step st w r) (ready-after w n (r .state) ready)
+      ∙ ap₂ (λ (ss : List Signals) (q : Run). held ss n q) (signals-later st w) (step-runs w n r ready)
+
+  -- the words of the last scan
+  pub stepped-effect : (n : ℕ) (w : Words) (r : Stepped) → Ready w (suc n) (r .state)
+      → stepped st w (suc n) r .effect ≡ effectWord (st .count) (stepped st w (suc n) r .state .slots)
+  stepped-effect zero w r ready = rw (single-accepted w zero (r .state) ready)
+  stepped-effect (suc n) w r ready = stepped-effect n (later w) (step st w r) (ready-after w (suc n) (r .state) ready)
+
+  pub stepped-latent : (n : ℕ) (w : Words) (r : Stepped) → Ready w (suc n) (r .state) → stepped st w (suc n) r .latent ≡ latentWord (signals st w)
+  stepped-latent zero w r ready = rw (single-accepted w zero (r .state) ready)
+  stepped-latent (suc n) w r ready =
+      stepped-latent n (later w) (step st w r) (ready-after w (suc n) (r .state) ready) ∙ rw (signals-later st w) (latent-clear (signals st w))
+
+-- exercised scans: all of the hold, or none
+pub stepped-exercised : (st : Settings) (n : ℕ) (w : Words) (r : Stepped) → stepped st w n r .exercised ≡ r .exercised + n * one (anyExercised (signals st w))
+stepped-exercised st zero w r = omega arith
+stepped-exercised st (suc n) w r =
+    let e : one (anyExercised (signals st (later w))) ≡ one (anyExercised (signals st w)) = ap one (ap anyExercised (signals-later st w) ∙ exercised-clear (signals st w)) in
+    let b = one (anyExercised (signals st w)) in
+    stepped-exercised st n (later w) (step st w r) ∙ rw (e, suc-mul n b) (omega arith)
