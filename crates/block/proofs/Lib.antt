@@ -5,3 +5,4 @@ pub mod Corners
 pub mod Later
 pub mod Stepping
 pub mod Runs
+pub mod Demands

@@ -73,7 +73,8 @@ module _ (st : Settings) (row : Row) (x : State) (n : ℕ) (is : n ≡ inputNumb
   words-are : (run st row x .effect ≡ effectWord (st .count) (run st row x .state .slots)) × (run st row x .latent ≡ latentWord (signals st (row .words)))
   words-are = from-hold (row .hold) (hold-some st row x n is z) refl
 
-  exercised-is : run st row x .exercised ≡ row .hold * one (anyExercised (signals st (row .words)))
+  -- exercised: the hold where some effect's active word is not 0, else 0
+  pub exercised-is : run st row x .exercised ≡ row .hold * one (anyExercised (signals st (row .words)))
   unfolding run
   exercised-is = stepped-exercised st (row .hold) (row .words) (start x) ∙ zero-add _
 

@@ -3,7 +3,7 @@ use mathlib.Core.Path.{_≡_, refl, ap, ap₂, sym, _∙_}
 use mathlib.Core.Bool.{Bool, true, false}
 use mathlib.Core.List.{List, [], _∷_, _++_, map}
 use Prim.Native.Nat.{ℕ, zero, suc, _+_, _*_, _≤_, _<_}
-use native.Mathlib.Nat.{mul-zero, add-zero, suc-mul}
+use native.Mathlib.Nat.{zero-add, suc-add, suc-mul}
 use native.Mathlib.Omega.{arith}
 use borrow.Author.Tests.{le-leb}
 use lib.Dec.{leb}
@@ -31,6 +31,15 @@ use Rattle.block.proofs.RightStates.{scan-keeps-right}
 -- the run over lists that single scans have come to
 abbrev pub runOf : Stepped → Run
 runOf r = record { done = r .state .done; next = r .state .next; slots = r .state .slots; events = r .events; live = r .live }
+
+-- the words of scan number k + 1 of a hold
+abbrev pub wordsAt : ℕ → Words → Words
+wordsAt zero w = w
+wordsAt (suc k) w = later w
+
+later-again : (k : ℕ) (w : Words) → wordsAt k (later w) ≡ later w
+later-again zero w = refl
+later-again (suc k) w = refl
 
 -- ## Each single scan is accepted
 
@@ -65,6 +74,13 @@ module _ (st : Settings) (right : settingsNumber st ≡ 0) where
           state = scan-keeps-right st w x right (ready .state) (omega (arith, ready .scans));
           scans = omega (arith, ready .scans);
         })
+
+  -- after k scans, n more can follow
+  pub ready-at : (k n : ℕ) (w : Words) (r : Stepped) → Ready w (k + n) (r .state) → Ready (wordsAt k w) n (stepped st w k r .state)
+  ready-at zero n w r ready = rw zero-add at ready
+  ready-at (suc k) n w r ready =
+      let next : Ready w (suc (k + n)) (r .state) = rw suc-add at ready in
+      rw (later-again k w) at (ready-at k n (later w) (step st w r) (ready-after w (k + n) (r .state) next))
 
   -- ## What single scans give
 

@@ -200,13 +200,13 @@ fn reached(p: Progress) -> State
 
 // ---- a held run
 
-fn refused_held(number: u8, x: State) -> Held
-    ensures { λ r. ⌜ r ≡ refusedHeld x number ⌝ }
+fn refused_held(number: u8, given: State) -> Held
+    ensures { λ r. ⌜ r ≡ refusedHeld given number ⌝ }
 {
     Held {
         number: number,
         place: 0,
-        state: x,
+        state: given,
         effect: 0,
         latent: 0,
         records: 0,

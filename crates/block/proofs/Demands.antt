@@ -1,0 +1,101 @@
+-- The theorems that a user of the block needs, on one page. The contracts of `State::scan` and `State::held` give their whole
+-- answers by the definitions `scanOf`, `scanInto`, `heldOf` and `heldInto`; here stands what those definitions come to.
+use mathlib.Core.Path.{_≡_, refl, ap, ap₂, sym, _∙_}
+use mathlib.Core.List.{List}
+use Prim.Native.Nat.{ℕ, zero, suc, _+_, _*_, _≤_, _<_}
+use native.Mathlib.Nat.{add-sub-of-le, add-zero}
+use native.Mathlib.Omega.{arith}
+use borrow.Author.Tests.{le-leb}
+use lib.ListN.{length, getD}
+use Rattle.bits.specs.Words.{one}
+use Rattle.bits.proofs.Lists.{length-tabulate}
+use Rattle.rules.specs.declared.Slot.{Slot}
+use Rattle.effects.specs.Scan.{anyExercised}
+use Rattle.rounds.specs.Steps.{Run, start as startRun, held, moves}
+use Rattle.rounds.specs.Stroke.{byRounds}
+use Rattle.rounds.proofs.Effect.{moves-at-most-two}
+use Rattle.rounds.proofs.Held.{one-stroke}
+use Rattle.settings.specs.declared.Settings.{Settings}
+use Rattle.settings.specs.declared.Words.{Words}
+use Rattle.settings.specs.declared.Row.{Row}
+use Rattle.settings.specs.Limits.{mostScans}
+use Rattle.settings.specs.Right.{limitsOf, settingsNumber, wordsNumber, rowNumber}
+use Rattle.settings.specs.Signals.{signals, signalsOf}
+use Rattle.block.specs.declared.State.{State}
+use Rattle.block.specs.declared.Scanned.{Scanned}
+use Rattle.block.specs.State.{stateNumber, fresh}
+use Rattle.block.specs.Scan.{inputNumber, atFront, events, scanOf, grantedScan}
+use Rattle.block.specs.Held.{start, stepped, run, grantedHeld, refusedHeld, heldNumber, heldOf, heldInto}
+use Rattle.block.proofs.Answers.{granted-in-room}
+use Rattle.block.proofs.Later.{row-words, signals-timed}
+use Rattle.block.proofs.RightStates as states
+use Rattle.block.proofs.Runs as runs
+use Rattle.block.proofs.Stepping.{Ready, runOf, wordsAt, scan-accepted, ready-at}
+
+-- ## Demand 2: a scan
+
+-- a replay starts right, and a scan keeps it right: 8 never comes up
+pub a-fresh-state-is-right : (st : Settings) → stateNumber st fresh ≡ 0
+a-fresh-state-is-right = states.fresh-right
+
+-- a scan of what is right, with room for its records, is accepted, and leaves a right state
+pub a-right-scan-is-accepted : (st : Settings) (w : Words) (x : State) (room : ℕ) → settingsNumber st ≡ 0 → stateNumber st x ≡ 0 → wordsNumber (limitsOf st) w ≡ 0
+    → x .done + 1 ≤ mostScans → 12 * length (events st w x) ≤ room
+    → (scanOf st w x room ≡ grantedScan st w x) × (stateNumber st (scanOf st w x room .state) ≡ 0)
+a-right-scan-is-accepted st w x room right state words scans fits =
+    let e = scan-accepted st right w x room words state scans fits in
+    (e, rw e (states.scan-keeps-right st w x right state (omega arith)))
+
+-- ## Demand 3: a held run
+
+module _ (st : Settings) (row : Row) (x : State) (settings : settingsNumber st ≡ 0) (state : stateNumber st x ≡ 0) (right-row : rowNumber (limitsOf st) row ≡ 0)
+    (scans : x .done + row .hold ≤ mostScans) where
+  input : 0 ≡ inputNumber st x row
+  unfolding inputNumber
+  input = rw (settings, state, right-row, le-leb (x .done + row .hold) mostScans scans)
+
+  -- every one of its single scans is accepted, where it is lent the room for its records: no 8, 9 or 10 comes in between
+  pub every-scan-is-accepted : (k : ℕ) → k < row .hold → (room : ℕ)
+      → 12 * length (events st (wordsAt k (row .words)) (stepped st (row .words) k (start x) .state)) ≤ room
+      → scanOf st (wordsAt k (row .words)) (stepped st (row .words) k (start x) .state) room .number ≡ 0
+  every-scan-is-accepted k h room fits =
+      let ready : Ready st settings (row .words) (k + 1) x = record { words = row-words (limitsOf st) row right-row; state = state; scans = omega arith } in
+      let now = ready-at st settings k 1 (row .words) (start x) ready in
+      ap (λ (a : Scanned). a .number) (scan-accepted st settings (wordsAt k (row .words)) (stepped st (row .words) k (start x) .state) room (now .words) (now .state) (now .scans) fits)
+
+  -- with room for its records, the answer in one stroke is that of its single scans (state, words, counts), and so are the bytes
+  pub one-stroke-is-single-scans : (out : List ℕ) → 12 * length (run st row x .events) ≤ length out
+      → (heldOf st row x (length out) ≡ grantedHeld st row x) × (heldInto st row x out ≡ atFront (run st row x .events) out)
+  unfolding heldOf heldInto heldNumber
+  one-stroke-is-single-scans out fits = (
+    sym (granted-in-room (inputNumber st x row) (length (run st row x .events)) (length out) 0 input (grantedHeld st row x) (refusedHeld x) refl fits),
+    sym (granted-in-room (inputNumber st x row) (length (run st row x .events)) (length out) 0 input (atFront (run st row x .events) out) (λ n. out) refl fits),
+  )
+
+  -- rounds, as many as twice the effects and one, come to those single scans
+  pub rounds-suffice : byRounds (2 * st .count + 1) (signals st (row .words)) (row .hold) (startRun (x .done) (x .next) (x .slots)) ≡ runOf (run st row x)
+  rounds-suffice =
+      let ss = signals st (row .words) in
+      let r = startRun (x .done) (x .next) (x .slots) in
+      ap (λ (n : ℕ). byRounds (2 * n + 1) ss (row .hold) r) (sym (length-tabulate (signalsOf st (row .words)) (st .count)))
+      ∙ one-stroke ss (row .hold) r (signals-timed st (row .words) settings)
+      ∙ sym (runs.run-is st row x 0 input refl)
+
+  -- the scans in which an effect changes state never outnumber twice the effects
+  pub live-at-most-twice-the-effects : run st row x .live ≤ 2 * st .count
+  live-at-most-twice-the-effects = runs.live-few st row x 0 input refl
+
+  -- exercised scans are the hold where some effect's active word is not 0, else 0
+  pub exercised-is-the-hold-or-nothing : run st row x .exercised ≡ row .hold * one (anyExercised (signals st (row .words)))
+  exercised-is-the-hold-or-nothing = runs.exercised-is st row x 0 input refl
+
+  -- a held run of a right state gives a right state
+  pub a-held-run-keeps-right : stateNumber st (run st row x .state) ≡ 0
+  unfolding run
+  a-held-run-keeps-right =
+      let ready : Ready st settings (row .words) (row .hold + 0) x = record { words = row-words (limitsOf st) row right-row; state = state; scans = omega arith } in
+      ready-at st settings (row .hold) 0 (row .words) (start x) ready .state
+
+-- each effect changes state at most twice in a held run
+pub each-effect-moves-at-most-twice : (st : Settings) (row : Row) (i : ℕ) (x : Slot) → moves (signalsOf st (row .words) i) (row .hold) x ≤ 2
+each-effect-moves-at-most-twice st row i x = moves-at-most-two (signalsOf st (row .words) i) (row .hold) x
