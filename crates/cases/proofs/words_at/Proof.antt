@@ -1,0 +1,34 @@
+-- `cases::words_at` meets its contract: its fields are what their readers ensure.
+use borrow.Author.Needs.{needs}
+use Rattle.cases.specs.Given.{wordsAt}
+use Rattle.cases.proofs.words_at.Statement.{statement}
+use Rattle.cases.proofs.words_at.Tie as tie
+
+returns : tie.Need-returns
+unfolding wordsAt
+returns c = simp (c .get1610 .ensures, c .before .get169 .ensures, c .before .before .get168 .ensures, c .before .before .before .get167 .ensures, c .before .before .before .before .get166 .ensures, c .before .before .before .before .before .get165 .ensures, c .before .before .before .before .before .before .get164 .ensures, c .before .before .before .before .before .before .before .get163 .ensures, c .before .before .before .before .before .before .before .before .get162 .ensures, c .before .before .before .before .before .before .before .before .before .get16 .ensures)
+
+pub words-at-spec : {M : Type 1} → statement M
+words-at-spec =
+    tie.close
+    (tie.spec
+    (λ c κs. search needs)
+    (λ c. search needs)
+    (λ c κs. search needs)
+    (λ c. search needs)
+    (λ c κs. search needs)
+    (λ c. search needs)
+    (λ c κs. search needs)
+    (λ c. search needs)
+    (λ c κs. search needs)
+    (λ c. search needs)
+    (λ c κs. search needs)
+    (λ c. search needs)
+    (λ c κs. search needs)
+    (λ c. search needs)
+    (λ c κs. search needs)
+    (λ c. search needs)
+    (λ c κs. search needs)
+    (λ c. search needs)
+    (λ c κs. search needs)
+    returns)

@@ -1,0 +1,64 @@
+-- What a case gives: settings, a state and words, at their places in its bytes, and the lent buffer. Numbers are
+-- big-endian; second/README.md lays the streams out.
+use Prim.Native.Nat.{ℕ, _+_, _*_, _%_}
+use mathlib.Core.Bool.{cond}
+use mathlib.Core.List.{List}
+use lib.Dec.{eqb}
+use Rattle.bits.specs.Lists.{tabulate}
+use Rattle.bits.specs.Numbers.{numAt}
+use Rattle.rules.specs.declared.EffectState.{EffectState}
+use Rattle.rules.specs.declared.EffectState.the-variants.{Tripped, WaitReset, Ready, WaitStart, Normal, Delayed}
+use Rattle.rules.specs.declared.Slot.{Slot}
+use Rattle.settings.specs.declared.Effect.{Effect}
+use Rattle.settings.specs.declared.Settings.{Settings}
+use Rattle.settings.specs.declared.Words.{Words}
+use Rattle.block.specs.declared.State.{State}
+
+-- effect i of those that stand from `at` on: association 2, delay 4
+unfoldable pub effectAt : List ℕ → ℕ → ℕ → Effect
+effectAt s at i = record { association = numAt 2 s (at + 6 * i); delay = numAt 4 s (at + 6 * i + 2) }
+
+-- cause count 1, options 1, period 2, effect count 1, and sixteen effects
+unfoldable pub settingsAt : List ℕ → ℕ → Settings
+settingsAt s at =
+    record {
+      causes = numAt 1 s at;
+      options = numAt 1 s (at + 1);
+      period = numAt 2 s (at + 2);
+      count = numAt 1 s (at + 4);
+      effects = tabulate (effectAt s (at + 5)) 16;
+    }
+
+-- ten words of 2
+unfoldable pub wordsAt : List ℕ → ℕ → Words
+wordsAt s at =
+    record {
+      values = numAt 2 s at;
+      bad = numAt 2 s (at + 2);
+      mask = numAt 2 s (at + 4);
+      «require_reset» = numAt 2 s (at + 6);
+      «reset_permit» = numAt 2 s (at + 8);
+      «start_permit» = numAt 2 s (at + 10);
+      reset = numAt 2 s (at + 12);
+      «force_permit» = numAt 2 s (at + 14);
+      «force_trip» = numAt 2 s (at + 16);
+      «force_normal» = numAt 2 s (at + 18);
+    }
+
+-- the state of a code; a code above 5 stands in no stream
+abbrev pub stateOf : ℕ → EffectState
+stateOf k =
+    cond (eqb k 0) Tripped
+    (cond (eqb k 1) WaitReset (cond (eqb k 2) Ready (cond (eqb k 3) WaitStart (cond (eqb k 4) Normal Delayed))))
+
+-- slot i of those that stand from `at` on: state code 1, timer 4, first-out 2
+unfoldable pub slotAt : List ℕ → ℕ → ℕ → Slot
+slotAt s at i = record { state = stateOf (numAt 1 s (at + 7 * i)); timer = numAt 4 s (at + 7 * i + 1); first = numAt 2 s (at + 7 * i + 5) }
+
+-- scans done 4, next sequence number 2, and sixteen slots
+unfoldable pub stateAt : List ℕ → ℕ → State
+stateAt s at = record { done = numAt 4 s at; next = numAt 2 s (at + 4); slots = tabulate (slotAt s (at + 6)) 16 }
+
+-- byte i of the lent buffer before the call
+abbrev pub fillAt : ℕ → ℕ
+fillAt i = (7 * i + 3) % 256

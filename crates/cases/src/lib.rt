@@ -1,0 +1,286 @@
+// What the programs that answer streams of cases share: settings, a state and words read from the bytes of a case, the
+// bytes of an answer, the filling of a lent buffer, and hexadecimal digits. second/README.md lays the streams out.
+ghost use mathlib.Core.Path.{_≡_};
+ghost use mathlib.Core.List.{[], _∷_, _++_};
+ghost use Prim.Native.Nat.{_+_, _*_, _%_, _<_, _≤_};
+ghost use lib.ListN.{length};
+ghost use lib.Seq.{sets};
+ghost use Rattle.bits.specs.Layout.{pack};
+ghost use Rattle.bits.specs.Lists.{tabulate};
+ghost use Rattle.cases.specs.Given.{effectAt, settingsAt, wordsAt, stateOf, slotAt, stateAt, fillAt};
+ghost use Rattle.cases.specs.Answers.{joined, slotBytes, stateBytes, answerBytes, hexDigit, hexByte, pairBytes};
+use block::Scanned;
+use block::State;
+use rules::EffectState;
+use rules::Slot;
+use settings::Effect;
+use settings::Settings;
+use settings::Words;
+
+// ---- settings: 101 bytes
+
+// Effect i of those that stand from `at` on.
+fn effect_at(s: &[u8], at: usize, i: usize) -> Effect
+    requires { ⌜ (i < 16) × (at + 96 ≤ length (now s)) ⌝ }
+    ensures { λ r. ⌜ r ≡ effectAt (now (s .entry)) at i ⌝ }
+{
+    Effect {
+        association: bits::get16(s, at + 6 * i),
+        delay: bits::get32(s, at + 6 * i + 2),
+    }
+}
+
+fn effects_at(s: &[u8], at: usize) -> [Effect; 16]
+    requires { ⌜ at + 96 ≤ length (now s) ⌝ }
+    ensures { λ r. ⌜ r ≡ tabulate (effectAt (now (s .entry)) at) 16 ⌝ }
+{
+    let none = Effect {
+        association: 0,
+        delay: 0,
+    };
+    let mut effects = [none; 16];
+    let mut i: usize = 0;
+    while i < 16 {
+        effects[i] = effect_at(s, at, i);
+        i += 1;
+    }
+    effects
+}
+
+// The settings that stand at `at`.
+pub fn settings_at(s: &[u8], at: usize) -> Settings
+    requires { ⌜ at + 101 ≤ length (now s) ⌝ }
+    ensures { λ r. ⌜ r ≡ settingsAt (now (s .entry)) at ⌝ }
+{
+    let effects = effects_at(s, at + 5);
+    Settings {
+        causes: bits::get8(s, at),
+        options: bits::get8(s, at + 1),
+        period: bits::get16(s, at + 2),
+        count: bits::get8(s, at + 4),
+        effects: effects,
+    }
+}
+
+// ---- words: 20 bytes
+
+// The ten words that stand at `at`.
+pub fn words_at(s: &[u8], at: usize) -> Words
+    requires { ⌜ at + 20 ≤ length (now s) ⌝ }
+    ensures { λ r. ⌜ r ≡ wordsAt (now (s .entry)) at ⌝ }
+{
+    Words {
+        values: bits::get16(s, at),
+        bad: bits::get16(s, at + 2),
+        mask: bits::get16(s, at + 4),
+        require_reset: bits::get16(s, at + 6),
+        reset_permit: bits::get16(s, at + 8),
+        start_permit: bits::get16(s, at + 10),
+        reset: bits::get16(s, at + 12),
+        force_permit: bits::get16(s, at + 14),
+        force_trip: bits::get16(s, at + 16),
+        force_normal: bits::get16(s, at + 18),
+    }
+}
+
+// ---- state: 118 bytes
+
+// The state of a code. No stream has a code above 5, and one would be taken as Delayed.
+fn state_of(code: u8) -> EffectState
+    ensures { λ r. ⌜ r ≡ stateOf code ⌝ }
+{
+    if code == 0 {
+        EffectState::Tripped
+    } else if code == 1 {
+        EffectState::WaitReset
+    } else if code == 2 {
+        EffectState::Ready
+    } else if code == 3 {
+        EffectState::WaitStart
+    } else if code == 4 {
+        EffectState::Normal
+    } else {
+        EffectState::Delayed
+    }
+}
+
+// Slot i of those that stand from `at` on.
+fn slot_at(s: &[u8], at: usize, i: usize) -> Slot
+    requires { ⌜ (i < 16) × (at + 112 ≤ length (now s)) ⌝ }
+    ensures { λ r. ⌜ r ≡ slotAt (now (s .entry)) at i ⌝ }
+{
+    Slot {
+        state: state_of(bits::get8(s, at + 7 * i)),
+        timer: bits::get32(s, at + 7 * i + 1),
+        first: bits::get16(s, at + 7 * i + 5),
+    }
+}
+
+fn slots_at(s: &[u8], at: usize) -> [Slot; 16]
+    requires { ⌜ at + 112 ≤ length (now s) ⌝ }
+    ensures { λ r. ⌜ r ≡ tabulate (slotAt (now (s .entry)) at) 16 ⌝ }
+{
+    let none = Slot {
+        state: EffectState::Tripped,
+        timer: 0,
+        first: 0,
+    };
+    let mut slots = [none; 16];
+    let mut i: usize = 0;
+    while i < 16 {
+        slots[i] = slot_at(s, at, i);
+        i += 1;
+    }
+    slots
+}
+
+// The state that stands at `at`.
+pub fn state_at(s: &[u8], at: usize) -> State
+    requires { ⌜ at + 118 ≤ length (now s) ⌝ }
+    ensures { λ r. ⌜ r ≡ stateAt (now (s .entry)) at ⌝ }
+{
+    let slots = slots_at(s, at + 6);
+    State {
+        done: bits::get32(s, at),
+        next: bits::get16(s, at + 4),
+        slots: slots,
+    }
+}
+
+// ---- the lent buffer before the call
+
+fn fill_at(i: usize) -> u8
+    ensures { λ r. ⌜ r ≡ fillAt i ⌝ }
+{
+    ((i % 256 * 7 + 3) % 256) as u8
+}
+
+// Byte i of the buffer becomes (7 i + 3) mod 256.
+pub fn fill(buf: &mut [u8])
+    ensures { λ _. ⌜ now (buf .exit) ≡ tabulate fillAt (length (now (buf .entry))) ⌝ }
+{
+    let mut i: usize = 0;
+    while i < buf.len() {
+        buf[i] = fill_at(i);
+        i += 1;
+    }
+}
+
+// ---- the bytes of an answer
+
+fn put_slot(out: &mut [u8], at: usize, x: Slot)
+    requires { ⌜ at + 7 ≤ length (now out) ⌝ }
+    ensures { λ _. ⌜ now (out .exit) ≡ sets (now (out .entry)) at (slotBytes x) ⌝ }
+{
+    let p = x.state;
+    bits::put8(out, at, rules::code(p));
+    bits::put32(out, at + 1, x.timer);
+    bits::put16(out, at + 5, x.first);
+}
+
+// The slots; with the number of their bytes, so that a caller need not show it. So does put_state.
+fn put_slots(out: &mut [u8], at: usize, xs: [Slot; 16])
+    requires { ⌜ at + 112 ≤ length (now out) ⌝ }
+    ensures { λ _. ⌜ now (out .exit) ≡ sets (now (out .entry)) at (joined slotBytes xs) ⌝ }
+    ensures { λ _. ⌜ length (joined slotBytes xs) ≡ 112 ⌝ }
+{
+    let mut i: usize = 0;
+    while i < 16 {
+        let x = xs[i];
+        put_slot(out, at + 7 * i, x);
+        i += 1;
+    }
+}
+
+fn put_state(out: &mut [u8], at: usize, x: State)
+    requires { ⌜ at + 118 ≤ length (now out) ⌝ }
+    ensures { λ _. ⌜ now (out .exit) ≡ sets (now (out .entry)) at (stateBytes x) ⌝ }
+    ensures { λ _. ⌜ length (stateBytes x) ≡ 118 ⌝ }
+{
+    let slots = x.slots;
+    bits::put32(out, at, x.done);
+    bits::put16(out, at + 4, x.next);
+    put_slots(out, at + 6, slots);
+}
+
+fn put_refusal(out: &mut [u8], number: u8, place: usize)
+    requires { ⌜ 5 ≤ length (now out) ⌝ }
+    ensures { λ _. ⌜ now (out .exit) ≡ sets (now (out .entry)) 0 (pack (1 ∷ 4 ∷ []) (number ∷ place % 4294967296 ∷ [])) ⌝ }
+{
+    bits::put8(out, 0, number);
+    bits::put32(out, 1, (place % 4294967296) as u32);
+}
+
+fn put_words(out: &mut [u8], effect: u16, latent: u16, records: usize)
+    requires { ⌜ 129 ≤ length (now out) ⌝ }
+    ensures { λ _. ⌜ now (out .exit) ≡ sets (now (out .entry)) 123 (pack (2 ∷ 2 ∷ 2 ∷ []) (effect ∷ latent ∷ records % 65536 ∷ [])) ⌝ }
+{
+    bits::put16(out, 123, effect);
+    bits::put16(out, 125, latent);
+    bits::put16(out, 127, (records % 65536) as u16);
+}
+
+// The 129 bytes that answer a scan, at the front of `out`.
+pub fn put_answer(out: &mut [u8], r: Scanned)
+    requires { ⌜ 129 ≤ length (now out) ⌝ }
+    ensures { λ _. ⌜ now (out .exit) ≡ sets (now (out .entry)) 0 (answerBytes r) ⌝ }
+{
+    let x = r.state;
+    put_refusal(out, r.number, r.place);
+    put_state(out, 5, x);
+    put_words(out, r.effect, r.latent, r.records);
+}
+
+// ---- hexadecimal digits
+
+fn hex_digit(v: u8) -> u8
+    requires { ⌜ v < 16 ⌝ }
+    ensures { λ r. ⌜ r ≡ hexDigit v ⌝ }
+{
+    if v < 10 { 48 + v } else { 87 + v }
+}
+
+fn put_hex_byte(out: &mut [u8], at: usize, b: u8)
+    requires { ⌜ at + 2 ≤ length (now out) ⌝ }
+    ensures { λ _. ⌜ now (out .exit) ≡ sets (now (out .entry)) at (hexByte b) ⌝ }
+{
+    out[at] = hex_digit(b / 16);
+    out[at + 1] = hex_digit(b % 16);
+}
+
+// Writes the digits of `src` at `at`, two for each byte; all else stays.
+pub fn put_hex(src: &[u8], out: &mut [u8], at: usize)
+    requires { ⌜ at + 2 * length (now src) ≤ length (now out) ⌝ }
+    ensures { λ _. ⌜ now (out .exit) ≡ sets (now (out .entry)) at (joined hexByte (now (src .entry))) ⌝ }
+{
+    let mut i: usize = 0;
+    while i < src.len() {
+        let b = src[i];
+        put_hex_byte(out, at + 2 * i, b);
+        i += 1;
+    }
+}
+
+// Writes the digits of a and those of b at `at`, with a space between, and answers the place after them.
+fn put_pair(a: &[u8], b: &[u8], out: &mut [u8], at: usize) -> usize
+    requires { ⌜ at + 2 * length (now a) + 1 + 2 * length (now b) ≤ length (now out) ⌝ }
+    ensures { λ r. ⌜ r ≡ at + 2 * length (now (a .entry)) + 1 + 2 * length (now (b .entry)) ⌝ }
+    ensures { λ _. ⌜ now (out .exit) ≡ sets (now (out .entry)) at (pairBytes (now (a .entry)) (now (b .entry))) ⌝ }
+{
+    let gap = at + 2 * a.len();
+    put_hex(a, out, at);
+    bits::put8(out, gap, b' ');
+    put_hex(b, out, gap + 1);
+    gap + 1 + 2 * b.len()
+}
+
+// Writes a line at the front of `out`, the digits of a, a space, those of b and LF, and answers its length.
+pub fn put_line(a: &[u8], b: &[u8], out: &mut [u8]) -> usize
+    requires { ⌜ 2 * length (now a) + 2 * length (now b) + 2 ≤ length (now out) ⌝ }
+    ensures { λ r. ⌜ r ≡ 2 * length (now (a .entry)) + 2 * length (now (b .entry)) + 2 ⌝ }
+    ensures { λ _. ⌜ now (out .exit) ≡ sets (now (out .entry)) 0 (pairBytes (now (a .entry)) (now (b .entry)) ++ 10 ∷ []) ⌝ }
+{
+    let n = put_pair(a, b, out, 0);
+    bits::put8(out, n, b'\n');
+    n + 1
+}
