@@ -2,11 +2,12 @@
 // bytes of an answer, the filling of a lent buffer, and hexadecimal digits. second/README.md lays the streams out.
 ghost use mathlib.Core.Path.{_≡_};
 ghost use mathlib.Core.List.{[], _∷_, _++_};
-ghost use Prim.Native.Nat.{_+_, _*_, _%_, _<_, _≤_};
+ghost use Prim.Native.Nat.{_+_, _*_, _%_, _<_, _≤_, min};
 ghost use lib.ListN.{length};
 ghost use lib.Seq.{sets};
 ghost use Rattle.bits.specs.Layout.{pack};
 ghost use Rattle.bits.specs.Lists.{tabulate};
+ghost use Rattle.bits.specs.Numbers.{numAt};
 ghost use Rattle.cases.specs.Given.{effectAt, settingsAt, wordsAt, stateOf, slotAt, stateAt, fillAt};
 ghost use Rattle.cases.specs.Answers.{joined, slotBytes, stateBytes, answerBytes, hexDigit, hexByte, pairBytes};
 use block::Scanned;
@@ -148,6 +149,15 @@ pub fn state_at(s: &[u8], at: usize) -> State
 }
 
 // ---- the lent buffer before the call
+
+// The room that stands at `at`, or `most` where it is more; with its bound, so that a caller need not show it.
+pub fn room_at(s: &[u8], at: usize, most: usize) -> usize
+    requires { ⌜ at + 2 ≤ length (now s) ⌝ }
+    ensures { λ r. ⌜ (r ≡ min (numAt 2 (now (s .entry)) at) most) × (r ≤ most) ⌝ }
+{
+    let room = bits::get16(s, at) as usize;
+    if room < most { room } else { most }
+}
 
 fn fill_at(i: usize) -> u8
     ensures { λ r. ⌜ r ≡ fillAt i ⌝ }

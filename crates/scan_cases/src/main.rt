@@ -5,14 +5,6 @@ ghost use Prim.Native.Nat.{_≤_};
 ghost use lib.ListN.{length};
 use block::Scanned;
 
-// The room of a case, at most 400.
-fn room_of(case: &[u8; 241]) -> usize
-    ensures { λ r. ⌜ r ≤ 400 ⌝ }
-{
-    let room = bits::get16(case, 239) as usize;
-    if room < 400 { room } else { 400 }
-}
-
 // Runs the case in a buffer of exactly its room.
 fn run(case: &[u8; 241], buf: &mut [u8]) -> Scanned {
     let st = cases::settings_at(case, 0);
@@ -37,7 +29,7 @@ fn print(r: Scanned, buf: &[u8]) -> bool
 fn answer(case: &[u8; 241], space: &mut [u8]) -> bool
     requires { ⌜ length (now space) ≡ 400 ⌝ }
 {
-    let room = room_of(case);
+    let room = cases::room_at(case, 239, 400);
     let r = run(case, &mut space[..room]);
     print(r, &space[..room])
 }
