@@ -1,0 +1,85 @@
+// Answers a stream of held cases: 245 bytes each on standard input, a line each on standard output. second/README.md
+// lays both out.
+ghost use Prim.Native.Nat.{_≤_};
+ghost use mathlib.Core.Path.{_≡_};
+ghost use lib.ListN.{length};
+use block::Held;
+use block::Scanned;
+use settings::Row;
+
+// Runs the case in a buffer of exactly its room.
+fn run(case: &[u8; 245], buf: &mut [u8]) -> Held {
+    let st = cases::settings_at(case, 0);
+    let x = cases::state_at(case, 101);
+    let hold = bits::get32(case, 219);
+    let words = cases::words_at(case, 223);
+    cases::fill(buf);
+    x.held(st, Row { hold, words }, buf)
+}
+
+// What an answer shares with that of a scan.
+fn shared(r: Held) -> Scanned {
+    let state = r.state;
+    Scanned {
+        number: r.number,
+        place: r.place,
+        state,
+        effect: r.effect,
+        latent: r.latent,
+        records: r.records,
+    }
+}
+
+fn put_head(r: Held, head: &mut [u8])
+    requires { ⌜ length (now head) ≡ 137 ⌝ }
+{
+    cases::put_answer(head, shared(r));
+    bits::put32(head, 129, r.live);
+    bits::put32(head, 133, r.exercised);
+}
+
+// Writes the line that answers it.
+fn print(r: Held, buf: &[u8]) -> bool
+    requires { ⌜ length (now buf) ≤ 400 ⌝ }
+{
+    let mut head = [0u8; 137];
+    put_head(r, &mut head);
+    let mut line = [0u8; 1076];
+    let n = cases::put_line(&head, buf, &mut line);
+    io::write_all(1, &line[..n])
+}
+
+// Answers a case, in the first bytes of `space`.
+fn answer(case: &[u8; 245], space: &mut [u8]) -> bool
+    requires { ⌜ length (now space) ≡ 400 ⌝ }
+{
+    let room = cases::room_at(case, 243, 400);
+    let r = run(case, &mut space[..room]);
+    print(r, &space[..room])
+}
+
+// Reads a case and answers it; false at the end of the input, in a case that is cut short, or if nothing can be written.
+fn next_case() -> bool {
+    let mut case = [0u8; 245];
+    let got = io::read_full(0, &mut case);
+    if got == 0 {
+        return false;
+    }
+    if got < 245 {
+        io::write_all(1, b"truncated\n");
+        return false;
+    }
+    let mut space = [0u8; 400];
+    answer(&case, &mut space)
+}
+
+// At most a million cases.
+fn main() {
+    let mut done: usize = 0;
+    while done < 1000000 {
+        if !next_case() {
+            return;
+        }
+        done += 1;
+    }
+}
