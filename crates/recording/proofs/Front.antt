@@ -1,0 +1,115 @@
+-- Bytes longer than a recording can be are answered by their first 49,259: every section's bytes are among those, so none
+-- is short, and one byte at least is left over.
+use mathlib.Core.Path.{_≡_, refl, sym, ap, _∙_}
+use mathlib.Core.Bool.{Bool, true, false}
+use mathlib.Core.List.{List}
+use Prim.Native.Nat.{ℕ, zero, suc, _+_, _*_, _≤_, _<_}
+use native.Mathlib.Nat.{mul-suc, mul-le-mul-left}
+use native.Mathlib.Omega.{arith}
+use borrow.Author.Tests.{le-leb, leb-true}
+use lib.Dec.{leb}
+use lib.ListN.{length, take}
+use lib.Seq.{length-take-le}
+use Rattle.bits.specs.Numbers.{numAt}
+use Rattle.settings.specs.declared.Limits.{Limits}
+use Rattle.settings.specs.Right.{limitsOf, effectNumber, rowNumber}
+use Rattle.recording.specs.declared.Section.the-variants as S
+use Rattle.recording.specs.declared.Kind.{Kind}
+use Rattle.recording.specs.declared.Kind.the-variants.{Block, Effects, Rows}
+use Rattle.recording.specs.Entries.{blockCheck}
+use Rattle.recording.specs.Sections.{passed, entries, widthOf, leastOf, mostOf, countOk, testOf, sectionOf}
+use Rattle.recording.specs.Reader.{noLimits, blockLimits, settingsAt, reading}
+use Rattle.recording.proofs.Sections.{and-right, section-count, section-entries}
+use Rattle.recording.proofs.Entries.{num-front, block-front, effect-front, row-front}
+use Rattle.recording.proofs.Between.{block-room, effects-whole, rows-whole, read-block, read-effects, read-rows, left-over}
+use Rattle.recording.proofs.Cases.{reading-cases}
+
+-- ## One section
+
+entries-front : (test test′ : ℕ → ℕ) (w len len′ m n at : ℕ) → ((p : ℕ) → p + w ≤ m → test p ≡ test′ p) → m ≤ len → m ≤ len′ → at + w * n ≤ m
+    → entries test w len n at ≡ entries test′ w len′ n at
+entries-front test test′ w len len′ m zero at f h h′ l = refl
+entries-front test test′ w len len′ m (suc n) at f h h′ l =
+    let e : at + w * suc n ≡ at + w + w * n = omega (arith, mul-suc w n) in
+    let here : at + w ≤ m = omega (arith, e) in
+    rw (le-leb (at + w) len (omega (arith, here)), le-leb (at + w) len′ (omega (arith, here)), f at here, entries-front test test′ w len len′ m n (at + w) f h h′ (omega (arith, e)))
+
+test-front : (kind : Kind) (k : Limits) (m : ℕ) (s : List ℕ) (at : ℕ) → at + widthOf kind ≤ m → testOf kind k s at ≡ testOf kind k (take m s) at
+test-front Block k m s at h = ap blockCheck (sym (block-front m s at h))
+test-front Effects k m s at h = ap (effectNumber (k .causes)) (sym (effect-front m s at h))
+test-front Rows k m s at h = ap (rowNumber k) (sym (row-front m s at h))
+
+-- a section whose longest form ends by m
+module _ (kind : Kind) (k : Limits) (m : ℕ) (s : List ℕ) (at : ℕ) (long : m ≤ length s) (ends : at + 2 + widthOf kind * mostOf kind ≤ m) where
+  count-front : numAt 2 s at ≡ numAt 2 (take m s) at
+  count-front = sym (num-front m 2 s at (omega (arith, ends)))
+
+  long-front : m ≤ length (take m s)
+  long-front = omega (arith, length-take-le m s long)
+
+  by-count : (b : Bool) → countOk kind (numAt 2 s at) ≡ b → sectionOf kind k s at ≡ sectionOf kind k (take m s) at
+  by-count false e =
+      section-count _ _ _ _ _ s at (numAt 2 s at) (omega (arith, ends, long)) refl e
+      ∙ sym (section-count _ _ _ _ _ (take m s) at (numAt 2 s at) (omega (arith, ends, long-front)) count-front e)
+  by-count true e =
+      let n = numAt 2 s at in
+      let w = widthOf kind in
+      let most : w * n ≤ w * mostOf kind = mul-le-mul-left w (leb-true n (mostOf kind) (and-right (leb (leastOf kind) n) (leb n (mostOf kind)) e)) in
+      section-entries _ _ _ _ _ s at n (omega (arith, ends, long)) refl e
+      ∙ entries-front (testOf kind k s) (testOf kind k (take m s)) w (length s) (length (take m s)) m n (at + 2) (test-front kind k m s) long long-front (omega (arith, most, ends))
+      ∙ sym (section-entries _ _ _ _ _ (take m s) at n (omega (arith, ends, long-front)) count-front e)
+
+  section-front : sectionOf kind k s at ≡ sectionOf kind k (take m s) at
+  section-front = by-count (countOk kind (numAt 2 s at)) refl
+
+-- ## The file
+
+module _ (s : List ℕ) (long : 49258 < length s) where
+  abbrev front : List ℕ
+  front = take 49259 s
+
+  block-same : sectionOf Block noLimits s 0 ≡ sectionOf Block noLimits front 0
+  block-same = section-front Block noLimits 49259 s 0 long (omega arith)
+
+  block-limits-same : blockLimits s ≡ blockLimits front
+  block-limits-same =
+      let c = num-front 49259 1 s 2 (omega arith) in
+      let o = num-front 49259 1 s 3 (omega arith) in
+      λ i. record { causes = sym c i; count = 0; options = sym o i }
+
+  module _ (e : ℕ) (b : sectionOf Block noLimits s 0 ≡ S.Next e) where
+    six : e ≡ 6
+    six = block-room s e b .0
+
+    effects-same : sectionOf Effects (blockLimits s) s e ≡ sectionOf Effects (blockLimits front) front e
+    effects-same =
+        section-front Effects (blockLimits s) 49259 s e long (omega (arith, six)) ∙ ap (λ (k : Limits). sectionOf Effects k front e) block-limits-same
+
+    limits-same : limitsOf (settingsAt s e) ≡ limitsOf (settingsAt front e)
+    limits-same =
+        let n = num-front 49259 2 s e (omega (arith, six)) in
+        λ i. record { causes = block-limits-same i .causes; count = sym n i; options = block-limits-same i .options }
+
+    module _ (r : ℕ) (f : sectionOf Effects (blockLimits s) s e ≡ S.Next r) where
+      rows-by : r ≤ 104
+      rows-by = let w = effects-whole s (blockLimits s) e r f in omega (arith, six, w .most, w .passed .next)
+
+      rows-same : sectionOf Rows (limitsOf (settingsAt s e)) s r ≡ sectionOf Rows (limitsOf (settingsAt front e)) front r
+      rows-same =
+          section-front Rows (limitsOf (settingsAt s e)) 49259 s r long (omega (arith, rows-by)) ∙ ap (λ (k : Limits). sectionOf Rows k front r) limits-same
+
+      end-by : (end : ℕ) → sectionOf Rows (limitsOf (settingsAt s e)) s r ≡ S.Next end → end ≤ 49258
+      end-by end g = let w = rows-whole s (limitsOf (settingsAt s e)) r end g in omega (arith, rows-by, w .most, w .passed .next)
+
+  pub reading-of-front : reading s ≡ reading front
+  unfolding reading
+  reading-of-front =
+      reading-cases s (λ x. x ≡ reading front)
+      (λ k p b. rw (← block-same, b))
+      (λ e k p b f. sym (read-block front e (sym block-same ∙ b) ∙ rw (← effects-same e b, f)))
+      (λ e r k p t g. sym (read-effects front e (sym block-same ∙ t .block) r (sym (effects-same e (t .block)) ∙ t .effects) ∙ rw (← rows-same e (t .block) r (t .effects), g)))
+      (λ e r end t d.
+      let u = t .before in
+      left-over front e r end (λ q. omega (arith, q, end-by e (u .block) r (u .effects) end (t .rows), length-take-le 49259 s long))
+      ∙ sym (read-rows front e (sym block-same ∙ u .block) r (sym (effects-same e (u .block)) ∙ u .effects) end (sym (rows-same e (u .block) r (u .effects)) ∙ t .rows)))
+      (λ e r t. let h = end-by e (t .before .block) r (t .before .effects) (length s) (t .rows) in absurd (omega (arith, h)))

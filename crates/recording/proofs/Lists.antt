@@ -1,0 +1,65 @@
+-- Laws of entries one after the other, and of an array that is filled from its start.
+use mathlib.Core.Path.{_≡_, refl, sym, ap, _∙_}
+use mathlib.Core.List.{List, [], _∷_, _++_, map, append-assoc, append-nil}
+use Prim.Native.Nat.{ℕ, zero, suc, _+_, _-_, _*_, _<_}
+use native.Mathlib.Nat.{add-zero, mul-suc, mul-zero}
+use native.Mathlib.Numerals.{add-one}
+use native.Mathlib.Omega.{arith}
+use lib.ListN.{length, set, take, getD, replicate, length-append, length-map}
+use lib.Seq.{set-at, sets, take-suc, length-take-le}
+use Rattle.bits.proofs.Numbers.{sets-then}
+use Rattle.recording.specs.Entries.{listOf, putAll}
+
+module _ {A : Type 0} where
+  -- ## Read one after the other
+
+  pub length-listOf : (get : ℕ → A) (w n at : ℕ) → length (listOf get w n at) ≡ n
+  length-listOf get w zero at = refl
+  length-listOf get w (suc n) at = ap suc (length-listOf get w n (at + w))
+
+  pub listOf-snoc : (get : ℕ → A) (w n at : ℕ) → listOf get w (n + 1) at ≡ listOf get w n at ++ (get (at + w * n) ∷ [])
+  listOf-snoc get w zero at = rw (mul-zero, add-zero)
+  listOf-snoc get w (suc n) at =
+      let place : at + w + w * n ≡ at + w * suc n = omega (arith, mul-suc w n) in
+      rw (add-one, ← place) (ap {B = List _} (λ r. get at ∷ r) (rw add-one at (listOf-snoc get w n (at + w))))
+
+  pub getD-listOf : (get : ℕ → A) (w n at i : ℕ) (d : A) → i < n → getD (listOf get w n at) i d ≡ get (at + w * i)
+  getD-listOf get w zero at i d h = absurd (omega arith)
+  getD-listOf get w (suc n) at zero d h = rw (mul-zero, add-zero)
+  getD-listOf get w (suc n) at (suc i) d h =
+      let place : at + w + w * i ≡ at + w * suc i = omega (arith, mul-suc w i) in
+      rw (← place) (getD-listOf get w n (at + w) i d (omega arith))
+
+  one-more : (xs : List A) (n i : ℕ) (z v : A) → length xs ≡ i → i < n → set (xs ++ replicate (n - i) z) i v ≡ (xs ++ (v ∷ [])) ++ replicate (n - (i + 1)) z
+  one-more xs n i z v e h =
+      let step : n - i ≡ suc (n - (i + 1)) = omega arith in
+      rw (step, set-at xs z (replicate (n - (i + 1)) z) v i e, append-assoc xs (v ∷ []) (replicate (n - (i + 1)) z))
+
+  -- an array whose first i slots hold the entries read so far takes one more
+  pub fill-list : (get : ℕ → A) (w at n i place : ℕ) (z v : A) (arr : List A)
+      → arr ≡ listOf get w i at ++ replicate (n - i) z → place ≡ at + w * i → v ≡ get place → i < n
+      → set arr i v ≡ listOf get w (i + 1) at ++ replicate (n - (i + 1)) z
+  fill-list get w at n i place z v arr ea ep ev h =
+      rw (ea, ev, ep, listOf-snoc get w i at) (one-more (listOf get w i at) n i z (get (at + w * i)) (length-listOf get w i at) h)
+
+  -- ## Written one after the other
+
+  putAll-snoc : (put : A → List ℕ) (xs : List A) (x : A) → putAll put (xs ++ (x ∷ [])) ≡ putAll put xs ++ put x
+  putAll-snoc put [] x = append-nil (put x)
+  putAll-snoc put (y ∷ xs) x = ap (λ (l : List ℕ). put y ++ l) (putAll-snoc put xs x) ∙ sym (append-assoc (put y) (putAll put xs) (put x))
+
+  pub length-putAll : (put : A → List ℕ) (w : ℕ) → ((a : A) → length (put a) ≡ w) → (xs : List A) → length (putAll put xs) ≡ w * length xs
+  length-putAll put w f [] = rw mul-zero
+  length-putAll put w f (x ∷ xs) = length-append (put x) (putAll put xs) ∙ omega (arith, f x, length-putAll put w f xs, mul-suc w (length xs))
+
+  -- one entry more is stored after the first i
+  pub store-more : (put : A → List ℕ) (w : ℕ) → ((a : A) → length (put a) ≡ w) → (xs : List A) (d : A) (s s′ s″ : List ℕ) (at i : ℕ)
+      → i < length xs → s′ ≡ sets s at (putAll put (take i xs)) → s″ ≡ sets s′ (at + w * i) (put (getD xs i d)) → s″ ≡ sets s at (putAll put (take (i + 1) xs))
+  store-more put w f xs d s s′ s″ at i h p q =
+      let len : length (putAll put (take i xs)) ≡ w * i = length-putAll put w f (take i xs) ∙ ap (λ (n : ℕ). w * n) (length-take-le i xs (omega arith)) in
+      rw (add-one i, take-suc xs i d h, putAll-snoc put (take i xs) (getD xs i d))
+      (sets-then s s′ s″ at (w * i) (putAll put (take i xs)) (put (getD xs i d)) p q len)
+
+-- an array as the machine holds it has as many elements
+pub length-mapped : (X Y : Type 0) (f : X → Y) (l : List X) (n : ℕ) → length (map f l) ≡ n → length l ≡ n
+length-mapped X Y f l n e = sym (length-map l f) ∙ e

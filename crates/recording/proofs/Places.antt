@@ -1,0 +1,94 @@
+-- The rows of an accepted file stand at its row places, and nowhere else: the file is its first row's place and whole rows.
+use mathlib.Core.Path.{_≡_, refl}
+use mathlib.Core.Bool.{Bool, true, false, _&&_}
+use mathlib.Core.List.{List}
+use Prim.Native.Nat.{ℕ, suc, _+_, _-_, _*_, _/_, _%_, _<_}
+use native.Mathlib.Omega.{arith}
+use borrow.Author.Tests.{le-leb, lt-ltb, eq-eqb, leb-true, ltb-true, eqb-true}
+use lib.Dec.{leb, ltb, eqb}
+use lib.ListN.{length, getD}
+use Rattle.bits.specs.Numbers.{numAt}
+use Rattle.settings.specs.declared.Row.{Row}
+use Rattle.settings.specs.Right.{limitsOf}
+use Rattle.recording.specs.declared.Reading.{Reading}
+use Rattle.recording.specs.declared.Step.the-variants as T
+use Rattle.recording.specs.Entries.{rowAt}
+use Rattle.recording.specs.Reader.{settingsAt, reading}
+use Rattle.recording.specs.Answers.{rowCount, firstRow, rowWidth}
+use Rattle.recording.specs.Steps.{rowIn, isPlace, stepIn, rowsIn}
+use Rattle.recording.specs.Refused.{ToEnd}
+use Rattle.recording.proofs.Lists.{getD-listOf}
+use Rattle.recording.proofs.Sections.{and-left, and-right}
+use Rattle.recording.proofs.Between.{rows-whole}
+use Rattle.recording.proofs.Cases.{reading-cases}
+
+-- ## Places, by arithmetic
+
+place-yes : (first n len i : ℕ) → len ≡ first + 24 * n → i < n → isPlace first 24 len (first + 24 * i) ≡ true
+place-yes first n len i e l =
+    let at = first + 24 * i in
+    let z : (at - first) % 24 ≡ 0 = omega arith in
+    rw (le-leb first at (omega arith), lt-ltb at len (omega (arith, e)), eq-eqb ((at - first) % 24) 0 z)
+
+place-no : (first n len at : ℕ) → len ≡ first + 24 * n → ((i : ℕ) → i < n → at ≡ first + 24 * i → ⊥) → isPlace first 24 len at ≡ false
+place-no first n len at e none = go (isPlace first 24 len at) refl
+  where
+    go : (b : Bool) → isPlace first 24 len at ≡ b → isPlace first 24 len at ≡ false
+    go false q = q
+    go true q =
+        let both = and-left (leb first at && ltb at len) (eqb ((at - first) % 24) 0) q in
+        let z = eqb-true ((at - first) % 24) 0 (and-right (leb first at && ltb at len) (eqb ((at - first) % 24) 0) q) in
+        let lo = leb-true first at (and-left (leb first at) (ltb at len) both) in
+        let hi = ltb-true at len (and-right (leb first at) (ltb at len) both) in
+        absurd (none ((at - first) / 24) (omega (arith, z, lo, hi, e)) (omega (arith, z, lo)))
+
+-- ## At each way that a reading goes
+
+module _ (s : List ℕ) where
+  abbrev place : Reading → ℕ → ℕ
+  place x i = firstRow (x .answer) + rowWidth (x .answer) * i
+
+  rows-end : (e r : ℕ) → ToEnd s e r (length s) → length s ≡ r + 2 + 24 * numAt 2 s r
+  rows-end e r t = rows-whole s (limitsOf (settingsAt s e)) r (length s) (t .rows) .passed .next
+
+  -- at a row's place the inner function gives what the outer one gives
+  abbrev Same : Reading → Type 0
+  Same x = (i : ℕ) → i < rowCount (x .answer) → rowIn s (place x i) (rowWidth (x .answer)) ≡ stepIn (x .answer) s (place x i)
+
+  pub same-at-place : Same (reading s)
+  same-at-place =
+      reading-cases s Same
+      (λ k p b i l. absurd (omega (arith, l)))
+      (λ e k p b f i l. absurd (omega (arith, l)))
+      (λ e r k p t g i l. absurd (omega (arith, l)))
+      (λ e r end t d i l. absurd (omega (arith, l)))
+      (λ e r t i l. rw (place-yes (r + 2) (numAt 2 s r) (length s) i (rows-end e r t) l))
+
+  -- and that is the row
+  abbrev There : Row → Reading → Type 0
+  There d x = (i : ℕ) → i < rowCount (x .answer) → rowIn s (place x i) (rowWidth (x .answer)) ≡ T.Row (getD (rowsIn (x .answer) s) i d) (place x (suc i))
+
+  pub row-at-place : (d : Row) → There d (reading s)
+  row-at-place d =
+      reading-cases s (There d)
+      (λ k p b i l. absurd (omega (arith, l)))
+      (λ e k p b f i l. absurd (omega (arith, l)))
+      (λ e r k p t g i l. absurd (omega (arith, l)))
+      (λ e r end t f i l. absurd (omega (arith, l)))
+      (λ e r t i l.
+      let at = r + 2 + 24 * i in
+      let next : at + 24 ≡ r + 2 + 24 * suc i = omega arith in
+      rw (le-leb (at + 24) (length s) (omega (arith, rows-end e r t, l)), getD-listOf (rowAt s) 24 (numAt 2 s r) (r + 2) i d l, next))
+
+  -- elsewhere it has ended
+  abbrev Elsewhere : ℕ → Reading → Type 0
+  Elsewhere at x = ((i : ℕ) → i < rowCount (x .answer) → at ≡ place x i → ⊥) → stepIn (x .answer) s at ≡ T.Ended
+
+  pub ended-elsewhere : (at : ℕ) → Elsewhere at (reading s)
+  ended-elsewhere at =
+      reading-cases s (Elsewhere at)
+      (λ k p b none. refl)
+      (λ e k p b f none. refl)
+      (λ e r k p t g none. refl)
+      (λ e r end t d none. refl)
+      (λ e r t none. rw (place-no (r + 2) (numAt 2 s r) (length s) at (rows-end e r t) none))

@@ -1,0 +1,231 @@
+-- The reader refuses exactly as it is said of the bytes: entry by entry, section by section.
+use mathlib.Core.Path.{_≡_, refl, sym, ap, _∙_}
+use mathlib.Core.Bool.{Bool, true, false, not, _&&_, _||_}
+use mathlib.Core.List.{List}
+use mathlib.Core.Logic.{_⊎_, inl, inr}
+use Prim.Native.Nat.{ℕ, zero, suc, _+_, _-_, _*_, _≤_, _<_}
+use native.Mathlib.Nat.{mul-suc, mul-zero, add-zero}
+use native.Mathlib.Omega.{arith}
+use borrow.Author.Tests.{leb-true, leb-false}
+use lib.Dec.{leb}
+use lib.ListN.{length}
+use Rattle.bits.specs.Numbers.{numAt}
+use Rattle.settings.specs.declared.Row.{Row}
+use Rattle.settings.specs.declared.Limits.{Limits}
+use Rattle.settings.specs.Refusals.{unless, orElse}
+use Rattle.settings.specs.Limits.{mostHold}
+use Rattle.settings.specs.Right.{limitsOf, blockOk, effectOk, holdNumber, wordsOk, fieldsNumber, apart, apartNumber, several, severalNumber, wordsNumber, rowNumber}
+use Rattle.bits.specs.Words.{bitOf}
+use Rattle.recording.specs.declared.Section.{Section}
+use Rattle.recording.specs.declared.Section.the-variants as S
+use Rattle.recording.specs.declared.Answer.the-variants as A
+use Rattle.recording.specs.declared.Reading.{Reading}
+use Rattle.recording.specs.declared.Kind.{Kind}
+use Rattle.recording.specs.declared.Kind.the-variants.{Block, Effects, Rows}
+use Rattle.recording.specs.Entries.{blockAt, effectAt, rowAt}
+use Rattle.recording.specs.Sections.{entries, section, widthOf, numberOf, countOk, testOf, sectionOf}
+use Rattle.recording.specs.Answers.{sectionNumber, sectionPlace}
+use Rattle.recording.specs.Reader.{noLimits, blockLimits, settingsAt, refusal, reading}
+use Rattle.recording.specs.Refused.{Reached, EntryStops, Stops, Refused}
+use Rattle.recording.proofs.Between.{read-block, read-effects, read-rows, rows-whole, left-over}
+use Rattle.recording.proofs.Cases.{reading-cases, acceptance, not-accepted}
+use Rattle.recording.proofs.Sections.{entries-short, entries-bad, entries-step, section-short, section-count, section-entries}
+
+-- ## Entries
+
+module _ (test : ℕ → ℕ) (w len : ℕ) where
+  -- one entry that is right, before those of `n at`
+  later : (n at i : ℕ) → test at ≡ 0 → Reached test w len n (at + w) i → Reached test w len (suc n) at (suc i)
+  later n at i r h =
+      record {
+        counted = omega (arith, h .counted);
+        there = omega (arith, mul-suc w i, h .there);
+        right = go;
+      }
+    where
+      go : (j : ℕ) → j < suc i → test (at + w * j) ≡ 0
+      go zero l = rw (mul-zero, add-zero) r
+      go (suc j) l = let e : at + w * suc j ≡ at + w + w * j = omega (arith, mul-suc w j) in rw e (h .right j (omega arith))
+
+  first : (n at : ℕ) → at ≤ len → Reached test w len (suc n) at 0
+  first n at h = record { counted = omega arith; there = omega (arith, mul-zero w); right = λ j l. absurd (omega arith) }
+
+  shift : (n at k p : ℕ) → test at ≡ 0 → EntryStops test w len n (at + w) k p → EntryStops test w len (suc n) at k p
+  shift n at k p r (EntryStops.short i h l) = EntryStops.short (suc i) (later n at i r h) (omega (arith, mul-suc w i, l))
+  shift n at k p r (EntryStops.wrong i m h l t) =
+      let e : at + w + w * i ≡ at + w * suc i = omega (arith, mul-suc w i) in
+      rw e (EntryStops.wrong (suc i) m (later n at i r h) (omega (arith, e, l)) (rw (← e) t))
+
+  abbrev Stopped : (n at k p : ℕ) → Type 0
+  Stopped n at k p = entries test w len n at ≡ S.Refused k p → EntryStops test w len n at k p
+
+  here : (n at k p : ℕ) → at ≤ len → (at + w ≤ len → Stopped n (at + w) k p) → (b : Bool) → leb (at + w) len ≡ b → (m : ℕ) → test at ≡ m → Stopped (suc n) at k p
+  here n at k p h ih false q m t eq =
+      let same : S.Refused 1 len ≡ S.Refused k p = rw q at eq in
+      let e₁ : 1 ≡ k = cc in
+      let e₂ : len ≡ p = cc in
+      let past : len < at + w * 0 + w = omega (arith, mul-zero w, leb-false (at + w) len q) in
+      rw (← e₁, ← e₂) (EntryStops.short 0 (first n at h) past)
+  here n at k p h ih true q zero t eq = shift n at k p t (ih (leb-true (at + w) len q) (rw (q, t) at eq))
+  here n at k p h ih true q (suc m) t eq =
+      let same : S.Refused (suc m) at ≡ S.Refused k p = rw (q, t) at eq in
+      let e₁ : suc m ≡ k = cc in
+      let e₂ : at ≡ p = cc in
+      let z : at + w * 0 ≡ at = omega (arith, mul-zero w) in
+      let fits : at + w * 0 + w ≤ len = omega (arith, z, leb-true (at + w) len q) in
+      rw (← e₁, ← e₂) (rw z at (EntryStops.wrong 0 m (first n at h) fits (rw z t)))
+
+  entries-stop : (n at k p : ℕ) → at ≤ len → Stopped n at k p
+  entries-stop zero at k p h eq = let z : _≡_ {A = ℕ} 0 1 = cc in absurd (omega arith)
+  entries-stop (suc n) at k p h eq = here n at k p h (λ l. entries-stop n (at + w) k p l) (leb (at + w) len) refl (test at) refl eq
+
+  -- the entries before i are passed over
+  skip : (i n at : ℕ) → Reached test w len n at i → entries test w len n at ≡ entries test w len (n - i) (at + w * i)
+  skip zero n at h = let e₁ : n - 0 ≡ n = omega arith in let e₂ : at + w * 0 ≡ at = omega (arith, mul-zero w) in rw (e₁, e₂)
+  skip (suc i) n at h =
+      let e₁ : n - 1 - i ≡ n - suc i = omega arith in
+      let e₂ : at + w + w * i ≡ at + w * suc i = omega (arith, mul-suc w i) in
+      let t : test at ≡ 0 = rw (mul-zero, add-zero) at (h .right 0 (omega arith)) in
+      let rest : Reached test w len (n - 1) (at + w) i =
+      record {
+        counted = omega (arith, h .counted);
+        there = omega (arith, e₂, h .there);
+        right = λ j l. let e : at + w + w * j ≡ at + w * suc j = omega (arith, mul-suc w j) in rw e (h .right (suc j) (omega arith));
+      }
+      in
+      let room : at + w ≤ len = omega (arith, e₂, h .there) in
+      entries-step test w len n at 0 (omega (arith, h .counted)) room (sym t) refl ∙ skip i (n - 1) (at + w) rest ∙ rw (e₁, e₂)
+
+  stops-entries : (n at k p : ℕ) → EntryStops test w len n at k p → entries test w len n at ≡ S.Refused k p
+  stops-entries n at k p (EntryStops.short i h l) = skip i n at h ∙ entries-short test w len (n - i) (at + w * i) (omega (arith, h .counted)) l
+  stops-entries n at k p (EntryStops.wrong i m h l t) =
+      skip i n at h ∙ entries-bad test w len (n - i) (at + w * i) (suc m) (omega (arith, h .counted)) l (sym t) (λ e. omega (arith, e))
+
+-- ## Sections
+
+module _ (kind : Kind) (k : Limits) (s : List ℕ) (at : ℕ) where
+  in-section : (n p : ℕ) (b : Bool) → leb (at + 2) (length s) ≡ b → (d : Bool) → countOk kind (numAt 2 s at) ≡ d → sectionOf kind k s at ≡ S.Refused n p → Stops kind k s at n p
+  unfolding section
+  in-section n p false q d r eq =
+      let same : S.Refused 1 (length s) ≡ S.Refused n p = rw q at eq in
+      let e₁ : 1 ≡ n = cc in
+      let e₂ : length s ≡ p = cc in
+      rw (← e₁, ← e₂) (Stops.short (leb-false (at + 2) (length s) q))
+  in-section n p true q false r eq =
+      let same : S.Refused (numberOf kind) at ≡ S.Refused n p = rw (q, r) at eq in
+      let e₁ : numberOf kind ≡ n = cc in
+      let e₂ : at ≡ p = cc in
+      rw (← e₁, ← e₂) (Stops.wrong (leb-true (at + 2) (length s) q) r)
+  in-section n p true q true r eq =
+      let room = leb-true (at + 2) (length s) q in
+      Stops.entries n p room r (entries-stop (testOf kind k s) (widthOf kind) (length s) (numAt 2 s at) (at + 2) n p room (rw (q, r) at eq))
+
+  -- a section that refuses stops as it is said
+  pub refuses-stops : (n p : ℕ) → sectionOf kind k s at ≡ S.Refused n p → Stops kind k s at n p
+  refuses-stops n p = in-section n p (leb (at + 2) (length s)) refl (countOk kind (numAt 2 s at)) refl
+
+  said-of : (x : Section) → sectionOf kind k s at ≡ x → (sectionNumber x ≡ 0 → ⊥) → Stops kind k s at (sectionNumber x) (sectionPlace x)
+  said-of (S.Next e) q h = absurd (h refl)
+  said-of (S.Refused n p) q h = refuses-stops n p q
+
+  pub section-said : let x = sectionOf kind k s at in (sectionNumber x ≡ 0 → ⊥) → Stops kind k s at (sectionNumber x) (sectionPlace x)
+  section-said = said-of (sectionOf kind k s at) refl
+
+  -- and one that stops refuses
+  pub stops-refuses : (n p : ℕ) → Stops kind k s at n p → sectionOf kind k s at ≡ S.Refused n p
+  stops-refuses n p (Stops.short h) = section-short _ _ _ _ _ s at h
+  stops-refuses n p (Stops.wrong h c) = section-count _ _ _ _ _ s at (numAt 2 s at) h refl c
+  stops-refuses n p (Stops.entries n′ p′ h c e) =
+      section-entries _ _ _ _ _ s at (numAt 2 s at) h refl c ∙ stops-entries (testOf kind k s) (widthOf kind) (length s) (numAt 2 s at) (at + 2) n′ p′ e
+
+-- ## Which numbers
+
+-- nothing, or one of 2 to 6
+abbrev InRange : ℕ → Type 0
+InRange n = (n ≡ 0) ⊎ ((2 ≤ n) × (n ≤ 6))
+
+unless-range : (b : Bool) (n : ℕ) → 2 ≤ n → n ≤ 6 → InRange (unless b n)
+unless-range true n lo hi = inl refl
+unless-range false n lo hi = inr (lo, hi)
+
+or-else-range : (a b : ℕ) → InRange a → InRange b → InRange (orElse a b)
+or-else-range zero b h g = g
+or-else-range (suc a) b h g = h
+
+row-range : (k : Limits) (r : Row) → InRange (rowNumber k r)
+unfolding rowNumber wordsNumber
+row-range k r =
+    let w = r .words in
+    let hold = unless-range (leb 1 (r .hold) && leb (r .hold) mostHold) 4 (omega arith) (omega arith) in
+    let fields = unless-range (wordsOk k w) 4 (omega arith) (omega arith) in
+    let both = unless-range (apart w) 5 (omega arith) (omega arith) in
+    let many = unless-range (bitOf (k .options) 2 || not (several w)) 6 (omega arith) (omega arith) in
+    or-else-range (holdNumber (r .hold)) (wordsNumber k w) hold
+    (or-else-range (fieldsNumber k w) (orElse (apartNumber w) (severalNumber k w)) fields (or-else-range (apartNumber w) (severalNumber k w) both many))
+
+test-range : (kind : Kind) (k : Limits) (s : List ℕ) (at : ℕ) → InRange (testOf kind k s at)
+test-range Block k s at = let b = blockAt s at in unless-range (blockOk (b .causes) (b .options) (b .period)) 2 (omega arith) (omega arith)
+test-range Effects k s at = unless-range (effectOk (k .causes) (effectAt s at)) 3 (omega arith) (omega arith)
+test-range Rows k s at = row-range k (rowAt s at)
+
+number-range : (kind : Kind) → (2 ≤ numberOf kind) × (numberOf kind ≤ 6)
+number-range Block = (omega arith, omega arith)
+number-range Effects = (omega arith, omega arith)
+number-range Rows = (omega arith, omega arith)
+
+-- a section gives 1 at the file's length, or one of 2 to 6
+abbrev pub Given : List ℕ → (n p : ℕ) → Type 0
+Given s n p = ((n ≡ 1) × (p ≡ length s)) ⊎ ((2 ≤ n) × (n ≤ 6))
+
+not-zero : (n k : ℕ) → InRange n → n ≡ suc k → (2 ≤ suc k) × (suc k ≤ 6)
+not-zero n k (inl z) e = absurd (omega (arith, z, e))
+not-zero n k (inr h) e = (omega (arith, h .0, e), omega (arith, h .1, e))
+
+module _ (kind : Kind) (k : Limits) (s : List ℕ) (at : ℕ) where
+  entry-gives : (n p : ℕ) → EntryStops (testOf kind k s) (widthOf kind) (length s) (numAt 2 s at) (at + 2) n p → Given s n p
+  entry-gives n p (EntryStops.short i h l) = inl (refl, refl)
+  entry-gives n p (EntryStops.wrong i m h l t) = inr (not-zero _ m (test-range kind k s (at + 2 + widthOf kind * i)) t)
+
+  pub section-gives : (n p : ℕ) → Stops kind k s at n p → Given s n p
+  section-gives n p (Stops.short h) = inl (refl, refl)
+  section-gives n p (Stops.wrong h c) = inr (number-range kind)
+  section-gives n p (Stops.entries n′ p′ h c e) = entry-gives n′ p′ e
+
+-- ## Files
+
+-- a refusal's number and place are those that are said of the bytes
+pub refused-as-said : (s : List ℕ) (n p : ℕ) → reading s ≡ refusal n p → Refused s n p
+refused-as-said s n p =
+    reading-cases s (λ x. x ≡ refusal n p → Refused s n p)
+    (λ k q b h. same k q h (Refused.in-block k q (refuses-stops Block noLimits s 0 k q b)))
+    (λ e k q b f h. same k q h (Refused.in-effects k q e b (refuses-stops Effects (blockLimits s) s e k q f)))
+    (λ e r k q t g h. same k q h (Refused.in-rows k q e r t (refuses-stops Rows (limitsOf (settingsAt s e)) s r k q g)))
+    (λ e r end t d h. same 7 end h (Refused.spare e r end t (let i = rows-whole s (limitsOf (settingsAt s e)) r end (t .rows) .passed .inside in omega (arith, i, d))))
+    (λ e r t h. other e r (ap (λ (x : Reading). x .answer) h))
+  where
+    same : (k q : ℕ) → refusal k q ≡ refusal n p → Refused s k q → Refused s n p
+    same k q h c =
+        let e : A.Refused k q ≡ A.Refused n p = ap (λ (x : Reading). x .answer) h in
+        let e₁ : k ≡ n = cc in
+        let e₂ : q ≡ p = cc in
+        rw (← e₁, ← e₂) c
+
+    other : {X : Type 0} (e r : ℕ) → acceptance s e r .answer ≡ A.Refused n p → X
+    other e r h = not-accepted n p (numAt 2 s r) (r + 2) (widthOf Rows) (sym h)
+
+-- and what is said of the bytes is answered
+pub said-is-refused : (s : List ℕ) (n p : ℕ) → Refused s n p → reading s ≡ refusal n p
+unfolding reading
+said-is-refused s n p (Refused.in-block n′ p′ h) = rw (stops-refuses Block noLimits s 0 n′ p′ h)
+said-is-refused s n p (Refused.in-effects n′ p′ e b h) = read-block s e b ∙ rw (stops-refuses Effects (blockLimits s) s e n′ p′ h)
+said-is-refused s n p (Refused.in-rows n′ p′ e r t h) =
+    read-effects s e (t .block) r (t .effects) ∙ rw (stops-refuses Rows (limitsOf (settingsAt s e)) s r n′ p′ h)
+said-is-refused s n p (Refused.spare e r end t h) =
+    read-rows s e (t .before .block) r (t .before .effects) end (t .rows) ∙ sym (left-over s e r end (λ q. omega (arith, q, h)))
+
+-- a file is refused by 1 at its length, by one of 2 to 6, or by 7
+pub file-gives : (s : List ℕ) (n p : ℕ) → Refused s n p → Given s n p ⊎ (n ≡ 7)
+file-gives s n p (Refused.in-block n′ p′ h) = inl (section-gives Block noLimits s 0 n′ p′ h)
+file-gives s n p (Refused.in-effects n′ p′ e b h) = inl (section-gives Effects (blockLimits s) s e n′ p′ h)
+file-gives s n p (Refused.in-rows n′ p′ e r t h) = inl (section-gives Rows (limitsOf (settingsAt s e)) s r n′ p′ h)
+file-gives s n p (Refused.spare e r end t h) = inr refl

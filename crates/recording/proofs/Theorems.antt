@@ -1,0 +1,173 @@
+-- What is promised of recordings, each theorem stated once by what it says. Document 01, "Recordings" and "Refusal numbers".
+-- `reading`, `stepAt`, `rowIn`, `openingWritten`, `openingAfter`, `rowWritten` and `rowAfter` are what the code returns and
+-- leaves in the lent buffer, by the contracts in src/; `Bytes s` is what every slice of bytes is.
+use mathlib.Core.Path.{_≡_, refl, sym, ap, _∙_}
+use mathlib.Core.Bool.{true, false}
+use mathlib.Core.List.{List, _++_}
+use mathlib.Core.Logic.{_⊎_}
+use Prim.Native.Nat.{ℕ, suc, _+_, _*_, _≤_, _<_}
+use native.Mathlib.Omega.{arith}
+use lib.Dec.{leb}
+use lib.ListN.{length, getD, take, drop}
+use Rattle.bits.proofs.Numbers.{Bytes}
+use Rattle.settings.specs.declared.Row.{Row}
+use Rattle.settings.specs.declared.Settings.{Settings}
+use Rattle.settings.specs.declared.Limits.{Limits}
+use Rattle.settings.specs.Refusals.{unless, orElse}
+use Rattle.recording.specs.declared.Answer.the-variants as A
+use Rattle.recording.specs.declared.Reading.{Reading}
+use Rattle.recording.specs.declared.Kind.{Kind}
+use Rattle.recording.specs.Entries.{putRow, putAll}
+use Rattle.recording.specs.Reader.{refusal, reading}
+use Rattle.recording.specs.Answers.{number, place, rowCount, firstRow, rowWidth, sectionNumber, sectionPlace, ended, noRow, stepRow, nextPlace, writtenNumber, writtenLength}
+use Rattle.recording.specs.Steps.{rowIn, stepAt, rowsOf}
+use Rattle.recording.specs.Encode.{encode, opening, All, Right}
+use Rattle.recording.specs.Writer.{openingNumber, rowPieceNumber, written, after}
+use Rattle.recording.specs.Sections.{sectionOf}
+use Rattle.recording.specs.Refused.{Stops, Refused}
+use Rattle.recording.proofs.Right.{in-parts}
+use Rattle.recording.proofs.Pieces.{number-of, stands, untouched}
+use Rattle.recording.proofs.Places.{same-at-place, row-at-place, ended-elsewhere as nothing-elsewhere}
+use Rattle.recording.proofs.Refusals.{refused-as-said as said, said-is-refused as answered, section-said, stops-refuses}
+use Rattle.recording.proofs.Numbers.{not-accepted-refused, reading-numbers, before-spare}
+use Rattle.recording.proofs.Front.{reading-of-front}
+use Rattle.recording.proofs.Exact.{complete, rows-are-back, spare, length-encode}
+use Rattle.recording.proofs.Trips.{accepted-encodes, accepted-case as case-of, length-rowsOf, in-pieces, right-passes, passes-right}
+
+-- the reader accepts
+abbrev pub Accepted : List ℕ → Type 0
+Accepted s = number (reading s .answer) ≡ 0
+
+-- the answer is these settings and so many rows
+abbrev pub Answers : List ℕ → Settings → List Row → Type 0
+Answers s st rows =
+    (number (reading s .answer) ≡ 0)
+    × (reading s .settings ≡ st)
+    × (rowCount (reading s .answer) ≡ length rows)
+    × (firstRow (reading s .answer) ≡ 10 + 6 * st .count)
+    × (rowWidth (reading s .answer) ≡ 24)
+    × (rowsOf s ≡ rows)
+
+-- ## Exactness
+
+-- what the reader accepts is the encoding of the settings and rows that are read, and these are right
+pub accepted-is-encoding : (s : List ℕ) → Bytes s → Accepted s → Right (reading s .settings) (rowsOf s) × (encode (reading s .settings) (rowsOf s) ≡ s)
+accepted-is-encoding s bytes h = accepted-encodes s bytes h
+
+-- and the encoding of right settings and 1 to 2,048 right rows is accepted, and answered by them
+pub encoding-is-accepted : (st : Settings) (rows : List Row) → Right st rows → Answers (encode st rows) st rows
+encoding-is-accepted st rows right = rw (complete st rows right) (refl, refl, refl, refl, refl, rows-are-back st rows right)
+
+-- the enum's case is Accepted exactly if the number is 0
+pub accepted-case : (s : List ℕ) → Accepted s → reading s .answer ≡ A.Accepted (rowCount (reading s .answer)) (firstRow (reading s .answer)) (rowWidth (reading s .answer))
+accepted-case = case-of
+
+-- ## Round trips
+
+-- the opening and the rows that were read are written without refusal, and they are the file's bytes
+pub written-as-read : (s : List ℕ) → Bytes s → Accepted s
+    → let st = reading s .settings in let n = rowCount (reading s .answer) in
+    (openingNumber st n ≡ 0) × All (rowPieceNumber st) (rowsOf s) × (opening st n ++ putAll putRow (rowsOf s) ≡ s)
+written-as-read s bytes h =
+    let e = accepted-encodes s bytes h in
+    let st = reading s .settings in
+    let w = right-passes st (rowsOf s) (e .0) in
+    let n = length-rowsOf s in
+    (rw n at (w .0), w .1, rw n at (sym (in-pieces st (rowsOf s)) ∙ e .1))
+
+-- an opening and as many rows as it says, all written without refusal, are read as those settings and rows
+pub read-as-written : (st : Settings) (rows : List Row) → length (st .effects) ≡ 16 → openingNumber st (length rows) ≡ 0 → All (rowPieceNumber st) rows
+    → Answers (opening st (length rows) ++ putAll putRow rows) st rows
+read-as-written st rows sixteen h each = rw (← in-pieces st rows) (encoding-is-accepted st rows (passes-right st rows sixteen h each))
+
+-- ## The rows at the row places
+
+-- at the place of row i stands row i, and the next place is that of row i + 1
+pub row-at-its-place : (s : List ℕ) (i : ℕ) → i < rowCount (reading s .answer)
+    → let first = firstRow (reading s .answer) in let width = rowWidth (reading s .answer) in let step = stepAt s (first + width * i) in
+    (ended step ≡ false) × (stepRow step ≡ getD (rowsOf s) i noRow) × (nextPlace step ≡ first + width * suc i)
+unfolding stepAt
+row-at-its-place s i l = rw (sym (same-at-place s i l) ∙ row-at-place s noRow i l) (refl, refl, refl)
+
+-- at any other place of any bytes the step has ended
+pub ended-elsewhere : (s : List ℕ) (at : ℕ)
+    → ((i : ℕ) → i < rowCount (reading s .answer) → at ≡ firstRow (reading s .answer) + rowWidth (reading s .answer) * i → ⊥) → ended (stepAt s at) ≡ true
+unfolding stepAt
+ended-elsewhere s at none = ap ended (nothing-elsewhere s at none)
+
+-- at a row's place of an accepted file the function that reads nothing again gives the same
+pub same-without-reading : (s : List ℕ) (i : ℕ) → i < rowCount (reading s .answer)
+    → let at = firstRow (reading s .answer) + rowWidth (reading s .answer) * i in rowIn s at (rowWidth (reading s .answer)) ≡ stepAt s at
+unfolding stepAt
+same-without-reading = same-at-place
+
+-- ## The writer, of any piece that `n` refuses if it is not 0
+
+-- the number is the piece's own, and 10 last, exactly if it doesn't fit
+pub written-number : (n : ℕ) (piece : List ℕ) (room : ℕ) → writtenNumber (written n piece room) ≡ orElse n (unless (leb (length piece) room) 10)
+written-number = number-of
+
+-- without refusal the piece stands at the front, and the bytes past it as they were
+pub written-piece : (n : ℕ) (piece out : List ℕ) → writtenNumber (written n piece (length out)) ≡ 0
+    → (writtenLength (written n piece (length out)) ≡ length piece) × (after n piece out ≡ piece ++ drop (length piece) out)
+written-piece = stands
+
+-- on refusal no byte is touched, and the length is 0
+pub refused-piece : (n : ℕ) (piece out : List ℕ) → (writtenNumber (written n piece (length out)) ≡ 0 → ⊥)
+    → (writtenLength (written n piece (length out)) ≡ 0) × (after n piece out ≡ out)
+refused-piece = untouched
+
+-- ## Refusals
+
+-- a file that is not accepted is refused as `Refused` says of its bytes, with zeros beside
+pub refused-as-said : (s : List ℕ) → (Accepted s → ⊥)
+    → let n = number (reading s .answer) in let p = place (reading s .answer) in (reading s ≡ refusal n p) × Refused s n p
+refused-as-said s h = let e = not-accepted-refused s h in (e, said s (number (reading s .answer)) (place (reading s .answer)) e)
+
+-- and what `Refused` says of the bytes is the answer
+pub said-is-refused : (s : List ℕ) (n p : ℕ) → Refused s n p → (number (reading s .answer) ≡ n) × (place (reading s .answer) ≡ p)
+said-is-refused s n p h = let e = answered s n p h in (ap (λ (x : Reading). number (x .answer)) e, ap (λ (x : Reading). place (x .answer)) e)
+
+-- so it is of each section
+pub section-refused-as-said : (kind : Kind) (k : Limits) (s : List ℕ) (at : ℕ) → let x = sectionOf kind k s at in
+    (sectionNumber x ≡ 0 → ⊥) → Stops kind k s at (sectionNumber x) (sectionPlace x)
+section-refused-as-said kind k s at h = section-said kind k s at h
+
+pub section-said-is-refused : (kind : Kind) (k : Limits) (s : List ℕ) (at n p : ℕ) → Stops kind k s at n p → let x = sectionOf kind k s at in
+    (sectionNumber x ≡ n) × (sectionPlace x ≡ p)
+section-said-is-refused kind k s at n p h = let e = stops-refuses kind k s at n p h in (ap sectionNumber e, ap sectionPlace e)
+
+-- a file is accepted, refused by 1 at its length, by one of 2 to 6, or by 7
+pub numbers : (s : List ℕ) → let n = number (reading s .answer) in
+    (n ≡ 0) ⊎ (((n ≡ 1) × (place (reading s .answer) ≡ length s)) ⊎ (((2 ≤ n) × (n ≤ 6)) ⊎ (n ≡ 7)))
+numbers s = reading-numbers s
+
+-- 7: what stands before the place is a recording, and something after it
+pub seven-is-spare : (s : List ℕ) → Bytes s → number (reading s .answer) ≡ 7
+    → let p = place (reading s .answer) in (p < length s) × Accepted (take p s)
+seven-is-spare s bytes h = before-spare s bytes h
+
+pub spare-is-seven : (st : Settings) (rows : List Row) → Right st rows → (q : List ℕ) → 0 < length q
+    → (number (reading (encode st rows ++ q) .answer) ≡ 7) × (place (reading (encode st rows ++ q) .answer) ≡ length (encode st rows))
+spare-is-seven st rows right q h = let e = spare st rows right q h in (ap (λ (x : Reading). number (x .answer)) e, ap (λ (x : Reading). place (x .answer)) e)
+
+-- ## Lengths
+
+-- an accepted file has 40 to 49,258 bytes
+pub accepted-length : (s : List ℕ) → Bytes s → Accepted s
+    → (length s ≡ 10 + 6 * reading s .settings .count + 24 * rowCount (reading s .answer)) × (40 ≤ length s) × (length s ≤ 49258)
+accepted-length s bytes h =
+    let e = accepted-encodes s bytes h in
+    let st = reading s .settings in
+    let p = in-parts st (e .0 .slots) (e .0 .settings) in
+    let len : length s ≡ 10 + 6 * st .count + 24 * length (rowsOf s) = ap length (sym (e .1)) ∙ length-encode st (rowsOf s) (e .0) in (
+      rw length-rowsOf at len,
+      omega (arith, len, p .least, e .0 .rows-least),
+      omega (arith, len, p .most, e .0 .rows-most),
+    )
+
+-- both are had: `Examples` has a recording of each length
+
+-- bytes longer than that are answered as their first 49,259 are
+pub long-as-front : (s : List ℕ) → 49258 < length s → reading s ≡ reading (take 49259 s)
+long-as-front = reading-of-front

@@ -1,0 +1,10 @@
+-- `recording::block_limits` meets its contract.
+use borrow.Author.Needs.{needs}
+use Rattle.recording.proofs.block_limits.Statement.{statement}
+use Rattle.recording.proofs.block_limits.Tie as tie
+
+returns : tie.Need-returns
+returns c = cc
+
+pub block-limits-spec : {M : Type 1} → statement M
+block-limits-spec = tie.close (tie.spec (λ c κs. search needs) (λ c κs. search needs) returns)

@@ -1,0 +1,12 @@
+-- `recording::row_at` meets its contract.
+use Rattle.recording.specs.Entries.{rowAt}
+use borrow.Author.Needs.{needs}
+use Rattle.recording.proofs.row_at.Statement.{statement}
+use Rattle.recording.proofs.row_at.Tie as tie
+
+returns : tie.Need-returns
+unfolding rowAt
+returns c = cc
+
+pub row-at-spec : {M : Type 1} → statement M
+row-at-spec = tie.close (tie.spec (λ c κs. search needs) (λ c κs. search needs) returns)

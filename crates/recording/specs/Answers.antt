@@ -1,0 +1,90 @@
+-- Document 01's number, place and values of each case of the enums that answer; 0 where a case has none.
+use Prim.Native.Nat.{ℕ}
+use mathlib.Core.Bool.{Bool, true, false}
+use Rattle.settings.specs.declared.Row.{Row}
+use Rattle.recording.specs.declared.Section.{Section}
+use Rattle.recording.specs.declared.Section.the-variants as S
+use Rattle.recording.specs.declared.Answer.{Answer}
+use Rattle.recording.specs.declared.Answer.the-variants as A
+use Rattle.recording.specs.declared.Step.{Step}
+use Rattle.recording.specs.declared.Step.the-variants as T
+use Rattle.recording.specs.declared.Written.{Written}
+use Rattle.recording.specs.declared.Written.the-variants as W
+
+-- ## The reader
+
+abbrev pub number : Answer → ℕ
+number (A.Accepted rows first width) = 0
+number (A.Refused n p) = n
+
+abbrev pub place : Answer → ℕ
+place (A.Accepted rows first width) = 0
+place (A.Refused n p) = p
+
+abbrev pub rowCount : Answer → ℕ
+rowCount (A.Accepted rows first width) = rows
+rowCount (A.Refused n p) = 0
+
+abbrev pub firstRow : Answer → ℕ
+firstRow (A.Accepted rows first width) = first
+firstRow (A.Refused n p) = 0
+
+abbrev pub rowWidth : Answer → ℕ
+rowWidth (A.Accepted rows first width) = width
+rowWidth (A.Refused n p) = 0
+
+-- ## One of its sections: the place is the one after it, or the refusal's
+
+abbrev pub sectionNumber : Section → ℕ
+sectionNumber (S.Next at) = 0
+sectionNumber (S.Refused n p) = n
+
+abbrev pub sectionPlace : Section → ℕ
+sectionPlace (S.Next at) = at
+sectionPlace (S.Refused n p) = p
+
+-- ## The row at a place
+
+abbrev pub ended : Step → Bool
+ended (T.Row row next) = false
+ended T.Ended = true
+
+abbrev pub noRow : Row
+noRow =
+    record {
+      hold = 0;
+      words = record {
+        values = 0;
+        bad = 0;
+        mask = 0;
+        «require_reset» = 0;
+        «reset_permit» = 0;
+        «start_permit» = 0;
+        reset = 0;
+        «force_permit» = 0;
+        «force_trip» = 0;
+        «force_normal» = 0;
+      };
+    }
+
+abbrev pub stepRow : Step → Row
+stepRow (T.Row row next) = row
+stepRow T.Ended = noRow
+
+abbrev pub nextPlace : Step → ℕ
+nextPlace (T.Row row next) = next
+nextPlace T.Ended = 0
+
+-- ## The writer: a refusal's place is 0 outside the reader, and its length too
+
+abbrev pub writtenNumber : Written → ℕ
+writtenNumber (W.Bytes n) = 0
+writtenNumber (W.Refused k) = k
+
+abbrev pub writtenPlace : Written → ℕ
+writtenPlace (W.Bytes n) = 0
+writtenPlace (W.Refused k) = 0
+
+abbrev pub writtenLength : Written → ℕ
+writtenLength (W.Bytes n) = n
+writtenLength (W.Refused k) = 0

@@ -1,0 +1,42 @@
+-- The bytes of a recording, and which settings and rows have one. Document 01, "Recordings".
+use Prim.Native.Nat.{ℕ, _≤_}
+use mathlib.Core.Path.{_≡_}
+use mathlib.Core.List.{List, [], _∷_, _++_}
+use lib.ListN.{length, take}
+use Rattle.bits.specs.Numbers.{digits}
+use Rattle.settings.specs.declared.Effect.{Effect}
+use Rattle.settings.specs.declared.Row.{Row}
+use Rattle.settings.specs.declared.Settings.{Settings}
+use Rattle.settings.specs.Right.{limitsOf, settingsNumber, rowNumber}
+use Rattle.recording.specs.Entries.{BlockEntry, putBlock, putEffect, putRow, putAll}
+
+abbrev pub blockOf : Settings → BlockEntry
+blockOf st = record { causes = st .causes; options = st .options; period = st .period }
+
+abbrev pub effectsOf : Settings → List Effect
+effectsOf st = take (st .count) (st .effects)
+
+-- a section: its 16-bit count, then its entries
+abbrev pub counted : {A : Type 0} → (A → List ℕ) → List A → List ℕ
+counted put xs = digits 2 (length xs) ++ putAll put xs
+
+-- sections in a fixed order, nothing after the last
+unfoldable pub encode : Settings → List Row → List ℕ
+encode st rows = counted putBlock (blockOf st ∷ []) ++ (counted putEffect (effectsOf st) ++ counted putRow rows)
+
+-- the opening piece, through the row count
+unfoldable pub opening : Settings → (rows : ℕ) → List ℕ
+opening st rows = counted putBlock (blockOf st ∷ []) ++ (counted putEffect (effectsOf st) ++ digits 2 rows)
+
+-- nothing refuses any of them
+abbrev pub All : {A : Type 0} → (A → ℕ) → List A → Type 0
+All check [] = Unit {0}
+All check (a ∷ xs) = (check a ≡ 0) × All check xs
+
+-- right settings and 1 to 2,048 right rows; the settings have their sixteen slots, as the array has
+pub record Right (st : Settings) (rows : List Row) : Type 0 where
+  pub settings : settingsNumber st ≡ 0
+  pub slots : length (st .effects) ≡ 16
+  pub rows-least : 1 ≤ length rows
+  pub rows-most : length rows ≤ 2048
+  pub each-row : All (rowNumber (limitsOf st)) rows

@@ -1,0 +1,8 @@
+pub mod Entries
+pub mod Sections
+pub mod Reader
+pub mod Answers
+pub mod Steps
+pub mod Encode
+pub mod Writer
+pub mod Refused

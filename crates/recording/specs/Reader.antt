@@ -1,0 +1,66 @@
+-- What a whole file comes to. Document 01, "Recordings": section by section, stopping at the first refusal.
+use Prim.Native.Nat.{ℕ, _+_, _-_}
+use mathlib.Core.Bool.{cond}
+use mathlib.Core.List.{List, _++_}
+use lib.Dec.{eqb}
+use lib.ListN.{length, replicate}
+use Rattle.bits.specs.Numbers.{numAt}
+use Rattle.settings.specs.declared.Settings.{Settings}
+use Rattle.settings.specs.declared.Limits.{Limits}
+use Rattle.settings.specs.Right.{limitsOf}
+use Rattle.settings.specs.Signals.{noEffect}
+use Rattle.recording.specs.declared.Section.{Section}
+use Rattle.recording.specs.declared.Section.the-variants as S
+use Rattle.recording.specs.declared.Answer.the-variants as A
+use Rattle.recording.specs.declared.Reading.{Reading}
+use Rattle.recording.specs.declared.Kind.the-variants.{Block, Effects, Rows}
+use Rattle.recording.specs.Entries.{effectAt, listOf}
+use Rattle.recording.specs.Sections.{widthOf, sectionOf}
+
+-- ## Settings and limits
+
+-- the settings of a file whose effects section starts at e
+abbrev pub settingsAt : List ℕ → ℕ → Settings
+settingsAt s e =
+    record {
+      causes = numAt 1 s 2;
+      options = numAt 1 s 3;
+      period = numAt 2 s 4;
+      count = numAt 2 s e;
+      effects = listOf (effectAt s) (widthOf Effects) (numAt 2 s e) (e + 2) ++ replicate (16 - numAt 2 s e) noEffect;
+    }
+
+-- what is known before the block section, and after it
+abbrev pub noLimits : Limits
+noLimits = record { causes = 0; count = 0; options = 0 }
+
+abbrev pub blockLimits : List ℕ → Limits
+blockLimits s = record { causes = numAt 1 s 2; count = 0; options = numAt 1 s 3 }
+
+-- ## The reading
+
+-- a refusal returns its number, a place, and zeros
+abbrev pub noSettings : Settings
+noSettings = record { causes = 0; options = 0; period = 0; count = 0; effects = replicate 16 noEffect }
+
+abbrev pub refusal : (number place : ℕ) → Reading
+refusal number place = record { answer = A.Refused number place; settings = noSettings }
+
+-- a section that passes is followed by the next
+abbrev pub fromSection : Section → (ℕ → Reading) → Reading
+fromSection (S.Next at) next = next at
+fromSection (S.Refused number place) next = refusal number place
+
+-- the sections in the file's order, the last first: effects at e, rows at r, nothing after them
+abbrev pub afterRows : List ℕ → (e r end : ℕ) → Reading
+afterRows s e r end =
+    cond (eqb end (length s)) (record { answer = A.Accepted (numAt 2 s r) (r + 2) (widthOf Rows); settings = settingsAt s e }) (refusal 7 end)
+
+abbrev pub afterEffects : List ℕ → (e r : ℕ) → Reading
+afterEffects s e r = fromSection (sectionOf Rows (limitsOf (settingsAt s e)) s r) (afterRows s e r)
+
+abbrev pub afterBlock : List ℕ → (e : ℕ) → Reading
+afterBlock s e = fromSection (sectionOf Effects (blockLimits s) s e) (afterEffects s e)
+
+unfoldable pub reading : List ℕ → Reading
+reading s = fromSection (sectionOf Block noLimits s 0) (afterBlock s)

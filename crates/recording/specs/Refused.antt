@@ -1,0 +1,59 @@
+-- Why a file is refused, by which number and at which place, in words of its bytes. Document 01, "Refusal numbers": the
+-- table, the order in a file, and the place: the file length for 1, the first byte of the count or entry for 2 to 6, the
+-- first spare byte for 7.
+use Prim.Native.Nat.{ℕ, suc, _+_, _*_, _≤_, _<_}
+use mathlib.Core.Path.{_≡_}
+use mathlib.Core.Bool.{true, false}
+use mathlib.Core.List.{List}
+use lib.ListN.{length}
+use Rattle.bits.specs.Numbers.{numAt}
+use Rattle.settings.specs.declared.Limits.{Limits}
+use Rattle.settings.specs.Right.{limitsOf}
+use Rattle.recording.specs.declared.Kind.{Kind}
+use Rattle.recording.specs.declared.Kind.the-variants.{Block, Effects, Rows}
+use Rattle.recording.specs.declared.Section.the-variants.{Next}
+use Rattle.recording.specs.Sections.{widthOf, numberOf, countOk, testOf, sectionOf}
+use Rattle.recording.specs.Reader.{noLimits, blockLimits, settingsAt}
+
+-- ## In n entries of w bytes from `at`, in a file of `len` bytes
+
+-- entry i is there to be looked at: those before it have their bytes and are right
+pub record Reached (test : ℕ → ℕ) (w len n at i : ℕ) : Type 0 where
+  pub counted : i < n
+  pub there : at + w * i ≤ len
+  pub right : (j : ℕ) → j < i → test (at + w * j) ≡ 0
+
+pub data EntryStops (test : ℕ → ℕ) (w len n at : ℕ) : ℕ → ℕ → Type 0 where
+  -- 1: the bytes end before the entry does
+  short : (i : ℕ) → Reached test w len n at i → len < at + w * i + w → EntryStops test w len n at 1 len
+  -- the entry's own number, at its first byte
+  wrong : (i k : ℕ) → Reached test w len n at i → at + w * i + w ≤ len → test (at + w * i) ≡ suc k → EntryStops test w len n at (suc k) (at + w * i)
+
+-- ## In a section at `at`
+
+pub data Stops (kind : Kind) (k : Limits) (s : List ℕ) (at : ℕ) : ℕ → ℕ → Type 0 where
+  -- 1: the bytes end before the count does
+  short : length s < at + 2 → Stops kind k s at 1 (length s)
+  -- the section's number: its count is wrong
+  wrong : at + 2 ≤ length s → countOk kind (numAt 2 s at) ≡ false → Stops kind k s at (numberOf kind) at
+  -- its entries
+  entries : (number place : ℕ) → at + 2 ≤ length s → countOk kind (numAt 2 s at) ≡ true
+      → EntryStops (testOf kind k s) (widthOf kind) (length s) (numAt 2 s at) (at + 2) number place → Stops kind k s at number place
+
+-- ## In a file
+
+-- the sections before the rows pass, and all three
+pub record ToRows (s : List ℕ) (e r : ℕ) : Type 0 where
+  pub block : sectionOf Block noLimits s 0 ≡ Next e
+  pub effects : sectionOf Effects (blockLimits s) s e ≡ Next r
+
+pub record ToEnd (s : List ℕ) (e r end : ℕ) : Type 0 where
+  pub before : ToRows s e r
+  pub rows : sectionOf Rows (limitsOf (settingsAt s e)) s r ≡ Next end
+
+pub data Refused (s : List ℕ) : ℕ → ℕ → Type 0 where
+  in-block : (number place : ℕ) → Stops Block noLimits s 0 number place → Refused s number place
+  in-effects : (number place e : ℕ) → sectionOf Block noLimits s 0 ≡ Next e → Stops Effects (blockLimits s) s e number place → Refused s number place
+  in-rows : (number place e r : ℕ) → ToRows s e r → Stops Rows (limitsOf (settingsAt s e)) s r number place → Refused s number place
+  -- 7: bytes left over
+  spare : (e r end : ℕ) → ToEnd s e r end → end < length s → Refused s 7 end

@@ -1,0 +1,70 @@
+-- The sections of a file: a 16-bit count, then entries. Document 01, "Recordings" and the order under "Refusal numbers".
+use Prim.Native.Nat.{ℕ, zero, suc, _+_}
+use mathlib.Core.Bool.{Bool, cond, _&&_}
+use mathlib.Core.List.{List}
+use lib.Dec.{leb}
+use lib.ListN.{length}
+use Rattle.bits.specs.Numbers.{numAt}
+use Rattle.settings.specs.declared.Limits.{Limits}
+use Rattle.settings.specs.Right.{effectNumber, rowNumber}
+use Rattle.recording.specs.declared.Section.{Section}
+use Rattle.recording.specs.declared.Section.the-variants.{Next, Refused}
+use Rattle.recording.specs.declared.Kind.{Kind}
+use Rattle.recording.specs.declared.Kind.the-variants.{Block, Effects, Rows}
+use Rattle.recording.specs.Entries.{blockAt, blockCheck, effectAt, rowAt}
+
+-- ## Any section
+
+-- an entry's number, 0 where it is right, and what follows it
+abbrev pub passed : (number at : ℕ) → Section → Section
+passed zero at next = next
+passed (suc k) at next = Refused (suc k) at
+
+-- n entries of w bytes from `at`, in a file of `len` bytes: each entry's bytes, then its fields
+abbrev pub entries : (test : ℕ → ℕ) (w len n at : ℕ) → Section
+entries test w len zero at = Next at
+entries test w len (suc n) at = cond (leb (at + w) len) (passed (test at) at (entries test w len n (at + w))) (Refused 1 len)
+
+-- a section at `at`: its count's bytes, its count, its entries
+unfoldable pub section : (test : ℕ → ℕ) (w least most number : ℕ) → List ℕ → (at : ℕ) → Section
+section test w least most number s at =
+    cond (leb (at + 2) (length s))
+    (cond (leb least (numAt 2 s at) && leb (numAt 2 s at) most) (entries test w (length s) (numAt 2 s at) (at + 2)) (Refused number at))
+    (Refused 1 (length s))
+
+-- ## The kinds of section
+
+-- the bytes of an entry
+abbrev pub widthOf : Kind → ℕ
+widthOf Block = 4
+widthOf Effects = 6
+widthOf Rows = 24
+
+-- the counts
+abbrev pub leastOf : Kind → ℕ
+leastOf Block = 1
+leastOf Effects = 1
+leastOf Rows = 1
+
+abbrev pub mostOf : Kind → ℕ
+mostOf Block = 1
+mostOf Effects = 16
+mostOf Rows = 2048
+
+abbrev pub countOk : Kind → ℕ → Bool
+countOk kind n = leb (leastOf kind) n && leb n (mostOf kind)
+
+-- the number that refuses a count
+abbrev pub numberOf : Kind → ℕ
+numberOf Block = 2
+numberOf Effects = 3
+numberOf Rows = 4
+
+-- the number that refuses an entry, by the limits that the sections before it set
+abbrev pub testOf : Kind → Limits → List ℕ → ℕ → ℕ
+testOf Block k s at = blockCheck (blockAt s at)
+testOf Effects k s at = effectNumber (k .causes) (effectAt s at)
+testOf Rows k s at = rowNumber k (rowAt s at)
+
+abbrev pub sectionOf : Kind → Limits → List ℕ → ℕ → Section
+sectionOf kind k s at = section (testOf kind k s) (widthOf kind) (leastOf kind) (mostOf kind) (numberOf kind) s at

@@ -1,0 +1,39 @@
+-- The row at a place. Document 01, "Recordings": ended where the reader refuses the bytes or the place is no row's first byte.
+use Prim.Native.Nat.{ℕ, _+_, _-_, _%_}
+use mathlib.Core.Bool.{Bool, cond, _&&_}
+use mathlib.Core.List.{List}
+use lib.Dec.{leb, ltb, eqb}
+use lib.ListN.{length}
+use Rattle.settings.specs.declared.Row.{Row}
+use Rattle.recording.specs.declared.Answer.{Answer}
+use Rattle.recording.specs.declared.Answer.the-variants as A
+use Rattle.recording.specs.declared.Kind.the-variants.{Rows}
+use Rattle.recording.specs.declared.Step.{Step}
+use Rattle.recording.specs.declared.Step.the-variants as T
+use Rattle.recording.specs.Entries.{rowAt, listOf}
+use Rattle.recording.specs.Answers.{rowCount, firstRow, rowWidth}
+use Rattle.recording.specs.Sections.{widthOf}
+use Rattle.recording.specs.Reader.{reading}
+
+-- in a file that was read and has rows of this width: ended where fewer bytes are left, or the width is no row's
+abbrev pub rowIn : List ℕ → (at width : ℕ) → Step
+rowIn s at width = cond (eqb width (widthOf Rows) && leb (at + width) (length s)) (T.Row (rowAt s at) (at + width)) T.Ended
+
+-- a row's first byte: whole rows after the first one's, before the end
+abbrev pub isPlace : (first width end at : ℕ) → Bool
+isPlace first width end at = leb first at && ltb at end && eqb ((at - first) % width) 0
+
+abbrev pub stepIn : Answer → List ℕ → ℕ → Step
+stepIn (A.Accepted rows first width) s at = cond (isPlace first width (length s) at) (rowIn s at width) T.Ended
+stepIn (A.Refused number place) s at = T.Ended
+
+-- in any bytes, at any place
+unfoldable pub stepAt : List ℕ → ℕ → Step
+stepAt s at = stepIn (reading s .answer) s at
+
+-- the rows at the row places, in the file's order
+abbrev pub rowsIn : Answer → List ℕ → List Row
+rowsIn a s = listOf (rowAt s) (rowWidth a) (rowCount a) (firstRow a)
+
+abbrev pub rowsOf : List ℕ → List Row
+rowsOf s = rowsIn (reading s .answer) s

@@ -1,0 +1,531 @@
+// Recordings: the reader, the row at a place, and the writer. Document 01, "Recordings" and "Refusal numbers".
+ghost use mathlib.Core.Path.{_≡_};
+ghost use mathlib.Core.Bool.{_&&_};
+ghost use mathlib.Core.List.{_++_, _∷_, []};
+ghost use Prim.Native.Nat.{_+_, _*_, _-_, _≤_, _<_};
+ghost use lib.ListN.{length, replicate, take};
+ghost use lib.Seq.{sets};
+ghost use Rattle.bits.specs.Numbers.{numAt};
+ghost use Rattle.bits.specs.Layout.{pack};
+ghost use Rattle.settings.specs.Right.{limitsOf};
+ghost use Rattle.settings.specs.Signals.{noEffect};
+ghost use Rattle.recording.specs.Entries.{effectAt, wordsAt, rowAt, listOf, putEffect, putRow, putAll};
+ghost use Rattle.recording.specs.Sections.{widthOf, leastOf, mostOf, numberOf, countOk, testOf, sectionOf};
+ghost use Rattle.recording.specs.Reader.{noLimits, blockLimits, settingsAt, refusal, fromSection, reading};
+ghost use Rattle.recording.specs.Steps.{rowIn, isPlace, stepAt};
+ghost use Rattle.recording.specs.Encode.{opening};
+ghost use Rattle.recording.specs.Writer.{openingNumber, rowPieceNumber, openingWritten, openingAfter, rowWritten, rowAfter};
+use settings::Effect;
+use settings::Limits;
+use settings::Row;
+use settings::Settings;
+use settings::Words;
+
+// The kinds of section, in the file's order.
+pub enum Kind {
+    Block,
+    Effects,
+    Rows,
+}
+
+// What a section comes to: the place after it, or a refusal.
+pub enum Section {
+    Next(usize),
+    Refused { number: u8, place: usize },
+}
+
+// What a recording comes to: the row count, the first row's place and the width of a row, or a refusal.
+pub enum Answer {
+    Accepted {
+        rows: u16,
+        first: usize,
+        width: usize,
+    },
+    Refused {
+        number: u8,
+        place: usize,
+    },
+}
+
+// The answer, and the settings, which are all zero beside a refusal.
+pub struct Reading {
+    pub answer: Answer,
+    pub settings: Settings,
+}
+
+// What stands at a place: a row and the place after it, or nothing.
+pub enum Step {
+    Row(Row, usize),
+    Ended,
+}
+
+// What writing a piece comes to: the bytes written, or the refusal's number.
+pub enum Written {
+    Bytes(usize),
+    Refused(u8),
+}
+
+// ---- entries
+
+fn effect_at(s: &[u8], at: usize) -> Effect
+    requires { ⌜ at + 6 ≤ length (now s) ⌝ }
+    ensures { λ r. ⌜ r ≡ effectAt (now (s .entry)) at ⌝ }
+{
+    Effect {
+        association: bits::get16(s, at),
+        delay: bits::get32(s, at + 2),
+    }
+}
+
+// The ten words of the row at `at`.
+fn words_at(s: &[u8], at: usize) -> Words
+    requires { ⌜ at + 24 ≤ length (now s) ⌝ }
+    ensures { λ r. ⌜ r ≡ wordsAt (now (s .entry)) at ⌝ }
+{
+    Words {
+        values: bits::get16(s, at + 4),
+        bad: bits::get16(s, at + 6),
+        mask: bits::get16(s, at + 8),
+        require_reset: bits::get16(s, at + 10),
+        reset_permit: bits::get16(s, at + 12),
+        start_permit: bits::get16(s, at + 14),
+        reset: bits::get16(s, at + 16),
+        force_permit: bits::get16(s, at + 18),
+        force_trip: bits::get16(s, at + 20),
+        force_normal: bits::get16(s, at + 22),
+    }
+}
+
+fn row_at(s: &[u8], at: usize) -> Row
+    requires { ⌜ at + 24 ≤ length (now s) ⌝ }
+    ensures { λ r. ⌜ r ≡ rowAt (now (s .entry)) at ⌝ }
+{
+    Row {
+        hold: bits::get32(s, at),
+        words: words_at(s, at),
+    }
+}
+
+// ---- sections
+
+// The bytes of an entry.
+fn width_of(kind: Kind) -> usize
+    ensures { λ r. ⌜ r ≡ widthOf kind ⌝ }
+{
+    match kind {
+        Kind::Block => 4,
+        Kind::Effects => 6,
+        Kind::Rows => 24,
+    }
+}
+
+fn least_of(kind: Kind) -> u16
+    ensures { λ r. ⌜ r ≡ leastOf kind ⌝ }
+{
+    match kind {
+        Kind::Block => 1,
+        Kind::Effects => 1,
+        Kind::Rows => 1,
+    }
+}
+
+fn most_of(kind: Kind) -> u16
+    ensures { λ r. ⌜ r ≡ mostOf kind ⌝ }
+{
+    match kind {
+        Kind::Block => 1,
+        Kind::Effects => 16,
+        Kind::Rows => 2048,
+    }
+}
+
+// The number that refuses a count.
+fn number_of(kind: Kind) -> u8
+    ensures { λ r. ⌜ r ≡ numberOf kind ⌝ }
+{
+    match kind {
+        Kind::Block => 2,
+        Kind::Effects => 3,
+        Kind::Rows => 4,
+    }
+}
+
+fn count_ok(kind: Kind, n: u16) -> bool
+    ensures { λ r. ⌜ r ≡ countOk kind n ⌝ }
+{
+    (least_of(kind) <= n) & (n <= most_of(kind))
+}
+
+// 0 for an entry that is right, or its refusal's number.
+fn entry_number(kind: Kind, known: Limits, s: &[u8], at: usize) -> u8
+    requires { ⌜ at + widthOf kind ≤ length (now s) ⌝ }
+    ensures { λ r. ⌜ r ≡ testOf kind known (now (s .entry)) at ⌝ }
+{
+    match kind {
+        Kind::Block => settings::block_number(
+            bits::get8(s, at),
+            bits::get8(s, at + 1),
+            bits::get16(s, at + 2),
+        ),
+        Kind::Effects => settings::effect_number(known.causes, effect_at(s, at)),
+        Kind::Rows => settings::row_number(known, row_at(s, at)),
+    }
+}
+
+// A section: its count's bytes, its count, then for each entry its bytes and its fields.
+fn read_section(kind: Kind, known: Limits, s: &[u8], at: usize) -> Section
+    requires { ⌜ at ≤ length (now s) ⌝ }
+    ensures { λ r. ⌜ r ≡ sectionOf kind known (now (s .entry)) at ⌝ }
+{
+    if s.len() - at < 2 {
+        return Section::Refused {
+            number: 1,
+            place: s.len(),
+        };
+    }
+    let n = bits::get16(s, at);
+    if !count_ok(kind, n) {
+        return Section::Refused {
+            number: number_of(kind),
+            place: at,
+        };
+    }
+    let w = width_of(kind);
+    let mut left = n;
+    let mut place = at + 2;
+    while 0 < left {
+        if s.len() - place < w {
+            return Section::Refused {
+                number: 1,
+                place: s.len(),
+            };
+        }
+        let next = place + w;
+        let verdict = entry_number(kind, known, s, place);
+        if verdict != 0 {
+            return Section::Refused {
+                number: verdict,
+                place: place,
+            };
+        }
+        place = next;
+        left -= 1;
+    }
+    Section::Next(place)
+}
+
+// ---- the reader
+
+// The n effects from `at`, and empty slots after them.
+fn effects_at(s: &[u8], at: usize, n: usize) -> [Effect; 16]
+    requires { ⌜ (n ≤ 16) × (at + 6 * n ≤ length (now s)) ⌝ }
+    ensures { λ r. ⌜ r ≡ listOf (effectAt (now (s .entry))) 6 n at ++ replicate (16 - n) noEffect ⌝ }
+{
+    let mut effects = [Effect {
+        association: 0,
+        delay: 0,
+    }; 16];
+    let w = width_of(Kind::Effects);
+    let mut i = 0;
+    let mut place = at;
+    while i < n {
+        let e = effect_at(s, place);
+        effects[i] = e;
+        place += w;
+        i += 1;
+    }
+    effects
+}
+
+// The settings of a file whose effects section starts at `e`.
+fn settings_at(s: &[u8], e: usize) -> Settings
+    requires { ⌜ (6 ≤ e) × (numAt 2 (now s) e ≤ 16) × (e + 2 + 6 * numAt 2 (now s) e ≤ length (now s)) ⌝ }
+    ensures { λ r. ⌜ r ≡ settingsAt (now (s .entry)) e ⌝ }
+{
+    let count = bits::get16(s, e);
+    let effects = effects_at(s, e + 2, count as usize);
+    Settings {
+        causes: bits::get8(s, 2),
+        options: bits::get8(s, 3),
+        period: bits::get16(s, 4),
+        count: count as u8,
+        effects: effects,
+    }
+}
+
+// What the block section's entry tells of the limits.
+fn block_limits(s: &[u8]) -> Limits
+    requires { ⌜ 4 ≤ length (now s) ⌝ }
+    ensures { λ r. ⌜ r ≡ blockLimits (now (s .entry)) ⌝ }
+{
+    Limits {
+        causes: bits::get8(s, 2),
+        count: 0,
+        options: bits::get8(s, 3),
+    }
+}
+
+fn no_limits() -> Limits
+    ensures { λ r. ⌜ r ≡ noLimits ⌝ }
+{
+    Limits {
+        causes: 0,
+        count: 0,
+        options: 0,
+    }
+}
+
+// A refusal, with settings that are all zero.
+fn refused(number: u8, place: usize) -> Reading
+    ensures { λ r. ⌜ r ≡ refusal number place ⌝ }
+{
+    let none = [Effect {
+        association: 0,
+        delay: 0,
+    }; 16];
+    let settings = Settings {
+        causes: 0,
+        options: 0,
+        period: 0,
+        count: 0,
+        effects: none,
+    };
+    Reading {
+        answer: Answer::Refused { number, place },
+        settings: settings,
+    }
+}
+
+// What a recording comes to whose section refused: the section's number and place.
+fn stopped(part: Section) -> Reading
+    ensures { λ r. ⌜ r ≡ fromSection part (refusal 0) ⌝ }
+{
+    match part {
+        Section::Refused { number, place } => refused(number, place),
+        Section::Next(at) => refused(0, at),
+    }
+}
+
+// Reads a recording, section by section, and stops at the first refusal.
+pub fn read(s: &[u8]) -> Reading
+    ensures { λ r. ⌜ r ≡ reading (now (s .entry)) ⌝ }
+{
+    let block = read_section(Kind::Block, no_limits(), s, 0);
+    let Section::Next(e) = block else {
+        return stopped(block);
+    };
+    let effects = read_section(Kind::Effects, block_limits(s), s, e);
+    let Section::Next(r) = effects else {
+        return stopped(effects);
+    };
+    let settings = settings_at(s, e);
+    let rows = read_section(Kind::Rows, settings::limits_of(settings), s, r);
+    let Section::Next(end) = rows else {
+        return stopped(rows);
+    };
+    if end != s.len() {
+        return refused(7, end);
+    }
+    Reading {
+        answer: Answer::Accepted {
+            rows: bits::get16(s, r),
+            first: r + 2,
+            width: width_of(Kind::Rows),
+        },
+        settings: settings,
+    }
+}
+
+// ---- the row at a place
+
+// In a file that was read and has rows of this width: the row at `at`, or ended where fewer bytes are left.
+pub fn row_in(s: &[u8], at: usize, width: usize) -> Step
+    ensures { λ r. ⌜ r ≡ rowIn (now (s .entry)) at width ⌝ }
+{
+    if width != width_of(Kind::Rows) {
+        return Step::Ended;
+    }
+    if s.len() < at {
+        return Step::Ended;
+    }
+    if s.len() - at < width {
+        return Step::Ended;
+    }
+    Step::Row(row_at(s, at), at + width)
+}
+
+// A row's first byte: whole rows after the first one's, before the end.
+fn is_place(first: usize, width: usize, end: usize, at: usize) -> bool
+    requires { ⌜ 0 < width ⌝ }
+    ensures { λ r. ⌜ r ≡ isPlace first width end at ⌝ }
+{
+    if at < first {
+        return false;
+    }
+    (at < end) & ((at - first) % width == 0)
+}
+
+// In any bytes, at any place: ended where the reader refuses the bytes, or the place is no row's first byte.
+pub fn row_step(s: &[u8], at: usize) -> Step
+    ensures { λ r. ⌜ r ≡ stepAt (now (s .entry)) at ⌝ }
+{
+    let reading = read(s);
+    let answer = reading.answer;
+    let Answer::Accepted {
+        rows: _,
+        first,
+        width,
+    } = answer
+    else {
+        return Step::Ended;
+    };
+    if !is_place(first, width, s.len(), at) {
+        return Step::Ended;
+    }
+    row_in(s, at, width)
+}
+
+// ---- the writer
+
+// Five words from `at`.
+fn put_five(s: &mut [u8], at: usize, a: u16, b: u16, c: u16, d: u16, e: u16)
+    requires { ⌜ at + 10 ≤ length (now s) ⌝ }
+    ensures { λ _. ⌜ now (s .exit) ≡ sets (now (s .entry)) at (pack (2 ∷ 2 ∷ 2 ∷ 2 ∷ 2 ∷ []) (a ∷ b ∷ c ∷ d ∷ e ∷ [])) ⌝ }
+{
+    bits::put16(s, at, a);
+    bits::put16(s, at + 2, b);
+    bits::put16(s, at + 4, c);
+    bits::put16(s, at + 6, d);
+    bits::put16(s, at + 8, e);
+}
+
+fn put_row(s: &mut [u8], at: usize, row: Row)
+    requires { ⌜ at + 24 ≤ length (now s) ⌝ }
+    ensures { λ _. ⌜ now (s .exit) ≡ sets (now (s .entry)) at (putRow row) ⌝ }
+{
+    let w = row.words;
+    bits::put32(s, at, row.hold);
+    put_five(
+        s,
+        at + 4,
+        w.values,
+        w.bad,
+        w.mask,
+        w.require_reset,
+        w.reset_permit,
+    );
+    put_five(
+        s,
+        at + 14,
+        w.start_permit,
+        w.reset,
+        w.force_permit,
+        w.force_trip,
+        w.force_normal,
+    );
+}
+
+fn put_effect(s: &mut [u8], at: usize, e: Effect)
+    requires { ⌜ at + 6 ≤ length (now s) ⌝ }
+    ensures { λ _. ⌜ now (s .exit) ≡ sets (now (s .entry)) at (putEffect e) ⌝ }
+{
+    bits::put16(s, at, e.association);
+    bits::put32(s, at + 2, e.delay);
+}
+
+// The first n effects from `at`; there are so many.
+fn put_effects(s: &mut [u8], at: usize, effects: [Effect; 16], n: usize)
+    requires { ⌜ (n ≤ 16) × (at + 6 * n ≤ length (now s)) ⌝ }
+    ensures { λ _. ⌜ now (s .exit) ≡ sets (now (s .entry)) at (putAll putEffect (take n effects)) ⌝ }
+    ensures { λ _. ⌜ length (take n effects) ≡ n ⌝ }
+{
+    let mut i = 0;
+    while i < n {
+        let e = effects[i];
+        put_effect(s, at + 6 * i, e);
+        i += 1;
+    }
+}
+
+// The block section and the effects' count.
+fn put_block(s: &mut [u8], causes: u8, options: u8, period: u16, count: u16)
+    requires { ⌜ 8 ≤ length (now s) ⌝ }
+    ensures { λ _. ⌜ now (s .exit) ≡ sets (now (s .entry)) 0 (pack (2 ∷ 1 ∷ 1 ∷ 2 ∷ 2 ∷ []) (1 ∷ causes ∷ options ∷ period ∷ count ∷ [])) ⌝ }
+{
+    bits::put16(s, 0, 1);
+    bits::put8(s, 2, causes);
+    bits::put8(s, 3, options);
+    bits::put16(s, 4, period);
+    bits::put16(s, 6, count);
+}
+
+// The opening piece at the start of `s`, with its length.
+fn put_opening(s: &mut [u8], st: Settings, rows: u16)
+    requires { ⌜ (st .count ≤ 16) × (10 + 6 * st .count ≤ length (now s)) ⌝ }
+    ensures { λ _. ⌜ now (s .exit) ≡ sets (now (s .entry)) 0 (opening st rows) ⌝ }
+    ensures { λ _. ⌜ length (opening st rows) ≡ 10 + 6 * st .count ⌝ }
+{
+    let n = st.count as usize;
+    let effects = st.effects;
+    put_block(s, st.causes, st.options, st.period, st.count as u16);
+    put_effects(s, 8, effects, n);
+    bits::put16(s, 8 + 6 * n, rows);
+}
+
+fn opening_number(st: Settings, rows: u16) -> u8
+    ensures { λ r. ⌜ r ≡ openingNumber st rows ⌝ }
+{
+    let number = settings::settings_number(st);
+    if number != 0 {
+        return number;
+    }
+    if count_ok(Kind::Rows, rows) {
+        0
+    } else {
+        number_of(Kind::Rows)
+    }
+}
+
+fn row_piece_number(st: Settings, row: Row) -> u8
+    ensures { λ r. ⌜ r ≡ rowPieceNumber st row ⌝ }
+{
+    let number = settings::settings_number(st);
+    if number != 0 {
+        return number;
+    }
+    settings::row_number(settings::limits_of(st), row)
+}
+
+// Writes the opening piece, through the row count, at the start of `out`.
+pub fn write_opening(st: Settings, rows: u16, out: &mut [u8]) -> Written
+    ensures { λ r. ⌜ r ≡ openingWritten st rows (length (now (out .entry))) ⌝ }
+    ensures { λ _. ⌜ now (out .exit) ≡ openingAfter st rows (now (out .entry)) ⌝ }
+{
+    let number = opening_number(st, rows);
+    if number != 0 {
+        return Written::Refused(number);
+    }
+    let n = 10 + 6 * (st.count as usize);
+    if out.len() < n {
+        return Written::Refused(10);
+    }
+    put_opening(out, st, rows);
+    Written::Bytes(n)
+}
+
+// Writes a row at the start of `out`.
+pub fn write_row(st: Settings, row: Row, out: &mut [u8]) -> Written
+    ensures { λ r. ⌜ r ≡ rowWritten st row (length (now (out .entry))) ⌝ }
+    ensures { λ _. ⌜ now (out .exit) ≡ rowAfter st row (now (out .entry)) ⌝ }
+{
+    let number = row_piece_number(st, row);
+    if number != 0 {
+        return Written::Refused(number);
+    }
+    let width = width_of(Kind::Rows);
+    if out.len() < width {
+        return Written::Refused(10);
+    }
+    put_row(out, 0, row);
+    Written::Bytes(width)
+}
