@@ -1,0 +1,264 @@
+// Answers a stream of recordings on standard input: for each the reader's answer, its rows, and the bytes that the writer
+// gives for what was read. second/README.md lays both streams out.
+ghost use mathlib.Core.Path.{_≡_};
+ghost use Prim.Native.Nat.{_+_, _≤_};
+ghost use lib.ListN.{length};
+use recording::Answer;
+use recording::Step;
+use recording::Written;
+use settings::Row;
+use settings::Settings;
+use settings::Words;
+
+// Writes the digits of some bytes.
+fn print_hex(s: &[u8]) -> bool
+    requires { ⌜ length (now s) ≤ 160 ⌝ }
+{
+    let mut line = [0u8; 320];
+    cases::put_hex(s, &mut line, 0);
+    let n = 2 * s.len();
+    io::write_all(1, &line[..n])
+}
+
+fn print_end() -> bool {
+    io::write_all(1, b"\n")
+}
+
+// ---- the reader's answer: 116 bytes
+
+fn put_effects(out: &mut [u8], st: Settings)
+    requires { ⌜ length (now out) ≡ 116 ⌝ }
+    ensures { λ _. ⌜ length (now (out .exit)) ≡ 116 ⌝ }
+{
+    let mut i: usize = 0;
+    while i < 16 {
+        let e = st.effects[i];
+        bits::put16(out, 10 + 6 * i, e.association);
+        bits::put32(out, 12 + 6 * i, e.delay);
+        i += 1;
+    }
+}
+
+fn put_settings(out: &mut [u8], st: Settings)
+    requires { ⌜ length (now out) ≡ 116 ⌝ }
+    ensures { λ _. ⌜ length (now (out .exit)) ≡ 116 ⌝ }
+{
+    bits::put8(out, 5, st.causes);
+    bits::put8(out, 6, st.options);
+    bits::put16(out, 7, st.period);
+    bits::put8(out, 9, st.count);
+    put_effects(out, st);
+}
+
+fn put_numbers(out: &mut [u8], number: u8, place: usize, rows: u16, first: usize, width: usize)
+    requires { ⌜ length (now out) ≡ 116 ⌝ }
+    ensures { λ _. ⌜ length (now (out .exit)) ≡ 116 ⌝ }
+{
+    bits::put8(out, 0, number);
+    bits::put32(out, 1, (place % 4294967296) as u32);
+    bits::put16(out, 106, rows);
+    bits::put32(out, 108, (first % 4294967296) as u32);
+    bits::put32(out, 112, (width % 4294967296) as u32);
+}
+
+fn print_head(
+    number: u8,
+    place: usize,
+    st: Settings,
+    rows: u16,
+    first: usize,
+    width: usize,
+) -> bool {
+    let mut out = [0u8; 116];
+    put_numbers(&mut out, number, place, rows, first, width);
+    put_settings(&mut out, st);
+    print_hex(&out);
+    print_end()
+}
+
+// ---- a row: its place, its hold and its words, 28 bytes
+
+fn put_five(out: &mut [u8], at: usize, a: u16, b: u16, c: u16, d: u16, e: u16)
+    requires { ⌜ (length (now out) ≡ 28) × (at + 10 ≤ 28) ⌝ }
+    ensures { λ _. ⌜ length (now (out .exit)) ≡ 28 ⌝ }
+{
+    bits::put16(out, at, a);
+    bits::put16(out, at + 2, b);
+    bits::put16(out, at + 4, c);
+    bits::put16(out, at + 6, d);
+    bits::put16(out, at + 8, e);
+}
+
+fn put_words(out: &mut [u8], w: Words)
+    requires { ⌜ length (now out) ≡ 28 ⌝ }
+    ensures { λ _. ⌜ length (now (out .exit)) ≡ 28 ⌝ }
+{
+    put_five(
+        out,
+        8,
+        w.values,
+        w.bad,
+        w.mask,
+        w.require_reset,
+        w.reset_permit,
+    );
+    put_five(
+        out,
+        18,
+        w.start_permit,
+        w.reset,
+        w.force_permit,
+        w.force_trip,
+        w.force_normal,
+    );
+}
+
+fn put_row(out: &mut [u8], at: usize, row: Row)
+    requires { ⌜ length (now out) ≡ 28 ⌝ }
+    ensures { λ _. ⌜ length (now (out .exit)) ≡ 28 ⌝ }
+{
+    bits::put32(out, 0, (at % 4294967296) as u32);
+    bits::put32(out, 4, row.hold);
+    put_words(out, row.words);
+}
+
+// Prints the row at a place, and answers the place after it.
+fn print_row(s: &[u8], at: usize, width: usize) -> usize {
+    let step = recording::row_in(s, at, width);
+    let Step::Row(row, next) = step else {
+        return at;
+    };
+    let mut out = [0u8; 28];
+    put_row(&mut out, at, row);
+    print_hex(&out);
+    print_end();
+    next
+}
+
+fn print_rows(s: &[u8], first: usize, width: usize, rows: u16) {
+    let mut at = first;
+    let mut left = rows;
+    while 0 < left {
+        at = print_row(s, at, width);
+        left -= 1;
+    }
+}
+
+// ---- the bytes written back
+
+fn print_piece(w: Written, out: &[u8]) -> bool
+    requires { ⌜ length (now out) ≡ 160 ⌝ }
+{
+    let Written::Bytes(n) = w else {
+        return false;
+    };
+    if 160 < n {
+        return false;
+    }
+    print_hex(&out[..n])
+}
+
+fn print_opening(st: Settings, rows: u16) -> bool {
+    let mut out = [0u8; 160];
+    let w = recording::write_opening(st, rows, &mut out);
+    print_piece(w, &out)
+}
+
+fn print_written_row(st: Settings, row: Row) -> bool {
+    let mut out = [0u8; 160];
+    let w = recording::write_row(st, row, &mut out);
+    print_piece(w, &out)
+}
+
+// Prints the row at a place as it is written, and answers the place after it. The row is found as a stranger would, by
+// any place of any bytes.
+fn print_row_back(st: Settings, s: &[u8], at: usize) -> usize {
+    let step = recording::row_step(s, at);
+    let Step::Row(row, next) = step else {
+        return at;
+    };
+    print_written_row(st, row);
+    next
+}
+
+fn print_rows_back(st: Settings, s: &[u8], first: usize, rows: u16) {
+    let mut at = first;
+    let mut left = rows;
+    while 0 < left {
+        at = print_row_back(st, s, at);
+        left -= 1;
+    }
+}
+
+// ---- one recording
+
+fn answer(s: &[u8]) -> bool {
+    let reading = recording::read(s);
+    let st = reading.settings;
+    let a = reading.answer;
+    match a {
+        Answer::Accepted { rows, first, width } => {
+            print_head(0, 0, st, rows, first, width);
+            print_rows(s, first, width, rows);
+            print_opening(st, rows);
+            print_rows_back(st, s, first, rows);
+            print_end()
+        }
+        Answer::Refused { number, place } => print_head(number, place, st, 0, 0, 0),
+    }
+}
+
+fn truncated() -> bool {
+    io::write_all(1, b"truncated\n");
+    false
+}
+
+// Reads so many bytes to the front of `file` and answers them.
+fn answer_file(file: &mut [u8], n: usize) -> bool
+    requires { ⌜ n ≤ length (now file) ⌝ }
+{
+    let got = io::read_full(0, &mut file[..n]);
+    if got < n {
+        return truncated();
+    }
+    answer(&file[..n])
+}
+
+// Reads a recording and answers it; false at the end of the input, in a recording that is cut short, or if nothing can be
+// written. A stream has none above 49,262 bytes.
+fn next_file(file: &mut [u8]) -> bool
+    requires { ⌜ length (now file) ≡ 49262 ⌝ }
+    ensures { λ _. ⌜ length (now (file .exit)) ≡ 49262 ⌝ }
+{
+    let mut head = [0u8; 4];
+    let got = io::read_full(0, &mut head);
+    if got == 0 {
+        return false;
+    }
+    if got < 4 {
+        return truncated();
+    }
+    let n = bits::get32(&head, 0) as usize;
+    if 49262 < n {
+        return truncated();
+    }
+    answer_file(file, n)
+}
+
+// At most a million recordings.
+fn answer_all(file: &mut [u8])
+    requires { ⌜ length (now file) ≡ 49262 ⌝ }
+{
+    let mut done: usize = 0;
+    while done < 1000000 {
+        if !next_file(file) {
+            return;
+        }
+        done += 1;
+    }
+}
+
+fn main() {
+    let mut file = [0u8; 49262];
+    answer_all(&mut file);
+}
