@@ -19,7 +19,8 @@ use Rattle.recording.specs.declared.Kind.the-variants.{Block, Effects, R
 use Rattle.recording.specs.Entries.{blockCheck}
 use Rattle.recording.specs.Sections.{passed, entries, widthOf, leastOf, mostOf, countOk, testOf, sectionOf}
 use Rattle.recording.specs.Reader.{noLimits, blockLimits, settingsAt, reading}
-use Rattle.recording.proofs.Sections.{and-right, section-count, section-entries}
+use Rattle.bits.proofs.Lists.{and-right}
+use Rattle.recording.proofs.Sections.{section-count, section-entries}
 use Rattle.recording.proofs.Entries.{num-front, block-front, effect-front, row-front}
 use Rattle.recording.proofs.Between.{block-room, effects-whole, rows-whole, read-block, read-effects, read-rows, left-over}
 use Rattle.recording.proofs.Cases.{reading-cases}

@@ -4,11 +4,8 @@ use mathlib.Core.List.{List, [], _∷_, _++_}
 use Prim.Native.Nat.{ℕ, _+_, _*_, _≤_}
 use native.Mathlib.Nat.{zero-add}
 use native.Mathlib.Omega.{arith}
-use borrow.Author.Tests.{leb-true}
-use lib.Dec.{leb}
 use lib.ListN.{length, length-append}
 use lib.Seq.{sets, length-take-le}
-use Rattle.bits.specs.Lists.{allFrom}
 use Rattle.bits.specs.Numbers.{digits}
 use Rattle.bits.specs.Layout.{pack}
 use Rattle.bits.proofs.Numbers.{sets-then}
@@ -16,27 +13,19 @@ use Rattle.settings.specs.declared.Effect.{Effect}
 use Rattle.settings.specs.declared.Row.{Row}
 use Rattle.settings.specs.declared.Settings.{Settings}
 use Rattle.settings.specs.Refusals.{unless}
-use Rattle.settings.specs.Right.{limitsOf, blockNumber, countOk, slotOk, effectsNumber, settingsNumber}
-use Rattle.settings.proofs.Refusals.{or-else-none, unless-none}
+use Rattle.settings.specs.Right.{settingsNumber}
+use Rattle.settings.proofs.Refusals.{or-else-none}
+use Rattle.settings.proofs.Right.{count-few}
 use Rattle.recording.specs.Entries.{putAll, putBlock, putEffect, putRow}
 use Rattle.recording.specs.Encode.{effectsOf, opening}
 use Rattle.recording.specs.Writer.{openingNumber}
 use Rattle.recording.specs.declared.Kind.the-variants.{Rows}
 use Rattle.recording.specs.Sections.{numberOf, countOk as rowsOk}
 use Rattle.recording.proofs.Lists.{length-putAll}
-use Rattle.recording.proofs.Sections.{and-left, and-right}
-
--- right settings have at most 16 effects
-pub settings-count : (st : Settings) → settingsNumber st ≡ 0 → st .count ≤ 16
-unfolding settingsNumber
-settings-count st h =
-    let n = st .count in
-    let e = or-else-none (blockNumber (st .causes) (st .options) (st .period)) (effectsNumber st) h .1 in
-    leb-true n 16 (and-right (leb 1 n) _ (and-left (countOk n) (allFrom (slotOk (limitsOf st)) 0 (st .effects)) (unless-none _ 2 e)))
 
 pub opening-count : (st : Settings) (rows : ℕ) → openingNumber st rows ≡ 0 → st .count ≤ 16
 unfolding openingNumber
-opening-count st rows h = settings-count st (or-else-none (settingsNumber st) (unless (rowsOk Rows rows) (numberOf Rows)) h .0)
+opening-count st rows h = count-few st (or-else-none (settingsNumber st) (unless (rowsOk Rows rows) (numberOf Rows)) h .0)
 
 pub effect-length : (e : Effect) → length (putEffect e) ≡ 6
 unfolding putEffect

@@ -18,7 +18,7 @@ use Rattle.recording.specs.Answers.{rowCount, firstRow, rowWidth}
 use Rattle.recording.specs.Steps.{rowIn, isPlace, stepIn, rowsIn}
 use Rattle.recording.specs.Refused.{ToEnd}
 use Rattle.recording.proofs.Lists.{getD-listOf}
-use Rattle.recording.proofs.Sections.{and-left, and-right}
+use Rattle.bits.proofs.Lists.{and-left, and-right}
 use Rattle.recording.proofs.Between.{rows-whole}
 use Rattle.recording.proofs.Cases.{reading-cases}
 

@@ -17,7 +17,7 @@ use Rattle.settings.specs.Signals.{noEffect}
 use Rattle.settings.proofs.Refusals.{or-else-none, unless-none}
 use Rattle.recording.specs.Entries.{blockCheck}
 use Rattle.recording.specs.Encode.{All, blockOf, effectsOf}
-use Rattle.recording.proofs.Sections.{and-left, and-right}
+use Rattle.bits.proofs.Lists.{and-left, and-right}
 
 -- ## The slots: effects, and nothing after them
 

@@ -10,6 +10,7 @@ use borrow.Author.Tests.{le-leb, lt-leb, leb-true}
 use lib.Dec.{leb}
 use lib.ListN.{length}
 use Rattle.bits.specs.Numbers.{numAt}
+use Rattle.bits.proofs.Lists.{and-left, and-right}
 use Rattle.recording.specs.declared.Section.{Section}
 use Rattle.recording.specs.declared.Section.the-variants as S
 use Rattle.recording.specs.Sections.{passed, entries, section}
@@ -50,14 +51,6 @@ module _ (test : ℕ → ℕ) (w lo hi number : ℕ) (s : List ℕ) (at : ℕ) w
     section-entries b = rw (le-leb (at + 2) (length s) h, ← e, b)
 
 -- ---- sections that pass
-
-pub and-left : (a b : Bool) → (a && b) ≡ true → a ≡ true
-and-left true b h = refl
-and-left false b h = h
-
-pub and-right : (a b : Bool) → (a && b) ≡ true → b ≡ true
-and-right true b h = h
-and-right false b h = cc
 
 never : {X : Type 0} (k p e : ℕ) → S.Refused k p ≡ S.Next e → X
 never k p e h = let z : _≡_ {A = ℕ} 0 1 = cc in absurd (omega arith)

@@ -26,7 +26,7 @@ use Rattle.recording.specs.Steps.{rowsIn, rowsOf}
 use Rattle.recording.specs.Encode.{encode, opening, All, Right}
 use Rattle.recording.specs.Writer.{openingNumber, rowPieceNumber}
 use Rattle.recording.proofs.Lists.{length-listOf}
-use Rattle.recording.proofs.Sections.{and-left, and-right}
+use Rattle.bits.proofs.Lists.{and-left, and-right}
 use Rattle.recording.proofs.Refusals.{Given, section-gives, refuses-stops}
 use Rattle.recording.proofs.Cases.{reading-cases}
 use Rattle.recording.proofs.Exact.{right-at, encoded-at}
