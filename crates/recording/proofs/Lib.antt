@@ -14,5 +14,5 @@ pub mod Front
 pub mod Places
 pub mod Trips
 pub mod Numbers
-pub mod Examples
+pub mod Lengths
 pub mod Theorems

@@ -166,7 +166,7 @@ accepted-length s bytes h =
       omega (arith, len, p .most, e .0 .rows-most),
     )
 
--- both are had: `Examples` has a recording of each length
+-- both are had: `Lengths` has a recording of each length
 
 -- bytes longer than that are answered as their first 49,259 are
 pub long-as-front : (s : List ℕ) → 49258 < length s → reading s ≡ reading (take 49259 s)

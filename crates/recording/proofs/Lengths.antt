@@ -1,0 +1,73 @@
+-- The shortest and the longest recording are had: right settings and rows whose encodings have 40 and 49,258 bytes. Document
+-- 01, "Recordings".
+use mathlib.Core.Path.{_≡_, refl, _∙_}
+use mathlib.Core.List.{List, [], _∷_, _++_}
+use Prim.Native.Nat.{ℕ, zero, suc}
+use native.Mathlib.Omega.{arith}
+use lib.Count.{ones, onesIn}
+use lib.ListN.{length, replicate, take, length-replicate}
+use Rattle.settings.specs.declared.Settings.{Settings}
+use Rattle.settings.specs.declared.Words.{Words}
+use Rattle.settings.specs.declared.Row.{Row}
+use Rattle.settings.specs.declared.Limits.{Limits}
+use Rattle.settings.specs.Right.{limitsOf, settingsNumber, wordsNumber, rowNumber}
+use Rattle.settings.specs.Signals.{noEffect}
+use Rattle.recording.specs.Encode.{encode, All, Right}
+use Rattle.recording.proofs.Exact.{length-encode}
+
+-- one cause, and n effects without delay
+pub plain : ℕ → Settings
+plain n =
+    record {
+      causes = 1;
+      options = 0;
+      period = 1;
+      count = n;
+      effects = take 16 (replicate n (record { association = 1; delay = 0 }) ++ replicate 16 noEffect);
+    }
+
+zero-words : Words
+zero-words =
+    record {
+      values = 0;
+      bad = 0;
+      mask = 0;
+      «require_reset» = 0;
+      «reset_permit» = 0;
+      «start_permit» = 0;
+      reset = 0;
+      «force_permit» = 0;
+      «force_trip» = 0;
+      «force_normal» = 0;
+    }
+
+pub quiet : Row
+quiet = record { hold = 1; words = zero-words }
+
+all-same : (k : Limits) (r : Row) → rowNumber k r ≡ 0 → (n : ℕ) → All (rowNumber k) (replicate n r)
+all-same k r h zero = tt
+all-same k r h (suc n) = (h, all-same k r h n)
+
+shortest-right : Right (plain 1) (quiet ∷ [])
+unfolding plain quiet zero-words settingsNumber rowNumber wordsNumber ones onesIn
+shortest-right = record { settings = refl; slots = refl; rows-least = omega arith; rows-most = omega arith; each-row = (refl, tt) }
+
+pub shortest : Right (plain 1) (quiet ∷ []) × (length (encode (plain 1) (quiet ∷ [])) ≡ 40)
+unfolding plain
+shortest = (shortest-right, length-encode (plain 1) (quiet ∷ []) shortest-right)
+
+longest-right : Right (plain 16) (replicate 2048 quiet)
+unfolding plain quiet zero-words settingsNumber rowNumber wordsNumber ones onesIn
+longest-right =
+    let n = length-replicate 2048 quiet in
+    record {
+      settings = refl;
+      slots = refl;
+      rows-least = omega (arith, n);
+      rows-most = omega (arith, n);
+      each-row = all-same (limitsOf (plain 16)) quiet refl 2048;
+    }
+
+pub longest : Right (plain 16) (replicate 2048 quiet) × (length (encode (plain 16) (replicate 2048 quiet)) ≡ 49258)
+unfolding plain
+longest = (longest-right, length-encode (plain 16) (replicate 2048 quiet) longest-right ∙ omega (arith, length-replicate 2048 quiet))
