@@ -1,4 +1,4 @@
--- `recording::put_effects` meets its contract.
+-- `recording::writer::put_effects` meets its contract.
 use borrow.Author.Needs.{needs}
 use denote.Ref.{now}
 use native.Mathlib.Omega.{arith}
@@ -9,8 +9,8 @@ use lib.Seq.{sets, length-sets, length-take-le}
 use Rattle.recording.specs.Entries.{putAll, putEffect}
 use Rattle.recording.proofs.Lists.{store-more}
 use Rattle.recording.proofs.Opening.{effect-length}
-use Rattle.recording.proofs.put_effects.Statement.{statement}
-use Rattle.recording.proofs.put_effects.Tie as tie
+use Rattle.recording.proofs.writer.put_effects.Statement.{statement}
+use Rattle.recording.proofs.writer.put_effects.Tie as tie
 
 abbrev Inv-loop : tie.InvT-loop
 Inv-loop s₀ at n effects i₀ s i = (i ≤ n) × (length effects ≡ 16) × (s ≡ sets s₀ at (putAll putEffect (take i effects))) × (length s ≡ length s₀)

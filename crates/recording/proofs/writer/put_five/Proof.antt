@@ -1,9 +1,9 @@
--- `recording::put_five` meets its contract.
+-- `recording::writer::put_five` meets its contract.
 use borrow.Author.Needs.{needs}
 use denote.Ref.{now}
 use Rattle.bits.proofs.Numbers.{sets-5}
-use Rattle.recording.proofs.put_five.Statement.{statement}
-use Rattle.recording.proofs.put_five.Tie as tie
+use Rattle.recording.proofs.writer.put_five.Statement.{statement}
+use Rattle.recording.proofs.writer.put_five.Tie as tie
 
 returns : tie.Need-returns
 returns c =

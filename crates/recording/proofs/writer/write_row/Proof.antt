@@ -1,12 +1,12 @@
--- `recording::write_row` meets its contract.
+-- `recording::writer::write_row` meets its contract.
 use Rattle.recording.proofs.Opening.{row-length}
 use Rattle.recording.specs.Entries.{putRow}
 use mathlib.Core.Path.{sym, _∙_}
 use Rattle.recording.proofs.Pieces.{piece-refused, piece-short, piece-fits}
 use native.Mathlib.Omega.{arith}
 use borrow.Author.Needs.{needs}
-use Rattle.recording.proofs.write_row.Statement.{statement}
-use Rattle.recording.proofs.write_row.Tie as tie
+use Rattle.recording.proofs.writer.write_row.Statement.{statement}
+use Rattle.recording.proofs.writer.write_row.Tie as tie
 
 returns : tie.Need-returns
 returns c = piece-refused _ _ _ _ (c .before .row-piece-number .ensures) (c .if1 .taken)

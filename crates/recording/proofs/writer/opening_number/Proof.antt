@@ -1,9 +1,9 @@
--- `recording::opening_number` meets its contract.
+-- `recording::writer::opening_number` meets its contract.
 use Rattle.recording.specs.Writer.{openingNumber}
 use Rattle.settings.proofs.Refusals.{or-else-first, or-else-next}
 use borrow.Author.Needs.{needs}
-use Rattle.recording.proofs.opening_number.Statement.{statement}
-use Rattle.recording.proofs.opening_number.Tie as tie
+use Rattle.recording.proofs.writer.opening_number.Statement.{statement}
+use Rattle.recording.proofs.writer.opening_number.Tie as tie
 
 returns : tie.Need-returns
 unfolding openingNumber

@@ -1,4 +1,4 @@
--- `recording::write_opening` meets its contract.
+-- `recording::writer::write_opening` meets its contract.
 use Rattle.recording.proofs.Lists.{length-mapped}
 use lib.ListN.{length}
 use Rattle.recording.specs.Encode.{opening}
@@ -7,8 +7,8 @@ use Rattle.recording.proofs.Opening.{opening-count, right-length}
 use Rattle.recording.proofs.Pieces.{piece-refused, piece-short, piece-fits}
 use native.Mathlib.Omega.{arith}
 use borrow.Author.Needs.{needs}
-use Rattle.recording.proofs.write_opening.Statement.{statement}
-use Rattle.recording.proofs.write_opening.Tie as tie
+use Rattle.recording.proofs.writer.write_opening.Statement.{statement}
+use Rattle.recording.proofs.writer.write_opening.Tie as tie
 
 returns : tie.Need-returns
 returns c = piece-refused _ _ (opening (c .before .before .before .args .st) (c .before .before .before .args .rows)) _ (c .before .opening-number .ensures) (c .if1 .taken)

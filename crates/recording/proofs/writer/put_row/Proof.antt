@@ -1,4 +1,4 @@
--- `recording::put_row` meets its contract.
+-- `recording::writer::put_row` meets its contract.
 use borrow.Author.Needs.{needs}
 use Prim.Native.Nat.{ℕ}
 use mathlib.Core.List.{List, [], _∷_, _++_}
@@ -8,8 +8,8 @@ use Rattle.bits.specs.Numbers.{digits}
 use Rattle.bits.specs.Layout.{pack}
 use Rattle.bits.proofs.Numbers.{sets-then}
 use Rattle.recording.specs.Entries.{putRow}
-use Rattle.recording.proofs.put_row.Statement.{statement}
-use Rattle.recording.proofs.put_row.Tie as tie
+use Rattle.recording.proofs.writer.put_row.Statement.{statement}
+use Rattle.recording.proofs.writer.put_row.Tie as tie
 
 returns : tie.Need-returns
 unfolding putRow

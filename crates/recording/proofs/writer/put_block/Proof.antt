@@ -1,12 +1,12 @@
--- `recording::put_block` meets its contract.
+-- `recording::writer::put_block` meets its contract.
 use borrow.Author.Needs.{needs}
 use mathlib.Core.List.{_++_}
 use mathlib.Core.Path.{refl}
 use denote.Ref.{now}
 use Rattle.bits.specs.Numbers.{digits}
 use Rattle.bits.proofs.Numbers.{sets-then}
-use Rattle.recording.proofs.put_block.Statement.{statement}
-use Rattle.recording.proofs.put_block.Tie as tie
+use Rattle.recording.proofs.writer.put_block.Statement.{statement}
+use Rattle.recording.proofs.writer.put_block.Tie as tie
 
 returns : tie.Need-returns
 returns c =

@@ -1,9 +1,9 @@
--- `recording::row_piece_number` meets its contract.
+-- `recording::writer::row_piece_number` meets its contract.
 use Rattle.recording.specs.Writer.{rowPieceNumber}
 use Rattle.settings.proofs.Refusals.{or-else-first, or-else-next}
 use borrow.Author.Needs.{needs}
-use Rattle.recording.proofs.row_piece_number.Statement.{statement}
-use Rattle.recording.proofs.row_piece_number.Tie as tie
+use Rattle.recording.proofs.writer.row_piece_number.Statement.{statement}
+use Rattle.recording.proofs.writer.row_piece_number.Tie as tie
 
 returns : tie.Need-returns
 unfolding rowPieceNumber

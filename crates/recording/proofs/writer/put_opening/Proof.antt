@@ -1,9 +1,9 @@
--- `recording::put_opening` meets its contract.
+-- `recording::writer::put_opening` meets its contract.
 use borrow.Author.Needs.{needs}
 use denote.Ref.{now}
 use Rattle.recording.proofs.Opening.{opening-stored, opening-length}
-use Rattle.recording.proofs.put_opening.Statement.{statement}
-use Rattle.recording.proofs.put_opening.Tie as tie
+use Rattle.recording.proofs.writer.put_opening.Statement.{statement}
+use Rattle.recording.proofs.writer.put_opening.Tie as tie
 
 returns : tie.Need-returns
 returns c =

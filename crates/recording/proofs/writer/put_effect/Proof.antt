@@ -1,12 +1,12 @@
--- `recording::put_effect` meets its contract.
+-- `recording::writer::put_effect` meets its contract.
 use borrow.Author.Needs.{needs}
 use mathlib.Core.Path.{refl}
 use denote.Ref.{now}
 use Rattle.bits.specs.Numbers.{digits}
 use Rattle.bits.proofs.Numbers.{sets-then}
 use Rattle.recording.specs.Entries.{putEffect}
-use Rattle.recording.proofs.put_effect.Statement.{statement}
-use Rattle.recording.proofs.put_effect.Tie as tie
+use Rattle.recording.proofs.writer.put_effect.Statement.{statement}
+use Rattle.recording.proofs.writer.put_effect.Tie as tie
 
 returns : tie.Need-returns
 unfolding putEffect
