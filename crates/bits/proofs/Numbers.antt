@@ -1,12 +1,12 @@
 -- Laws of numbers of w bytes, of entries of fixed layout, and of runs of stores.
-use mathlib.Core.Path.{_≡_, refl, sym, ap, ap₂, _∙_, subst}
+use mathlib.Core.Path.{_≡_, refl, sym, ap, ap₂, _∙_}
 use mathlib.Core.List.{List, [], _∷_, _++_, append-assoc}
-use Prim.Native.Nat.{ℕ, zero, suc, _+_, _*_, _/_, _%_, _^_, _≤_, _<_}
-use native.Mathlib.Nat.{add-assoc, add-zero, zero-add, div-add-mod', mod-lt, add-comm, add-suc, suc-add, pow-suc, mul-comm, mul-one, zero-lt-suc, div-lt-iff-lt-mul}
+use Prim.Native.Nat.{ℕ, zero, suc, _+_, _/_, _%_, _^_, _≤_, _<_}
+use native.Mathlib.Nat.{add-assoc, add-zero, div-add-mod', mod-lt, add-suc, suc-add, pow-suc, mul-comm}
 use native.Mathlib.Numerals.{add-one}
 use native.Mathlib.Omega.{arith}
 use lib.ListN.{length, getD, take, drop, set, length-append}
-use lib.Seq.{sets, take-suc, drop-cons, getD-at, take-add, drop-drop}
+use lib.Seq.{sets, drop-cons, getD-at, take-add, drop-drop}
 use lib.Arith.{digits-div, digits-mod, digits-lt}
 use Rattle.bits.specs.Numbers.{numAt, digits}
 use Rattle.bits.specs.Layout.{total, fieldsAt, pack}

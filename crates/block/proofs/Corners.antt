@@ -3,8 +3,6 @@ use mathlib.Core.Path.{_≡_, refl}
 use mathlib.Core.Bool.{true}
 use lib.Count.{ones, onesIn}
 use Rattle.bits.specs.Lists.{tabulate}
-use Rattle.bits.specs.Words.{wordOf}
-use Rattle.effects.specs.Records.{encode}
 use Rattle.settings.specs.Right.{settingsNumber, wordsNumber, rowNumber}
 use Rattle.settings.specs.Signals.{signalsOf}
 use Rattle.block.specs.State.{stateNumber}

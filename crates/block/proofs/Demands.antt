@@ -1,17 +1,16 @@
 -- The theorems that a user of the block needs, on one page. The contracts of `State::scan` and `State::held` give their whole
 -- answers by the definitions `scanOf`, `scanInto`, `heldOf` and `heldInto`; here stands what those definitions come to.
-use mathlib.Core.Path.{_≡_, refl, ap, ap₂, sym, _∙_}
+use mathlib.Core.Path.{_≡_, refl, ap, sym, _∙_}
 use mathlib.Core.List.{List}
-use Prim.Native.Nat.{ℕ, zero, suc, _+_, _*_, _≤_, _<_}
-use native.Mathlib.Nat.{add-sub-of-le, add-zero}
+use Prim.Native.Nat.{ℕ, _+_, _*_, _≤_, _<_}
 use native.Mathlib.Omega.{arith}
 use borrow.Author.Tests.{le-leb}
-use lib.ListN.{length, getD}
+use lib.ListN.{length}
 use Rattle.bits.specs.Words.{one}
 use Rattle.bits.proofs.Lists.{length-tabulate}
 use Rattle.rules.specs.declared.Slot.{Slot}
 use Rattle.effects.specs.Scan.{anyExercised}
-use Rattle.rounds.specs.Steps.{Run, start as startRun, held, moves}
+use Rattle.rounds.specs.Steps.{start as startRun, moves}
 use Rattle.rounds.specs.Stroke.{byRounds}
 use Rattle.rounds.proofs.Effect.{moves-at-most-two}
 use Rattle.rounds.proofs.Held.{one-stroke}

@@ -3,15 +3,14 @@
 use mathlib.Core.Path.{_≡_, refl, ap, sym, _∙_}
 use mathlib.Core.Bool.{Bool, true, false, _&&_, _||_}
 use mathlib.Core.List.{List, [], _∷_, _++_, map}
-use Prim.Native.Nat.{ℕ, zero, suc, _%_, _/_, _^_, _≤_, _<_}
+use Prim.Native.Nat.{ℕ, zero, suc, _%_, _^_, _≤_, _<_}
 use native.Mathlib.Nat.{zero-div}
-use native.Mathlib.Omega.{arith}
-use borrow.Author.Tests.{lt-ltb, le-leb}
-use lib.Dec.{eqb, ltb, leb}
-use lib.ListN.{length, getD, length-map, List·getD-map}
+use borrow.Author.Tests.{lt-ltb}
+use lib.Dec.{eqb, ltb}
+use lib.ListN.{length, length-map, List·getD-map}
 use lib.Pow.{pow-pos}
 use Rattle.bits.specs.Lists.{tabulate}
-use Rattle.bits.specs.Words.{bitOf, wordOf}
+use Rattle.bits.specs.Words.{bitOf}
 use Rattle.bits.proofs.Lists.{and-left, and-right, map-tabulate, tabulate-ext}
 use Rattle.bits.proofs.Words.{wordOf-ext}
 use Rattle.rules.specs.declared.Signals.{Signals}
@@ -23,8 +22,7 @@ use Rattle.settings.specs.declared.Limits.{Limits}
 use Rattle.settings.specs.declared.Settings.{Settings}
 use Rattle.settings.specs.declared.Words.{Words}
 use Rattle.settings.specs.declared.Row.{Row}
-use Rattle.settings.specs.Refusals.{orElse, unless}
-use Rattle.settings.specs.Right.{settingsNumber, wordsOk, fieldsNumber, apartNumber, severalNumber, wordsNumber, holdNumber, rowNumber}
+use Rattle.settings.specs.Right.{settingsNumber, wordsOk, fieldsNumber, wordsNumber, holdNumber, rowNumber}
 use Rattle.settings.specs.Signals.{signals, signalsOf}
 use Rattle.settings.proofs.Refusals.{or-else-none, unless-none}
 use Rattle.settings.proofs.Right.{period-some, period-most}

@@ -1,20 +1,20 @@
 -- A fresh state is right, and a scan of a right state gives a right state: so 8 never comes up in a replay. What the rules
 -- do is computed at every answer to what they ask; timers and first-outs are arithmetic beside it.
-use mathlib.Core.Path.{_≡_, refl, ap, sym, _∙_}
+use mathlib.Core.Path.{_≡_, refl}
 use mathlib.Core.Bool.{Bool, true, false, cond, not, _&&_, _||_}
 use mathlib.Core.List.{List}
-use Prim.Native.Nat.{ℕ, _+_, _-_, _≤_, _<_}
+use Prim.Native.Nat.{ℕ, _-_, _≤_, _<_}
 use native.Mathlib.Nat.{zero-add}
 use native.Mathlib.Omega.{arith}
-use borrow.Author.Tests.{leb-true, leb-false, ltb-true, ltb-false, le-leb, eq-eqb, lt-ltb, le-ltb, not-true}
+use borrow.Author.Tests.{leb-true, leb-false, ltb-true, ltb-false, le-leb, eq-eqb, lt-ltb, not-true}
 use lib.Bits.{bitAnd}
 use lib.Dec.{leb, ltb, eqb}
-use lib.ListN.{length, getD, replicate}
+use lib.ListN.{length, getD}
 use Rattle.bits.specs.Lists.{allFrom}
 use Rattle.bits.proofs.Lists.{and-left, and-right, both as both-true, all-at, all-pass, all-replicate, length-tabulate, getD-tabulate}
 use Rattle.bits.proofs.Words.{less-inside}
 use Rattle.rules.specs.declared.EffectState.{EffectState}
-use Rattle.rules.specs.declared.EffectState.the-variants.{Tripped, Normal, Delayed}
+use Rattle.rules.specs.declared.EffectState.the-variants.{Normal, Delayed}
 use Rattle.rules.specs.declared.Signals.{Signals}
 use Rattle.rules.specs.declared.Slot.{Slot}
 use Rattle.rules.specs.declared.Asks.{Asks}
@@ -22,14 +22,13 @@ use Rattle.rules.specs.Rules.{same, rule, asks, after as stateAfter, next, noSl
 use Rattle.rules.proofs.Answers.{both, allStates, every, every-at}
 use Rattle.effects.specs.Scan.{steps}
 use Rattle.effects.proofs.Laws.{step-at, step-past, length-steps}
-use Rattle.settings.specs.declared.Effect.{Effect}
 use Rattle.settings.specs.declared.Settings.{Settings}
 use Rattle.settings.specs.declared.Words.{Words}
 use Rattle.settings.specs.Limits.{mostScans}
 use Rattle.settings.specs.Right.{settingsNumber}
 use Rattle.settings.specs.Signals.{signals, signalsOf, noEffect}
 use Rattle.settings.proofs.Refusals.{unless-none}
-use Rattle.settings.proofs.Right.{count-few, association-lt}
+use Rattle.settings.proofs.Right.{association-lt}
 use Rattle.block.specs.declared.State.{State}
 use Rattle.block.specs.State.{timerRight, firstRight, slotRight, slotUnused, slotOk, stateOk, stateNumber, fresh}
 use Rattle.block.specs.Scan.{after}

@@ -1,7 +1,7 @@
 -- A held run that is granted: the one stroke gives what single scans give, and its records fit the space that they are laid in.
-use mathlib.Core.Path.{_≡_, refl, ap, ap₂, sym, _∙_}
+use mathlib.Core.Path.{_≡_, refl, ap, sym, _∙_}
 use mathlib.Core.List.{List, _++_}
-use Prim.Native.Nat.{ℕ, zero, suc, _+_, _*_, _/_, _≤_, _<_}
+use Prim.Native.Nat.{ℕ, zero, suc, _+_, _*_, _/_, _≤_}
 use native.Mathlib.Nat.{zero-add, not-suc-le-zero}
 use native.Mathlib.Omega.{arith}
 use lib.ListN.{length, take}
@@ -17,15 +17,14 @@ use Rattle.rounds.specs.Stroke.{Timed}
 use Rattle.rounds.proofs.Held.{live-at-most, due-at-most}
 use Rattle.settings.specs.declared.Settings.{Settings}
 use Rattle.settings.specs.declared.Row.{Row}
-use Rattle.settings.specs.Limits.{mostHold, mostScans}
 use Rattle.settings.specs.Right.{limitsOf, settingsNumber}
 use Rattle.settings.specs.Signals.{signals, signalsOf}
 use Rattle.block.specs.declared.State.{State}
 use Rattle.block.specs.declared.Held.{Held}
-use Rattle.block.specs.Scan.{inputNumber, atFront}
-use Rattle.block.specs.Held.{Stepped, start, stepped, run, grantedHeld}
+use Rattle.block.specs.Scan.{inputNumber}
+use Rattle.block.specs.Held.{start, run, grantedHeld}
 use Rattle.block.specs.Run.{reachedBy}
-use Rattle.block.proofs.Answers.{settings-right, state-right, row-right, few, countable, hold-some, hold-most}
+use Rattle.block.proofs.Answers.{settings-right, state-right, row-right, few, countable, hold-some}
 use Rattle.block.proofs.Later.{row-words, signals-timed}
 use Rattle.block.proofs.Scans.{signals-in}
 use Rattle.block.proofs.Stepping.{Ready, runOf, stepped-runs, stepped-effect, stepped-latent, stepped-exercised}

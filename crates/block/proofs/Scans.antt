@@ -1,32 +1,24 @@
 -- A scan that is granted: what its code computes is what the definitions say.
-use mathlib.Core.Path.{_≡_, refl, ap, ap₂, sym, _∙_}
+use mathlib.Core.Path.{_≡_, ap, ap₂, _∙_}
 use mathlib.Core.List.{List, _++_}
-use Prim.Native.Nat.{ℕ, _+_, _*_, _/_, _≤_, _<_}
+use Prim.Native.Nat.{ℕ, _+_, _*_, _/_, _≤_}
 use native.Mathlib.Nat.{zero-add}
 use native.Mathlib.Omega.{arith}
-use borrow.Author.Tests.{leb-true}
-use lib.Dec.{leb}
-use lib.ListN.{length, take, drop, length-take}
+use lib.ListN.{length, take}
 use lib.Seq.{sets}
-use Rattle.bits.specs.Lists.{tabulate}
 use Rattle.bits.proofs.Lists.{take-filled, length-tabulate}
 use Rattle.rules.specs.declared.Signals.{Signals}
-use Rattle.rules.specs.declared.Slot.{Slot}
 use Rattle.effects.specs.declared.Progress.{Progress}
 use Rattle.effects.specs.Records.{bytes}
 use Rattle.effects.specs.Run.{scanned}
 use Rattle.effects.specs.Scan.{records, effectWord, latentWord}
 use Rattle.effects.proofs.Laws.{records-at-most}
-use Rattle.effects.proofs.Records.{front-bytes}
 use Rattle.settings.specs.declared.Settings.{Settings}
 use Rattle.settings.specs.declared.Words.{Words}
-use Rattle.settings.specs.Limits.{mostScans}
 use Rattle.settings.specs.Signals.{signals, signalsOf}
-use Rattle.settings.proofs.Refusals.{unless-none}
-use Rattle.settings.proofs.Right.{count-few}
 use Rattle.block.specs.declared.State.{State}
 use Rattle.block.specs.declared.Scanned.{Scanned}
-use Rattle.block.specs.Scan.{inputNumber, atFront, once, after, events, grantedScan}
+use Rattle.block.specs.Scan.{after, events, grantedScan}
 use Rattle.block.specs.Run.{startOf, reachedBy}
 
 -- sixteen records are room enough for a scan

@@ -1,28 +1,23 @@
 -- Single scans of a right state are all accepted, and what they give is what the run over lists of signals and slots gives.
 use mathlib.Core.Path.{_≡_, refl, ap, ap₂, sym, _∙_}
-use mathlib.Core.Bool.{Bool, true, false}
-use mathlib.Core.List.{List, [], _∷_, _++_, map}
-use Prim.Native.Nat.{ℕ, zero, suc, _+_, _*_, _≤_, _<_}
+use mathlib.Core.List.{List}
+use Prim.Native.Nat.{ℕ, zero, suc, _+_, _*_, _≤_}
 use native.Mathlib.Nat.{zero-add, suc-add, suc-mul}
 use native.Mathlib.Omega.{arith}
 use borrow.Author.Tests.{le-leb}
-use lib.Dec.{leb}
 use lib.ListN.{length}
 use Rattle.bits.specs.Words.{one}
 use Rattle.rules.specs.declared.Signals.{Signals}
-use Rattle.effects.specs.declared.Event.{Event}
 use Rattle.effects.specs.Scan.{effectWord, latentWord, anyExercised}
-use Rattle.rounds.specs.Steps.{Run, clear, scan, held}
+use Rattle.rounds.specs.Steps.{Run, scan, held}
 use Rattle.settings.specs.declared.Settings.{Settings}
 use Rattle.settings.specs.declared.Words.{Words}
 use Rattle.settings.specs.Limits.{mostScans}
-use Rattle.settings.specs.Refusals.{orElse, unless}
-use Rattle.settings.specs.Right.{limitsOf, settingsNumber, wordsNumber, rowNumber}
+use Rattle.settings.specs.Right.{limitsOf, settingsNumber, wordsNumber}
 use Rattle.settings.specs.Signals.{signals}
 use Rattle.block.specs.declared.State.{State}
-use Rattle.block.specs.declared.Scanned.{Scanned}
 use Rattle.block.specs.State.{stateNumber}
-use Rattle.block.specs.Scan.{scansNumber, inputNumber, once, after, events, scanNumber, grantedScan, refusedScan, scanOf}
+use Rattle.block.specs.Scan.{inputNumber, once, after, events, scanNumber, grantedScan, refusedScan, scanOf}
 use Rattle.block.specs.Held.{later, Stepped, single, step, stepped}
 use Rattle.block.proofs.Answers.{granted-in-room}
 use Rattle.block.proofs.Later.{later-right, once-right, signals-later, latent-clear, exercised-clear}

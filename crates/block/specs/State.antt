@@ -1,7 +1,6 @@
 -- The state of the block, and what is right of it. Document 01, "Settings, row, state".
 use Prim.Native.Nat.{ℕ}
 use mathlib.Core.Bool.{Bool, cond, _&&_}
-use mathlib.Core.List.{List}
 use lib.Bits.{bitAnd}
 use lib.Dec.{leb, ltb, eqb}
 use lib.ListN.{getD, replicate}

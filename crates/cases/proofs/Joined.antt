@@ -1,5 +1,5 @@
 -- Laws of bytes laid one after the other: one turn of a loop that writes equally many for each element, and a line of digits.
-use mathlib.Core.Path.{_≡_, refl, sym, _∙_}
+use mathlib.Core.Path.{_≡_, refl, sym}
 use mathlib.Core.List.{List, [], _∷_, _++_}
 use Prim.Native.Nat.{ℕ, _+_, _*_, _≤_, _<_}
 use native.Mathlib.Nat.{mul-add, mul-suc, mul-zero, zero-add}

@@ -1,5 +1,5 @@
 -- A run of scans, as the code of a scan and of a held run carries it. No promise cites this page but those of inner functions.
-use Prim.Native.Nat.{ℕ, _+_, _*_}
+use Prim.Native.Nat.{_+_, _*_}
 use mathlib.Core.List.{List}
 use lib.ListN.{length}
 use Rattle.bits.specs.Words.{one}

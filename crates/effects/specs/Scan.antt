@@ -1,6 +1,6 @@
 -- One scan of all effects. Document 01, "The rules of one scan": effects do not read each other, so each list is gone
 -- through effect by effect: the signals of the effects that exist, and the slots.
-use Prim.Native.Nat.{ℕ, zero, suc, _+_, _%_}
+use Prim.Native.Nat.{ℕ, suc, _+_, _%_}
 use mathlib.Core.Bool.{Bool, false, cond, _||_}
 use mathlib.Core.List.{List, [], _∷_, _++_}
 use lib.ListN.{length, getD}

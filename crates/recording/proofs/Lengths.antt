@@ -1,7 +1,7 @@
 -- The shortest and the longest recording are had: right settings and rows whose encodings have 40 and 49,258 bytes. Document
 -- 01, "Recordings".
 use mathlib.Core.Path.{_≡_, refl, _∙_}
-use mathlib.Core.List.{List, [], _∷_, _++_}
+use mathlib.Core.List.{[], _∷_, _++_}
 use Prim.Native.Nat.{ℕ, zero, suc}
 use native.Mathlib.Omega.{arith}
 use lib.Count.{ones, onesIn}

@@ -7,14 +7,14 @@ use Prim.Native.Nat.{ℕ, zero, suc, _+_, _-_, _*_, _/_, min, _≤_, _<_}
 use native.Mathlib.Omega.{arith}
 use native.Mathlib.Nat.{le-div-iff-mul-le, div-lt-iff-lt-mul}
 use lib.Dec.{leb}
-use borrow.Author.Tests.{eqb-true, eq-eqb, leb-true, lt-leb, le-leb}
+use borrow.Author.Tests.{leb-true, lt-leb, le-leb}
 use Rattle.bits.specs.Words.{one}
 use Rattle.rules.specs.declared.EffectState.{EffectState}
 use Rattle.rules.specs.declared.EffectState.the-variants.{Tripped, WaitReset, Ready, WaitStart, Normal, Delayed}
 use Rattle.rules.specs.declared.Slot.{Slot}
 use Rattle.rules.specs.declared.Signals.{Signals}
 use Rattle.rules.specs.declared.Asks.{Asks}
-use Rattle.rules.specs.Rules.{code, same, rule, asks, after, enter, next, moved}
+use Rattle.rules.specs.Rules.{same, rule, asks, after, enter, next, moved}
 use Rattle.rounds.specs.Steps.{clear, moves}
 use Rattle.rounds.specs.Stroke.{quiet, advance}
 use Rattle.rules.proofs.Answers.{both, allStates, every, every-at}

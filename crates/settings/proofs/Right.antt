@@ -1,6 +1,6 @@
 -- What settings that are right tell.
-use mathlib.Core.Path.{_≡_, refl, sym, _∙_}
-use mathlib.Core.Bool.{Bool, true, false, cond, _&&_}
+use mathlib.Core.Path.{_≡_, refl}
+use mathlib.Core.Bool.{Bool, true, false, _&&_}
 use Prim.Native.Nat.{ℕ, _^_, _≤_, _<_}
 use native.Mathlib.Nat.{zero-add}
 use native.Mathlib.Omega.{arith}
@@ -12,7 +12,6 @@ use Rattle.bits.specs.Lists.{allFrom}
 use Rattle.bits.proofs.Lists.{and-left, and-right, all-at}
 use Rattle.settings.specs.declared.Effect.{Effect}
 use Rattle.settings.specs.declared.Settings.{Settings}
-use Rattle.settings.specs.Limits.{mostDelay}
 use Rattle.settings.specs.Right.{blockOk, blockNumber, countOk, effectOk, effectsNumber, limitsOf, settingsNumber, slotOk}
 use Rattle.settings.specs.Signals.{noEffect}
 use Rattle.settings.proofs.Refusals.{or-else-none, unless-none}

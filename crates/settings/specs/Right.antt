@@ -1,7 +1,6 @@
 -- What is right, and which number refuses it. Document 01, "Settings, row, state" and "Refusal numbers".
-use Prim.Native.Nat.{ℕ, zero, _+_, _^_}
+use Prim.Native.Nat.{ℕ, _+_, _^_}
 use mathlib.Core.Bool.{Bool, cond, not, _&&_, _||_}
-use mathlib.Core.List.{List}
 use lib.Bits.{bitAnd}
 use lib.Count.{ones}
 use lib.Dec.{leb, ltb, eqb}

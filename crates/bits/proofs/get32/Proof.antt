@@ -1,4 +1,4 @@
--- `bits::get32` meets its contract.
+-- `bits::get32` meets its contract: the number of four bytes is that of its two halves.
 use borrow.Author.Needs.{needs}
 use native.Mathlib.Nat.{add-assoc}
 use native.Mathlib.Omega.{arith}

@@ -1,4 +1,4 @@
--- `bits::put16` meets its contract.
+-- `bits::put16` meets its contract: two stores, one after the other.
 use borrow.Author.Needs.{needs}
 use native.Mathlib.Omega.{arith}
 use native.Mathlib.Numerals.{add-one}

@@ -1,4 +1,4 @@
--- `bits::put32` meets its contract.
+-- `bits::put32` meets its contract: its two halves, stored one after the other, are its four bytes.
 use borrow.Author.Needs.{needs}
 use mathlib.Core.Path.{_∙_}
 use denote.Ref.{now}

@@ -1,4 +1,4 @@
--- `bits::put8` meets its contract.
+-- `bits::put8` meets its contract: one store.
 use borrow.Author.Needs.{needs}
 use native.Mathlib.Nat.{div-one}
 use Rattle.bits.proofs.put8.Statement.{statement}

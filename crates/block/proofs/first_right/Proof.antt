@@ -1,4 +1,4 @@
--- `block::first_right` meets its contract.
+-- `block::first_right` meets its contract, from what its callees ensure and the tests on the way.
 use borrow.Author.Needs.{needs}
 use Rattle.block.proofs.first_right.Statement.{statement}
 use Rattle.block.proofs.first_right.Tie as tie

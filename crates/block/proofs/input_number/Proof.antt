@@ -1,4 +1,4 @@
--- `block::input_number` meets its contract.
+-- `block::input_number` meets its contract, from what its callees ensure and the tests on the way.
 use mathlib.Core.Path.{ap, _∙_}
 use Rattle.settings.specs.declared.Limits.{Limits}
 use Rattle.settings.specs.Right.{rowNumber}

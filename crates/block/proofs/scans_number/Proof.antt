@@ -1,4 +1,4 @@
--- `block::scans_number` meets its contract.
+-- `block::scans_number` meets its contract, from what its callees ensure and the tests on the way.
 use borrow.Author.Tests.{le-leb, lt-leb}
 use borrow.Author.Needs.{needs}
 use Rattle.block.proofs.scans_number.Statement.{statement}

@@ -1,4 +1,4 @@
--- `block::slot_ok` meets its contract.
+-- `block::slot_ok` meets its contract, from what its callees ensure and the tests on the way.
 use borrow.Author.Tests.{lt-ltb, le-ltb}
 use borrow.Author.Needs.{needs}
 use Rattle.block.proofs.slot_ok.Statement.{statement}

@@ -1,4 +1,4 @@
--- `block::slot_right` meets its contract.
+-- `block::slot_right` meets its contract, from what its callees ensure and the tests on the way.
 use borrow.Author.Needs.{needs}
 use Rattle.block.proofs.slot_right.Statement.{statement}
 use Rattle.block.proofs.slot_right.Tie as tie

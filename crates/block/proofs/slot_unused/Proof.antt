@@ -1,4 +1,4 @@
--- `block::slot_unused` meets its contract.
+-- `block::slot_unused` meets its contract, from what its callees ensure and the tests on the way.
 use borrow.Author.Needs.{needs}
 use Rattle.block.proofs.slot_unused.Statement.{statement}
 use Rattle.block.proofs.slot_unused.Tie as tie

@@ -1,4 +1,4 @@
--- `block::state_number` meets its contract.
+-- `block::state_number` meets its contract, from what its callees ensure and the tests on the way.
 use Rattle.block.specs.State.{stateNumber}
 use borrow.Author.Needs.{needs}
 use Rattle.block.proofs.state_number.Statement.{statement}

@@ -1,13 +1,13 @@
--- `effects::any_moved` meets its contract.
-use Rattle.effects.proofs.Loops.{ends, moved-turn, seq-turn, steps-turn, records-count, bytes-turn, or-none}
+-- `effects::any_moved` meets its contract. The loop's invariant: the flag and what is left make the whole.
+use Rattle.effects.proofs.Loops.{ends, moved-turn, or-none}
 use borrow.Author.Needs.{needs}
 use mathlib.Core.Path.{_≡_, refl, sym, _∙_}
 use mathlib.Core.Bool.{_||_}
-use Prim.Native.Nat.{_-_, _+_, _≤_}
+use Prim.Native.Nat.{_-_, _≤_}
 use native.Mathlib.Omega.{arith}
 use lib.ListN.{take, drop}
 use Rattle.effects.specs.Scan.{anyMoved}
-use Rattle.effects.proofs.Loops.{ends, moved-turn, seq-turn, steps-turn, records-count, bytes-turn, or-none}
+use Rattle.effects.proofs.Loops.{ends, moved-turn, or-none}
 use Rattle.effects.proofs.any_moved.Statement.{statement}
 use Rattle.effects.proofs.any_moved.Tie as tie
 

@@ -1,4 +1,4 @@
--- `effects::count_live` meets its contract.
+-- `effects::count_live` meets its contract: by the two ways of its test.
 use native.Mathlib.Omega.{arith}
 use borrow.Author.Needs.{needs}
 use Rattle.effects.proofs.count_live.Statement.{statement}

@@ -1,4 +1,4 @@
--- `effects::put_if` meets its contract.
+-- `effects::put_if` meets its contract: by the two ways of its test.
 use native.Mathlib.Omega.{arith}
 use mathlib.Core.Path.{ap, sym, _∙_}
 use denote.Ref.{now}

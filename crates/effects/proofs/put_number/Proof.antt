@@ -1,4 +1,4 @@
--- `effects::put_number` meets its contract.
+-- `effects::put_number` meets its contract, from what its callees ensure and the tests on the way.
 use mathlib.Core.Path.{refl}
 use mathlib.Core.List.{_++_}
 use denote.Ref.{now}

@@ -1,4 +1,4 @@
--- `effects::put_scan` meets its contract.
+-- `effects::put_scan` meets its contract. The loop's invariant: what is written and what is left to write make the records of the scan.
 use Rattle.bits.specs.Words.{one}
 use Rattle.rules.specs.Rules.{moved}
 use Rattle.rules.specs.Rules.{noSignals, noSlot}

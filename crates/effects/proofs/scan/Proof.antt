@@ -1,4 +1,4 @@
--- `effects::scan` meets its contract.
+-- `effects::scan` meets its contract, from what its callees ensure and the tests on the way.
 use borrow.Author.Needs.{needs}
 use Rattle.effects.proofs.scan.Statement.{statement}
 use Rattle.effects.proofs.scan.Tie as tie

@@ -1,7 +1,7 @@
--- `effects::seq_after` meets its contract.
+-- `effects::seq_after` meets its contract. The loop's invariant: the number after what is left is that after all.
 use borrow.Author.Needs.{needs}
 use mathlib.Core.Path.{_≡_, refl, sym, _∙_}
-use Prim.Native.Nat.{_-_, _+_, _≤_}
+use Prim.Native.Nat.{_-_, _≤_}
 use native.Mathlib.Omega.{arith}
 use lib.ListN.{take, drop}
 use Rattle.effects.specs.Scan.{seqAfter}

@@ -1,4 +1,4 @@
--- `effects::seq_next` meets its contract.
+-- `effects::seq_next` meets its contract: by the two ways of its test.
 use borrow.Author.Needs.{needs}
 use Rattle.effects.proofs.seq_next.Statement.{statement}
 use Rattle.effects.proofs.seq_next.Tie as tie

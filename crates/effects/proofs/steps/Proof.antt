@@ -1,4 +1,4 @@
--- `effects::steps` meets its contract.
+-- `effects::steps` meets its contract. The loop's invariant: the slots before i are stepped, and the others are still to be.
 use borrow.Author.Needs.{needs}
 use mathlib.Core.Path.{_≡_, refl, sym, _∙_}
 use mathlib.Core.List.{_++_}

@@ -1,4 +1,4 @@
--- `recording::block_limits` meets its contract.
+-- `recording::block_limits` meets its contract, from what its callees ensure and the tests on the way.
 use borrow.Author.Needs.{needs}
 use Rattle.recording.proofs.block_limits.Statement.{statement}
 use Rattle.recording.proofs.block_limits.Tie as tie

@@ -1,4 +1,4 @@
--- `recording::count_ok` meets its contract.
+-- `recording::count_ok` meets its contract, from what its callees ensure and the tests on the way.
 use borrow.Author.Needs.{needs}
 use Rattle.recording.proofs.count_ok.Statement.{statement}
 use Rattle.recording.proofs.count_ok.Tie as tie

@@ -1,4 +1,4 @@
--- `recording::effect_at` meets its contract.
+-- `recording::effect_at` meets its contract, from what its callees ensure and the tests on the way.
 use Rattle.recording.specs.Entries.{effectAt}
 use borrow.Author.Needs.{needs}
 use Rattle.recording.proofs.effect_at.Statement.{statement}

@@ -1,4 +1,4 @@
--- `recording::effects_at` meets its contract.
+-- `recording::effects_at` meets its contract. The loop's invariant: the first i slots are the effects read, the others empty.
 use borrow.Author.Needs.{needs}
 use native.Mathlib.Omega.{arith}
 use native.Mathlib.Nat.{add-zero}

@@ -1,4 +1,4 @@
--- `recording::entry_number` meets its contract.
+-- `recording::entry_number` meets its contract, from what its callees ensure and the tests on the way.
 use native.Mathlib.Omega.{arith}
 use borrow.Author.Needs.{needs}
 use Rattle.recording.proofs.entry_number.Statement.{statement}

@@ -1,4 +1,4 @@
--- `recording::is_place` meets its contract.
+-- `recording::is_place` meets its contract, from what its callees ensure and the tests on the way.
 use borrow.Author.Tests.{lt-leb, le-leb}
 use borrow.Author.Needs.{needs}
 use Rattle.recording.proofs.is_place.Statement.{statement}

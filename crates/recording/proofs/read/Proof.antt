@@ -1,4 +1,4 @@
--- `recording::read` meets its contract.
+-- `recording::read` meets its contract, from what its callees ensure and the tests on the way.
 use Rattle.recording.proofs.Between.{from-refused, left-over, accepted, block-room, effects-whole, rows-whole, read-block, read-effects, read-rows}
 use Rattle.recording.proofs.Sections.{Whole}
 use Rattle.recording.specs.Reader.{noLimits, blockLimits, settingsAt, reading, afterRows}

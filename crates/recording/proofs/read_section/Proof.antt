@@ -1,4 +1,4 @@
--- `recording::read_section` meets its contract.
+-- `recording::read_section` meets its contract. The loop's invariant: the entries left from the place come to what all come to.
 use borrow.Author.Needs.{needs}
 use borrow.Author.Tests.{not-true, not-false}
 use native.Mathlib.Omega.{arith}

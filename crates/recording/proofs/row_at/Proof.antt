@@ -1,4 +1,4 @@
--- `recording::row_at` meets its contract.
+-- `recording::row_at` meets its contract, from what its callees ensure and the tests on the way.
 use Rattle.recording.specs.Entries.{rowAt}
 use borrow.Author.Needs.{needs}
 use Rattle.recording.proofs.row_at.Statement.{statement}

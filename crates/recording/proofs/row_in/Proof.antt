@@ -1,4 +1,4 @@
--- `recording::row_in` meets its contract.
+-- `recording::row_in` meets its contract, from what its callees ensure and the tests on the way.
 use denote.Ref.{now}
 use lib.ListN.{length}
 use Prim.Native.Nat.{_+_}

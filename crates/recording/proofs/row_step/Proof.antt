@@ -1,4 +1,4 @@
--- `recording::row_step` meets its contract.
+-- `recording::row_step` meets its contract, from what its callees ensure and the tests on the way.
 use Rattle.recording.proofs.Steps.{step-refused, step-width, step-between, step-row}
 use mathlib.Core.Path.{_∙_}
 use denote.Ref.{now}

@@ -1,4 +1,4 @@
--- `recording::settings_at` meets its contract.
+-- `recording::settings_at` meets its contract, from what its callees ensure and the tests on the way.
 use borrow.Author.Needs.{needs}
 use Rattle.recording.proofs.settings_at.Statement.{statement}
 use Rattle.recording.proofs.settings_at.Tie as tie

@@ -1,4 +1,4 @@
--- `recording::stopped` meets its contract.
+-- `recording::stopped` meets its contract, from what its callees ensure and the tests on the way.
 use borrow.Author.Needs.{needs}
 use Rattle.recording.proofs.stopped.Statement.{statement}
 use Rattle.recording.proofs.stopped.Tie as tie

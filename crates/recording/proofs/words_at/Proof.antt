@@ -1,4 +1,4 @@
--- `recording::words_at` meets its contract.
+-- `recording::words_at` meets its contract, from what its callees ensure and the tests on the way.
 use Rattle.recording.specs.Entries.{wordsAt}
 use borrow.Author.Needs.{needs}
 use Rattle.recording.proofs.words_at.Statement.{statement}

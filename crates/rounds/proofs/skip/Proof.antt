@@ -1,4 +1,4 @@
--- `rounds::skip` meets its contract.
+-- `rounds::skip` meets its contract, from what its callees ensure and the tests on the way.
 use borrow.Author.Needs.{needs}
 use Rattle.rounds.proofs.skip.Statement.{statement}
 use Rattle.rounds.proofs.skip.Tie as tie

@@ -1,4 +1,4 @@
--- `rules::after` meets its contract.
+-- `rules::after` meets its contract, from what its callees ensure.
 use mathlib.Core.Path.{_∙_}
 use borrow.Author.Needs.{needs}
 use Rattle.rules.proofs.after.Statement.{statement}

@@ -1,4 +1,4 @@
--- `rules::enter` meets its contract.
+-- `rules::enter` meets its contract, from what its callees ensure.
 use borrow.Author.Needs.{needs}
 use Rattle.rules.proofs.enter.Statement.{statement}
 use Rattle.rules.proofs.enter.Tie as tie

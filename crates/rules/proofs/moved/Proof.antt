@@ -1,4 +1,4 @@
--- `rules::moved` meets its contract.
+-- `rules::moved` meets its contract, from what its callees ensure.
 use borrow.Author.Needs.{needs}
 use Rattle.rules.proofs.moved.Statement.{statement}
 use Rattle.rules.proofs.moved.Tie as tie

@@ -1,4 +1,4 @@
--- `rules::rule` meets its contract.
+-- `rules::rule` meets its contract: at the last return no rule before the fourth applied.
 use borrow.Author.Needs.{needs}
 use Rattle.rules.proofs.rule.Statement.{statement}
 use Rattle.rules.proofs.rule.Tie as tie

@@ -1,4 +1,4 @@
--- `rules::same` meets its contract.
+-- `rules::same` meets its contract, from what its callee ensures.
 use borrow.Author.Needs.{needs}
 use Rattle.rules.proofs.same.Statement.{statement}
 use Rattle.rules.proofs.same.Tie as tie

@@ -1,4 +1,4 @@
--- `rules::timer_at` meets its contract.
+-- `rules::timer_at` meets its contract: at each return the tests that led there say the case.
 use mathlib.Core.Path.{sym, _∙_}
 use borrow.Author.Needs.{needs}
 use Rattle.rules.proofs.timer_at.Statement.{statement}

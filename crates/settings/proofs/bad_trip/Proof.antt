@@ -1,4 +1,4 @@
--- `settings::bad_trip` meets its contract.
+-- `settings::bad_trip` meets its contract, from what its callees ensure and the tests on the way.
 use borrow.Author.Needs.{needs}
 use Rattle.settings.proofs.bad_trip.Statement.{statement}
 use Rattle.settings.proofs.bad_trip.Tie as tie

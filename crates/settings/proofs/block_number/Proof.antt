@@ -1,4 +1,4 @@
--- `settings::block_number` meets its contract.
+-- `settings::block_number` meets its contract, from what its callees ensure and the tests on the way.
 use Rattle.settings.proofs.block_number.Statement.{statement}
 use Rattle.settings.proofs.block_number.Tie as tie
 

@@ -1,4 +1,4 @@
--- `settings::effect_number` meets its contract.
+-- `settings::effect_number` meets its contract, from what its callees ensure and the tests on the way.
 use borrow.Author.Needs.{needs}
 use Rattle.settings.proofs.effect_number.Statement.{statement}
 use Rattle.settings.proofs.effect_number.Tie as tie

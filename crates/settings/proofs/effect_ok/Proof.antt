@@ -1,4 +1,4 @@
--- `settings::effect_ok` meets its contract.
+-- `settings::effect_ok` meets its contract, from what its callees ensure and the tests on the way.
 use borrow.Author.Needs.{needs}
 use Rattle.settings.proofs.effect_ok.Statement.{statement}
 use Rattle.settings.proofs.effect_ok.Tie as tie

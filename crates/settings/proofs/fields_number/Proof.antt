@@ -1,4 +1,4 @@
--- `settings::fields_number` meets its contract.
+-- `settings::fields_number` meets its contract, from what its callees ensure and the tests on the way.
 use borrow.Author.Needs.{needs}
 use Rattle.settings.proofs.fields_number.Statement.{statement}
 use Rattle.settings.proofs.fields_number.Tie as tie

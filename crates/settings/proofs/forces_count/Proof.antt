@@ -1,4 +1,4 @@
--- `settings::forces_count` meets its contract.
+-- `settings::forces_count` meets its contract, from what its callees ensure and the tests on the way.
 use borrow.Author.Needs.{needs}
 use Rattle.settings.proofs.forces_count.Statement.{statement}
 use Rattle.settings.proofs.forces_count.Tie as tie

@@ -1,4 +1,4 @@
--- `settings::hold_number` meets its contract.
+-- `settings::hold_number` meets its contract, from what its callees ensure and the tests on the way.
 use Rattle.settings.proofs.hold_number.Statement.{statement}
 use Rattle.settings.proofs.hold_number.Tie as tie
 

@@ -1,4 +1,4 @@
--- `settings::is_several` meets its contract.
+-- `settings::is_several` meets its contract, from what its callees ensure and the tests on the way.
 use borrow.Author.Needs.{needs}
 use Rattle.settings.proofs.is_several.Statement.{statement}
 use Rattle.settings.proofs.is_several.Tie as tie

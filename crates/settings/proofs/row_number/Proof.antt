@@ -1,4 +1,4 @@
--- `settings::row_number` meets its contract.
+-- `settings::row_number` meets its contract, from what its callees ensure and the tests on the way.
 use Rattle.settings.proofs.Refusals.{or-else-first, or-else-next}
 use Rattle.settings.specs.Right.{rowNumber}
 use borrow.Author.Needs.{needs}

@@ -1,4 +1,4 @@
--- `settings::settings_number` meets its contract.
+-- `settings::settings_number` meets its contract, from what its callees ensure and the tests on the way.
 use Rattle.settings.proofs.Refusals.{or-else-first, or-else-next}
 use Rattle.settings.specs.Right.{settingsNumber}
 use borrow.Author.Needs.{needs}

@@ -1,4 +1,4 @@
--- `settings::several_number` meets its contract.
+-- `settings::several_number` meets its contract, from what its callees ensure and the tests on the way.
 use borrow.Author.Needs.{needs}
 use Rattle.settings.proofs.several_number.Statement.{statement}
 use Rattle.settings.proofs.several_number.Tie as tie

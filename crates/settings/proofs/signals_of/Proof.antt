@@ -1,4 +1,4 @@
--- `settings::signals_of` meets its contract.
+-- `settings::signals_of` meets its contract, from what its callees ensure and the tests on the way.
 use Rattle.settings.specs.Signals.{signalsOf}
 use borrow.Author.Needs.{needs}
 use Rattle.settings.proofs.signals_of.Statement.{statement}

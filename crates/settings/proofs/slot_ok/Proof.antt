@@ -1,4 +1,4 @@
--- `settings::slot_ok` meets its contract.
+-- `settings::slot_ok` meets its contract, from what its callees ensure and the tests on the way.
 use borrow.Author.Tests.{lt-ltb, le-ltb}
 use borrow.Author.Needs.{needs}
 use Rattle.settings.proofs.slot_ok.Statement.{statement}

@@ -1,4 +1,4 @@
--- `settings::words_number` meets its contract.
+-- `settings::words_number` meets its contract, from what its callees ensure and the tests on the way.
 use Rattle.settings.proofs.Refusals.{or-else-first, or-else-next}
 use Rattle.settings.specs.Right.{wordsNumber}
 use borrow.Author.Needs.{needs}

@@ -1,4 +1,4 @@
--- `settings::words_ok` meets its contract.
+-- `settings::words_ok` meets its contract, from what its callees ensure and the tests on the way.
 use borrow.Author.Needs.{needs}
 use Rattle.settings.proofs.words_ok.Statement.{statement}
 use Rattle.settings.proofs.words_ok.Tie as tie

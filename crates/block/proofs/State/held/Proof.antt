@@ -1,6 +1,6 @@
 -- `block::State::held` meets its contract: the stroke is the run of single scans, its records laid apart are those of the
 -- definitions, so they fit or do not, and the cases of the answer are those of the code.
-use mathlib.Core.Path.{_≡_, refl, ap, _∙_}
+use mathlib.Core.Path.{_≡_, ap, _∙_}
 use mathlib.Core.Bool.{Bool}
 use Prim.Native.Nat.{_*_}
 use Rattle.bits.specs.Words.{one}
@@ -15,8 +15,6 @@ use Rattle.block.proofs.Answers.{answers-refused, answers-no-room, answ
 use Rattle.block.proofs.Runs.{timed, laid, at-run, due-bytes, granted-run}
 use Rattle.block.proofs.State.held.Statement.{statement}
 use Rattle.block.proofs.State.held.Tie as tie
-use Rattle.block.proofs.State.held.Reads as reads
-use Rattle.block.proofs.State.held.Lts as lts
 
 returns : tie.Need-returns
 unfolding heldOf heldInto heldNumber

@@ -1,6 +1,6 @@
 -- `block::State::scan` meets its contract: the records laid apart are those of the definitions, so they fit or do not, and the
 -- cases of the answer are those of the code.
-use mathlib.Core.Path.{_≡_, refl, ap, _∙_}
+use mathlib.Core.Path.{_≡_, ap, _∙_}
 use native.Mathlib.Omega.{arith}
 use borrow.Author.Needs.{needs}
 use denote.Ref.{now}

@@ -1,4 +1,4 @@
--- `recording::writer::put_effect` meets its contract.
+-- `recording::writer::put_effect` meets its contract, from what its callees ensure and the tests on the way.
 use borrow.Author.Needs.{needs}
 use mathlib.Core.Path.{refl}
 use denote.Ref.{now}

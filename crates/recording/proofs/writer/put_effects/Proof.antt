@@ -1,4 +1,4 @@
--- `recording::writer::put_effects` meets its contract.
+-- `recording::writer::put_effects` meets its contract. The loop's invariant: the first i effects are stored.
 use borrow.Author.Needs.{needs}
 use denote.Ref.{now}
 use native.Mathlib.Omega.{arith}

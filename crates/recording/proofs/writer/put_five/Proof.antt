@@ -1,4 +1,4 @@
--- `recording::writer::put_five` meets its contract.
+-- `recording::writer::put_five` meets its contract, from what its callees ensure and the tests on the way.
 use borrow.Author.Needs.{needs}
 use denote.Ref.{now}
 use Rattle.bits.proofs.Numbers.{sets-5}

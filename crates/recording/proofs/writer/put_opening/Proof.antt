@@ -1,4 +1,4 @@
--- `recording::writer::put_opening` meets its contract.
+-- `recording::writer::put_opening` meets its contract, from what its callees ensure and the tests on the way.
 use borrow.Author.Needs.{needs}
 use denote.Ref.{now}
 use Rattle.recording.proofs.Opening.{opening-stored, opening-length}

@@ -1,4 +1,4 @@
--- `recording::writer::put_row` meets its contract.
+-- `recording::writer::put_row` meets its contract, from what its callees ensure and the tests on the way.
 use borrow.Author.Needs.{needs}
 use Prim.Native.Nat.{ℕ}
 use mathlib.Core.List.{List, [], _∷_, _++_}

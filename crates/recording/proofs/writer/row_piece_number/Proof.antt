@@ -1,4 +1,4 @@
--- `recording::writer::row_piece_number` meets its contract.
+-- `recording::writer::row_piece_number` meets its contract, from what its callees ensure and the tests on the way.
 use Rattle.recording.specs.Writer.{rowPieceNumber}
 use Rattle.settings.proofs.Refusals.{or-else-first, or-else-next}
 use borrow.Author.Needs.{needs}

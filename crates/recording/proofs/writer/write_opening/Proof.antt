@@ -1,4 +1,4 @@
--- `recording::writer::write_opening` meets its contract.
+-- `recording::writer::write_opening` meets its contract, from what its callees ensure and the tests on the way.
 use Rattle.recording.proofs.Lists.{length-mapped}
 use lib.ListN.{length}
 use Rattle.recording.specs.Encode.{opening}

@@ -1,4 +1,4 @@
--- `recording::writer::write_row` meets its contract.
+-- `recording::writer::write_row` meets its contract, from what its callees ensure and the tests on the way.
 use Rattle.recording.proofs.Opening.{row-length}
 use Rattle.recording.specs.Entries.{putRow}
 use mathlib.Core.Path.{sym, _∙_}
