@@ -5,7 +5,7 @@ pub use writer::write_opening;
 pub use writer::write_row;
 ghost use mathlib.Core.Path.{_≡_};
 ghost use mathlib.Core.List.{_++_};
-ghost use Prim.Native.Nat.{_+_, _*_, _-_, _≤_, _<_};
+ghost use Prim.Native.Nat.{_+_, _*_, _-_, _^_, _≤_, _<_};
 ghost use lib.ListN.{length, replicate};
 ghost use Rattle.bits.specs.Numbers.{numAt};
 ghost use Rattle.settings.specs.Signals.{noEffect};
@@ -115,6 +115,37 @@ fn width_of(kind: Kind) -> usize
         Kind::Effects => 6,
         Kind::Rows => 24,
     }
+}
+
+// The place of a section's first entry, past its count.
+fn entries_of(section: usize) -> usize
+    requires { ⌜ section ≤ 1000 ⌝ }
+    ensures { λ r. ⌜ r ≡ section + 2 ⌝ }
+{
+    section + 2
+}
+
+// Where the effects section starts: past the one entry of the block section.
+fn effects_section() -> usize
+    ensures { λ r. ⌜ r ≡ 6 ⌝ }
+{
+    entries_of(0) + width_of(Kind::Block)
+}
+
+// The place of entry i, of those from `at` on that are as wide as effects.
+fn effect_place(at: usize, i: usize) -> usize
+    requires { ⌜ (i ≤ 16) × (at + 6 * i < 2 ^ 64) ⌝ }
+    ensures { λ r. ⌜ r ≡ at + 6 * i ⌝ }
+{
+    at + width_of(Kind::Effects) * i
+}
+
+// Where the rows section of a file with so many effects starts.
+fn rows_section(count: usize) -> usize
+    requires { ⌜ count ≤ 16 ⌝ }
+    ensures { λ r. ⌜ r ≡ 8 + 6 * count ⌝ }
+{
+    effect_place(entries_of(effects_section()), count)
 }
 
 fn least_of(kind: Kind) -> u16
@@ -240,12 +271,13 @@ fn settings_at(s: &[u8], e: usize) -> Settings
     requires { ⌜ (6 ≤ e) × (numAt 2 (now s) e ≤ 16) × (e + 2 + 6 * numAt 2 (now s) e ≤ length (now s)) ⌝ }
     ensures { λ r. ⌜ r ≡ settingsAt (now (s .entry)) e ⌝ }
 {
+    let b = entries_of(0);
     let count = bits::get16(s, e);
     let effects = effects_at(s, e + 2, count as usize);
     Settings {
-        causes: bits::get8(s, 2),
-        options: bits::get8(s, 3),
-        period: bits::get16(s, 4),
+        causes: bits::get8(s, b),
+        options: bits::get8(s, b + 1),
+        period: bits::get16(s, b + 2),
         count: count as u8,
         effects: effects,
     }
@@ -256,10 +288,11 @@ fn block_limits(s: &[u8]) -> Limits
     requires { ⌜ 4 ≤ length (now s) ⌝ }
     ensures { λ r. ⌜ r ≡ blockLimits (now (s .entry)) ⌝ }
 {
+    let b = entries_of(0);
     Limits {
-        causes: bits::get8(s, 2),
+        causes: bits::get8(s, b),
         count: 0,
-        options: bits::get8(s, 3),
+        options: bits::get8(s, b + 1),
     }
 }
 

@@ -69,7 +69,7 @@ fn put_effects(s: &mut [u8], at: usize, effects: [Effect; 16], n: usize)
     let mut i = 0;
     while i < n {
         let e = effects[i];
-        put_effect(s, at + 6 * i, e);
+        put_effect(s, super::effect_place(at, i), e);
         i += 1;
     }
 }
@@ -79,11 +79,13 @@ fn put_block(s: &mut [u8], causes: u8, options: u8, period: u16, count: u16)
     requires { ⌜ 8 ≤ length (now s) ⌝ }
     ensures { λ _. ⌜ now (s .exit) ≡ sets (now (s .entry)) 0 (pack (2 ∷ 1 ∷ 1 ∷ 2 ∷ 2 ∷ []) (1 ∷ causes ∷ options ∷ period ∷ count ∷ [])) ⌝ }
 {
+    let b = super::entries_of(0);
+    let e = super::effects_section();
     bits::put16(s, 0, 1);
-    bits::put8(s, 2, causes);
-    bits::put8(s, 3, options);
-    bits::put16(s, 4, period);
-    bits::put16(s, 6, count);
+    bits::put8(s, b, causes);
+    bits::put8(s, b + 1, options);
+    bits::put16(s, b + 2, period);
+    bits::put16(s, e, count);
 }
 
 // The opening piece at the start of `s`, with its length.
@@ -95,8 +97,8 @@ fn put_opening(s: &mut [u8], st: Settings, rows: u16)
     let n = st.count as usize;
     let effects = st.effects;
     put_block(s, st.causes, st.options, st.period, st.count as u16);
-    put_effects(s, 8, effects, n);
-    bits::put16(s, 8 + 6 * n, rows);
+    put_effects(s, super::entries_of(super::effects_section()), effects, n);
+    bits::put16(s, super::rows_section(n), rows);
 }
 
 fn opening_number(st: Settings, rows: u16) -> u8
@@ -132,12 +134,12 @@ pub fn write_opening(st: Settings, rows: u16, out: &mut [u8]) -> Written
     if number != 0 {
         return Written::Refused(number);
     }
-    let n = 10 + 6 * (st.count as usize);
-    if out.len() < n {
+    let due = super::entries_of(super::rows_section(st.count as usize));
+    if out.len() < due {
         return Written::Refused(10);
     }
     put_opening(out, st, rows);
-    Written::Bytes(n)
+    Written::Bytes(due)
 }
 
 // Writes a row at the start of `out`.

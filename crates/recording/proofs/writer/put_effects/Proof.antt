@@ -23,9 +23,10 @@ loop-holds c = (search needs, search needs, refl, refl)
 
 loop-again : tie.Need-loop-again Inv-loop μ-loop
 loop-again c =
-    let l = c .before .before .before .before .before .before .loop in
-    let a = c .before .before .before .before .before .before .before .before .args in
-    let e = store-more putEffect 6 effect-length (a .t3) _ (now (a .s)) (l .s) _ (a .at) (l .i) (omega arith) (l .inv .2) (c .before .before .put-effect .ensures) in
+    let l = c .before .before .before .before .before .before .before .loop in
+    let a = c .before .before .before .before .before .before .before .before .before .args in
+    let stored = rw (c .before .before .before .effect-place .ensures) at (c .before .before .put-effect .ensures) in
+    let e = store-more putEffect 6 effect-length (a .t3) _ (now (a .s)) (l .s) _ (a .at) (l .i) (omega arith) (l .inv .2) stored in
     (omega arith, l .inv .1, e, ap length e ∙ simp length-sets)
 
 returns : tie.Need-returns Inv-loop μ-loop
@@ -43,8 +44,7 @@ put-effects-spec =
     loop-holds
     (λ c. search needs)
     (λ c. search needs)
-    (λ c. search needs)
-    (λ c. search needs)
+    (λ c κs. search needs)
     (λ c κs. search needs)
     (λ c. search needs)
     (λ c. search needs)

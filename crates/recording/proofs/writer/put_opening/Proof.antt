@@ -1,15 +1,20 @@
--- `recording::writer::put_opening` meets its contract, from what its callees ensure and the tests on the way.
-use borrow.Author.Needs.{needs}
+-- `recording::writer::put_opening` meets its contract: its pieces, one after the other, at the places that the table gives.
+use mathlib.Core.Path.{ap, _∙_}
+use Prim.Native.Nat.{ℕ, _+_}
 use denote.Ref.{now}
 use Rattle.recording.proofs.Opening.{opening-stored, opening-length}
+use borrow.Author.Needs.{needs}
 use Rattle.recording.proofs.writer.put_opening.Statement.{statement}
 use Rattle.recording.proofs.writer.put_opening.Tie as tie
 
 returns : tie.Need-returns
 returns c =
-    let a = c .before .before .before .before .before .before .before .before .before .before .before .before .before .before .before .before .args in
-    let e = c .before .before .before .before .before .before .put-effects .ensures in (
-      opening-stored (a .st) (a .rows) (e .1) (now (a .s)) _ _ _ (c .before .before .before .before .before .before .before .before .before .before .put-block .ensures) (e .0) (c .before .before .put16 .ensures),
+    let a = c .before .before .before .before .before .before .before .before .before .before .before .before .before .before .before .before .before .before .before .args in
+    let first = c .before .before .before .before .before .before .before .before .entries-of .ensures ∙ ap (λ (k : ℕ). k + 2) (c .before .before .before .before .before .before .before .before .before .effects-section .ensures) in
+    let e = c .before .before .before .before .before .before .before .put-effects .ensures in
+    let effects = rw first at (e .0) in
+    let rows = rw (c .before .before .before .rows-section .ensures) at (c .before .before .put16 .ensures) in (
+      opening-stored (a .st) (a .rows) (e .1) (now (a .s)) _ _ _ (c .before .before .before .before .before .before .before .before .before .before .before .before .before .put-block .ensures) effects rows,
       opening-length (a .st) (a .rows) (e .1),
     )
 
@@ -21,8 +26,9 @@ put-opening-spec =
     (λ c. search needs)
     (λ c κs. search needs)
     (λ c κs. search needs)
-    (λ c. search needs)
-    (λ c. search needs)
+    (λ c κs. search needs)
+    (λ c κs. search needs)
+    (λ c κs. search needs)
     (λ c κs. search needs)
     (λ c. search needs)
     returns)

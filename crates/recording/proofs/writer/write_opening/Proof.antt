@@ -1,11 +1,12 @@
--- `recording::writer::write_opening` meets its contract, from what its callees ensure and the tests on the way.
-use Rattle.recording.proofs.Lists.{length-mapped}
+-- `recording::writer::write_opening` meets its contract: the length that the table gives is that of the opening.
+use mathlib.Core.Path.{_≡_, ap, sym, _∙_}
+use Prim.Native.Nat.{ℕ, _+_}
+use native.Mathlib.Omega.{arith}
 use lib.ListN.{length}
 use Rattle.recording.specs.Encode.{opening}
-use mathlib.Core.Path.{_≡_, sym, _∙_}
+use Rattle.recording.proofs.Lists.{length-mapped}
 use Rattle.recording.proofs.Opening.{opening-count, right-length}
 use Rattle.recording.proofs.Pieces.{piece-refused, piece-short, piece-fits}
-use native.Mathlib.Omega.{arith}
 use borrow.Author.Needs.{needs}
 use Rattle.recording.proofs.writer.write_opening.Statement.{statement}
 use Rattle.recording.proofs.writer.write_opening.Tie as tie
@@ -13,22 +14,32 @@ use Rattle.recording.proofs.writer.write_opening.Tie as tie
 returns : tie.Need-returns
 returns c = piece-refused _ _ (opening (c .before .before .before .args .st) (c .before .before .before .args .rows)) _ (c .before .opening-number .ensures) (c .if1 .taken)
 
+rows-section-requires : tie.Need-rows-section-requires
+rows-section-requires c κs = opening-count (c .before .before .before .before .args .st) (c .before .before .before .before .args .rows) (sym (c .before .before .opening-number .ensures) ∙ c .before .if1 .left)
+
+entries-of-requires : tie.Need-entries-of-requires
+entries-of-requires c κs = omega (arith, c .rows-section .ensures, opening-count (c .before .before .before .before .before .args .st) (c .before .before .before .before .before .args .rows) (sym (c .before .before .before .opening-number .ensures) ∙ c .before .before .if1 .left))
+
 returns-2 : tie.Need-returns-2
 returns-2 c =
-    let st = c .before .before .before .before .before .args .st in
-    let n = c .before .before .before .opening-number in
-    let right = c .before .before .if1 .left in
-    let sixteen : length (st .effects) ≡ 16 = search (needs, length-mapped) in
-    let len = right-length st (c .before .before .before .before .before .args .rows) (sym (n .ensures) ∙ right) sixteen in
-    piece-short _ _ (opening st (c .before .before .before .before .before .args .rows)) _ (n .ensures) right (omega (arith, len))
+    let a = c .before .before .before .before .before .before .before .args in
+    let n = c .before .before .before .before .before .opening-number in
+    let right = c .before .before .before .before .if1 .left in
+    let sixteen : length (a .st .effects) ≡ 16 = search (needs, length-mapped) in
+    let len = right-length (a .st) (a .rows) (sym (n .ensures) ∙ right) sixteen in
+    let is = c .before .entries-of .ensures ∙ ap (λ (k : ℕ). k + 2) (c .before .before .rows-section .ensures) in
+    piece-short _ _ (opening (a .st) (a .rows)) _ (n .ensures) right (omega (arith, len, is))
 
 put-opening-requires : tie.Need-put-opening-requires
-put-opening-requires c κs = (opening-count (c .before .before .before .before .before .before .args .st) (c .before .before .before .before .before .before .args .rows) (sym (c .before .before .before .before .opening-number .ensures) ∙ c .before .before .before .if1 .left), omega arith)
+put-opening-requires c κs =
+    let is = c .before .before .entries-of .ensures ∙ ap (λ (k : ℕ). k + 2) (c .before .before .before .rows-section .ensures) in
+    (opening-count (c .before .before .before .before .before .before .before .before .args .st) (c .before .before .before .before .before .before .before .before .args .rows) (sym (c .before .before .before .before .before .before .opening-number .ensures) ∙ c .before .before .before .before .before .if1 .left), omega (arith, is))
 
 returns-3 : tie.Need-returns-3
 returns-3 c =
     let e = c .before .before .put-opening .ensures in
-    piece-fits _ _ _ _ (c .before .before .before .before .before .before .before .opening-number .ensures) (c .before .before .before .before .before .before .if1 .left) _ (e .1) _ (omega arith) (e .0)
+    let is = c .before .before .before .before .before .entries-of .ensures ∙ ap (λ (k : ℕ). k + 2) (c .before .before .before .before .before .before .rows-section .ensures) in
+    piece-fits _ _ _ _ (c .before .before .before .before .before .before .before .before .before .opening-number .ensures) (c .before .before .before .before .before .before .before .before .if1 .left) _ (omega (arith, e .1, is)) _ (omega (arith, is)) (e .0)
 
 pub write-opening-spec : {M : Type 1} → statement M
 write-opening-spec =
@@ -37,8 +48,8 @@ write-opening-spec =
     (λ c κs. search needs)
     returns
     (λ c. search needs)
-    (λ c. search needs)
-    (λ c. search needs)
+    rows-section-requires
+    entries-of-requires
     returns-2
     put-opening-requires
     (λ c. search needs)
