@@ -1,3 +1,5 @@
 pub mod Words
+pub mod Lowest
 pub mod Numbers
 pub mod Lists
+pub mod Decimal

@@ -8,7 +8,7 @@ use native.Mathlib.Nat.{add-zero, eq-or-lt-of-le, le-of-suc-le-suc, not-suc-le-z
 use native.Mathlib.Numerals.{add-one}
 use native.Mathlib.Omega.{arith}
 use borrow.Author.Tests.{not-true, not-false}
-use lib.ListN.{length, take, drop, set, getD, replicate, length-append, drop-of-length-le, List·getD-append}
+use lib.ListN.{length, take, drop, set, getD, replicate, length-append, length-map, drop-of-length-le, List·getD-append}
 use lib.Seq.{set-at, drop-cons, getD-at, take-at, take-suc, length-take-le}
 use Rattle.bits.specs.Lists.{tabulate, allFrom}
 
@@ -52,6 +52,12 @@ module _ {A : Type 0} where
 
       earlier : i < n → getD (tabulate f n) i d ≡ f i → getD (tabulate f n ++ (f n ∷ [])) i d ≡ f i
       earlier k r = List·getD-append (tabulate f n) (f n ∷ []) d i (rw length-tabulate k) ∙ r
+
+  -- the first elements of a list, read one by one
+  pub tabulate-take : (l : List A) (d : A) (n : ℕ) → n ≤ length l → tabulate (λ i. getD l i d) n ≡ take n l
+  unfolding tabulate
+  tabulate-take l d zero h = refl
+  tabulate-take l d (suc n) h = ap (λ (k : List A). k ++ (getD l n d ∷ [])) (tabulate-take l d n (omega arith)) ∙ sym (take-suc l n d h)
 
   -- a store at the first place past a part that is filled by index
   pub fill : (f : ℕ → A) (l : List A) (i : ℕ) (d : A) → i < length l
@@ -116,3 +122,7 @@ module _ {A B : Type 0} (f : A → B) where
   unfolding tabulate
   map-tabulate g zero = refl
   map-tabulate g (suc n) = map-append (tabulate g n) (g n ∷ []) ∙ ap (λ (l : List B). l ++ (f (g n) ∷ [])) (map-tabulate g n)
+
+-- an array as the machine holds it has as many elements
+pub length-mapped : (X Y : Type 0) (f : X → Y) (l : List X) (n : ℕ) → length (map f l) ≡ n → length l ≡ n
+length-mapped X Y f l n e = sym (length-map l f) ∙ e

@@ -22,11 +22,28 @@ Fit [] (v ∷ vs) = ⊥
 Fit (w ∷ ws) [] = ⊥
 Fit (w ∷ ws) (v ∷ vs) = (v < 256 ^ w) × Fit ws vs
 
+-- as many numbers as the layout has, and 0 where a width is none: what can be read back
+abbrev pub Spelled : List ℕ → List ℕ → Type 0
+Spelled [] [] = Unit {0}
+Spelled [] (v ∷ vs) = ⊥
+Spelled (w ∷ ws) [] = ⊥
+Spelled (w ∷ ws) (v ∷ vs) = (w ≡ 0 → v ≡ 0) × Spelled ws vs
+
 -- ---- runs of stores
 
 pub sets-append : {A : Type 0} (l : List A) (i : ℕ) (a b : List A) → sets l i (a ++ b) ≡ sets (sets l i a) (i + length a) b
 sets-append l i [] b = rw add-zero
 sets-append l i (x ∷ a) b = sets-append (set l i x) (suc i) a b ∙ rw (add-suc, suc-add)
+
+-- one store more behind a run of them
+pub put-last : {A : Type 0} (l l′ : List A) (at n : ℕ) (vs : List A) (v : A) → l′ ≡ sets l at vs → n ≡ at + length vs
+    → set l′ n v ≡ sets l at (vs ++ (v ∷ []))
+put-last l l′ at n vs v p e = rw (p, e) (sym (sets-append l at vs (v ∷ [])))
+
+-- one store more of a run of which the first i are done
+pub sets-turn : {A : Type 0} (l vs : List A) (at i : ℕ) (d : A) → i < length vs
+    → sets (set l (at + i) (getD vs i d)) (at + (i + 1)) (drop (i + 1) vs) ≡ sets l (at + i) (drop i vs)
+sets-turn l vs at i d h = rw (drop-cons vs i d h, add-one, add-suc)
 
 pub digits-4 : (v : ℕ) → digits 4 v ≡ digits 2 (v / 65536) ++ digits 2 (v % 65536)
 digits-4 v =
@@ -49,6 +66,9 @@ pow-pos : (w : ℕ) → 0 < 256 ^ w
 pow-pos zero = omega arith
 pow-pos (suc w) = rw (pow-suc 256 w) (let h = pow-pos w in omega arith)
 
+below-one : (w v : ℕ) → v < 256 ^ w → w ≡ 0 → v ≡ 0
+below-one w v h e = omega (arith, ap (λ (n : ℕ). 256 ^ n) e)
+
 pub length-digits : (w v : ℕ) → length (digits w v) ≡ w
 length-digits zero v = refl
 length-digits (suc w) v = ap suc (length-digits w (v % 256 ^ w))
@@ -66,18 +86,21 @@ digits-num (suc w) s at b h =
     let rest : at + 1 + w ≤ length s = omega (arith, add-suc at w) in
     rw (digits-div (getD s at 0) lt, digits-mod (getD s at 0) lt, digits-num w s (at + 1) b rest, drop-cons s at 0 inside, add-one)
 
--- a number that is written is read back
-pub num-digits : (w v : ℕ) (p q : List ℕ) (at : ℕ) → at ≡ length p → v < 256 ^ w → numAt w (p ++ (digits w v ++ q)) at ≡ v
-num-digits zero v p q at e h = omega arith
-num-digits (suc w) v p q at e h =
+-- a number that is written is read back, however large: the first byte takes what is above the others. No bytes spell 0 only
+pub num-spelled : (w v : ℕ) (p q : List ℕ) (at : ℕ) → at ≡ length p → (w ≡ 0 → v ≡ 0) → numAt w (p ++ (digits w v ++ q)) at ≡ v
+num-spelled zero v p q at e z = sym (z refl)
+num-spelled (suc w) v p q at e z =
     let x = v / 256 ^ w in
     let r = v % 256 ^ w in
     let here : getD (p ++ (digits (suc w) v ++ q)) at 0 ≡ x = getD-at p x (digits w r ++ q) 0 at (sym e) in
     let there : numAt w (p ++ (digits (suc w) v ++ q)) (at + 1) ≡ r =
     ap (λ (l : List ℕ). numAt w l (at + 1)) (sym (append-assoc p (x ∷ []) (digits w r ++ q)))
-    ∙ num-digits w r (p ++ (x ∷ [])) q (at + 1) (omega (arith, length-append p (x ∷ []))) (mod-lt v (pow-pos w))
+    ∙ num-spelled w r (p ++ (x ∷ [])) q (at + 1) (omega (arith, length-append p (x ∷ []))) (below-one w r (mod-lt v (pow-pos w)))
     in
     rw (here, there) (div-add-mod' v (256 ^ w))
+
+pub num-digits : (w v : ℕ) (p q : List ℕ) (at : ℕ) → at ≡ length p → v < 256 ^ w → numAt w (p ++ (digits w v ++ q)) at ≡ v
+num-digits w v p q at e h = num-spelled w v p q at e (below-one w v h)
 
 -- ---- entries of fixed layout
 
@@ -91,20 +114,29 @@ length-pack [] vs f = refl
 length-pack (w ∷ ws) [] f = absurd f
 length-pack (w ∷ ws) (v ∷ vs) f = length-append (digits w v) (pack ws vs) ∙ ap₂ (λ (a b : ℕ). a + b) (length-digits w v) (length-pack ws vs (f .1))
 
-pub fields-pack : (ws vs p q : List ℕ) (at off : ℕ) → at + off ≡ length p → Fit ws vs → fieldsAt ws (p ++ (pack ws vs ++ q)) at off ≡ vs
-fields-pack [] [] p q at off e f = refl
-fields-pack [] (v ∷ vs) p q at off e f = absurd f
-fields-pack (w ∷ ws) [] p q at off e f = absurd f
-fields-pack (w ∷ ws) (v ∷ vs) p q at off e f =
+pub fields-spelled : (ws vs p q : List ℕ) (at off : ℕ) → at + off ≡ length p → Spelled ws vs → fieldsAt ws (p ++ (pack ws vs ++ q)) at off ≡ vs
+fields-spelled [] [] p q at off e f = refl
+fields-spelled [] (v ∷ vs) p q at off e f = absurd f
+fields-spelled (w ∷ ws) [] p q at off e f = absurd f
+fields-spelled (w ∷ ws) (v ∷ vs) p q at off e f =
     let t = pack ws vs in
     let d = digits w v in
     let again : p ++ ((d ++ t) ++ q) ≡ (p ++ d) ++ (t ++ q) = simp append-assoc in
-    let here : numAt w (p ++ ((d ++ t) ++ q)) (at + off) ≡ v = rw (append-assoc d t q) (num-digits w v p (t ++ q) (at + off) e (f .0)) in
+    let here : numAt w (p ++ ((d ++ t) ++ q)) (at + off) ≡ v = rw (append-assoc d t q) (num-spelled w v p (t ++ q) (at + off) e (f .0)) in
     let there : fieldsAt ws (p ++ ((d ++ t) ++ q)) at (off + w) ≡ vs =
     ap (λ (l : List ℕ). fieldsAt ws l at (off + w)) again
-    ∙ fields-pack ws vs (p ++ d) q at (off + w) (omega (arith, length-append p d, length-digits w v)) (f .1)
+    ∙ fields-spelled ws vs (p ++ d) q at (off + w) (omega (arith, length-append p d, length-digits w v)) (f .1)
     in
     ap₂ (λ (a : ℕ) (b : List ℕ). a ∷ b) here there
+
+fit-spelled : (ws vs : List ℕ) → Fit ws vs → Spelled ws vs
+fit-spelled [] [] f = tt
+fit-spelled [] (v ∷ vs) f = absurd f
+fit-spelled (w ∷ ws) [] f = absurd f
+fit-spelled (w ∷ ws) (v ∷ vs) f = (below-one w v (f .0), fit-spelled ws vs (f .1))
+
+pub fields-pack : (ws vs p q : List ℕ) (at off : ℕ) → at + off ≡ length p → Fit ws vs → fieldsAt ws (p ++ (pack ws vs ++ q)) at off ≡ vs
+fields-pack ws vs p q at off e f = fields-spelled ws vs p q at off e (fit-spelled ws vs f)
 
 -- ---- one run of stores after another is one run
 pub sets-then : (l l′ l″ : List ℕ) (at n : ℕ) (a b : List ℕ) → l′ ≡ sets l at a → l″ ≡ sets l′ (at + n) b → length a ≡ n → l″ ≡ sets l at (a ++ b)

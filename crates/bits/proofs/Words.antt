@@ -1,14 +1,14 @@
 -- Laws of words of bits: each once, over the bit's number.
 use mathlib.Core.Path.{_≡_, refl, ap, ap₂, sym, _∙_}
-use mathlib.Core.Bool.{Bool, true, false, cond, _&&_}
+use mathlib.Core.Bool.{Bool, true, false, cond, not, _&&_, _||_}
 use mathlib.Core.Logic.{⊎-elim}
-use Prim.Native.Nat.{ℕ, zero, suc, _+_, _-_, _*_, _/_, _%_, _^_, _<_}
-use native.Mathlib.Nat.{pow-suc, mul-assoc, add-mul-div-right, add-mul-mod-self-right, div-eq-of-lt, mod-eq-of-lt, mod-lt, mod-one, zero-add, zero-lt-suc, eq-or-lt-of-le, le-of-suc-le-suc, not-suc-le-zero}
+use Prim.Native.Nat.{ℕ, zero, suc, _+_, _-_, _*_, _/_, _%_, _^_, _<_, _≤_}
+use native.Mathlib.Nat.{lt-of-lt-of-le, lt-of-le-of-lt, pow-suc, mul-assoc, add-mul-div-right, add-mul-mod-self-right, div-eq-of-lt, mod-eq-of-lt, mod-lt, mod-one, zero-add, zero-lt-suc, eq-or-lt-of-le, le-of-suc-le-suc, not-suc-le-zero}
 use native.Mathlib.Numerals.{add-one, one-add}
 use native.Mathlib.Omega.{arith}
-use lib.Bits.{bitAnd, bitOr, or-shifted-r, and-shr, and-mod, and-le-l}
+use lib.Bits.{bitAnd, bitOr, or-shifted-r, and-shr, or-shr, and-mod, or-mod, and-le-l, and-lt, or-lt}
 use lib.Dec.{eqb, lit<}
-use lib.Pow.{shl-exact, pow-add, pow-pos, mod-pow-add}
+use lib.Pow.{shl-exact, pow-add, pow-pos, pow-mono, mod-pow-add}
 use Rattle.bits.specs.Words.{bitOf, wordOf, one}
 
 pub wordOf-lt : (t : ℕ → Bool) (n : ℕ) → wordOf t n < 2 ^ n
@@ -70,6 +70,10 @@ read t (suc n) i h = ⊎-elim last (λ k. earlier k (read t n i k)) (eq-or-lt-of
 pub bit-wordOf : (t : ℕ → Bool) (n i : ℕ) → i < n → bitOf (wordOf t n) i ≡ t i
 bit-wordOf t n i h = rw (read t n i h, bit-is)
 
+-- a word has no bit past its length
+pub bit-past : (w n i : ℕ) → w < 2 ^ n → n ≤ i → bitOf w i ≡ false
+bit-past w n i h k = rw (div-eq-of-lt (lt-of-lt-of-le h (pow-mono k)))
+
 -- ## A word is that of its bits
 
 -- bits that agree below n give one word
@@ -99,7 +103,16 @@ word-bits w n h = low-bits w n ∙ mod-eq-of-lt h
 pub same-bits : (v w n : ℕ) → v < 2 ^ n → w < 2 ^ n → ((i : ℕ) → i < n → bitOf v i ≡ bitOf w i) → v ≡ w
 same-bits v w n hv hw h = sym (word-bits v n hv) ∙ wordOf-ext (bitOf v) (bitOf w) n h ∙ word-bits w n hw
 
--- ## The bits that two words share
+-- ## The operations on words, bit by bit
+
+module _ (op : ℕ → ℕ → ℕ) (b : Bool → Bool → Bool)
+    (shr : (v w k : ℕ) → op v w / 2 ^ k ≡ op (v / 2 ^ k) (w / 2 ^ k))
+    (low : (v w k : ℕ) → op v w % 2 ^ k ≡ op (v % 2 ^ k) (w % 2 ^ k))
+    (on-digits : (x y : ℕ) → x < 2 → y < 2 → eqb (op x y) 1 ≡ b (eqb x 1) (eqb y 1)) where
+  bit-op : (v w i : ℕ) → bitOf (op v w) i ≡ b (bitOf v i) (bitOf w i)
+  bit-op v w i =
+      ap (λ (x : ℕ). eqb (x % 2) 1) (shr v w i) ∙ ap (λ (x : ℕ). eqb x 1) (low (v / 2 ^ i) (w / 2 ^ i) 1)
+      ∙ on-digits (v / 2 ^ i % 2) (w / 2 ^ i % 2) (mod-lt (v / 2 ^ i) (zero-lt-suc 1)) (mod-lt (w / 2 ^ i) (zero-lt-suc 1))
 
 and-digits : (x y : ℕ) → x < 2 → y < 2 → eqb (bitAnd x y) 1 ≡ (eqb x 1 && eqb y 1)
 and-digits zero y hx hy = refl
@@ -108,10 +121,66 @@ and-digits (suc zero) (suc zero) hx hy = refl
 and-digits (suc zero) (suc (suc y)) hx hy = absurd (omega arith)
 and-digits (suc (suc x)) y hx hy = absurd (omega arith)
 
+or-digits : (x y : ℕ) → x < 2 → y < 2 → eqb (bitOr x y) 1 ≡ (eqb x 1 || eqb y 1)
+or-digits zero y hx hy = refl
+or-digits (suc zero) zero hx hy = refl
+or-digits (suc zero) (suc zero) hx hy = refl
+or-digits (suc zero) (suc (suc y)) hx hy = absurd (omega arith)
+or-digits (suc (suc x)) y hx hy = absurd (omega arith)
+
 pub bit-and : (v w i : ℕ) → bitOf (bitAnd v w) i ≡ (bitOf v i && bitOf w i)
-bit-and v w i =
-    ap (λ (x : ℕ). eqb (x % 2) 1) (and-shr v w i) ∙ ap (λ (x : ℕ). eqb x 1) (and-mod (v / 2 ^ i) (w / 2 ^ i) 1)
-    ∙ and-digits (v / 2 ^ i % 2) (w / 2 ^ i % 2) (mod-lt (v / 2 ^ i) (zero-lt-suc 1)) (mod-lt (w / 2 ^ i) (zero-lt-suc 1))
+bit-and = bit-op bitAnd _&&_ and-shr and-mod and-digits
+
+pub bit-or : (v w i : ℕ) → bitOf (bitOr v w) i ≡ (bitOf v i || bitOf w i)
+bit-or = bit-op bitOr _||_ or-shr or-mod or-digits
+
+-- the complement in n bits
+complement : (t : ℕ → Bool) (n : ℕ) → wordOf t n + wordOf (λ i. not (t i)) n ≡ 2 ^ n - 1
+unfolding wordOf
+complement t zero = omega arith
+complement t (suc n) = go (t n) (complement t n)
+  where
+    go : (b : Bool) → wordOf t n + wordOf (λ i. not (t i)) n ≡ 2 ^ n - 1
+        → wordOf t n + cond b (2 ^ n) 0 + (wordOf (λ i. not (t i)) n + cond (not b) (2 ^ n) 0) ≡ 2 ^ suc n - 1
+    go true h = omega (arith, wordOf-lt t n)
+    go false h = omega (arith, wordOf-lt t n)
+
+-- a bit of the code's `!w`
+pub bit-not : (w i : ℕ) → w < 65536 → i < 16 → bitOf (65535 - w) i ≡ not (bitOf w i)
+bit-not w i h k =
+    let e : 65535 - w ≡ wordOf (λ j. not (bitOf w j)) 16 = omega (arith, complement (bitOf w) 16, word-bits w 16 h) in
+    rw e (bit-wordOf (λ j. not (bitOf w j)) 16 i k)
+
+-- ## The operations on words by their bits
+
+pub and-word : (f g : ℕ → Bool) (n : ℕ) → bitAnd (wordOf f n) (wordOf g n) ≡ wordOf (λ i. f i && g i) n
+and-word f g n =
+    same-bits _ _ n (and-lt n _ _ (wordOf-lt f n) (wordOf-lt g n)) (wordOf-lt _ n)
+    (λ i k. bit-and (wordOf f n) (wordOf g n) i ∙ ap₂ _&&_ (bit-wordOf f n i k) (bit-wordOf g n i k) ∙ sym (bit-wordOf (λ j. f j && g j) n i k))
+
+pub or-word : (f g : ℕ → Bool) (n : ℕ) → bitOr (wordOf f n) (wordOf g n) ≡ wordOf (λ i. f i || g i) n
+or-word f g n =
+    same-bits _ _ n (or-lt n _ _ (wordOf-lt f n) (wordOf-lt g n)) (wordOf-lt _ n)
+    (λ i k. bit-or (wordOf f n) (wordOf g n) i ∙ ap₂ _||_ (bit-wordOf f n i k) (bit-wordOf g n i k) ∙ sym (bit-wordOf (λ j. f j || g j) n i k))
+
+-- the code's `v & !w`, of words of at most sixteen bits
+pub less-word : (f g : ℕ → Bool) (n : ℕ) → n ≤ 16 → bitAnd (wordOf f n) (65535 - wordOf g n) ≡ wordOf (λ i. f i && not (g i)) n
+less-word f g n h =
+    let small : wordOf g n < 65536 = lt-of-lt-of-le (wordOf-lt g n) (pow-mono h) in
+    same-bits _ _ n (lt-of-le-of-lt (and-le-l (wordOf f n) (65535 - wordOf g n)) (wordOf-lt f n)) (wordOf-lt _ n)
+    (λ i k. bit-and (wordOf f n) (65535 - wordOf g n) i
+    ∙ ap₂ _&&_ (bit-wordOf f n i k) (bit-not (wordOf g n) i small (omega arith) ∙ ap not (bit-wordOf g n i k))
+    ∙ sym (bit-wordOf (λ j. f j && not (g j)) n i k))
+
+pub and-assoc : (a b c : ℕ) → a < 65536 → bitAnd (bitAnd a b) c ≡ bitAnd a (bitAnd b c)
+and-assoc a b c h =
+    same-bits _ _ 16 (omega (arith, and-le-l (bitAnd a b) c, and-le-l a b)) (omega (arith, and-le-l a (bitAnd b c)))
+    (λ i k. bit-and (bitAnd a b) c i ∙ ap (λ (x : Bool). x && bitOf c i) (bit-and a b i) ∙ go (bitOf a i) (bitOf b i) (bitOf c i)
+    ∙ sym (bit-and a (bitAnd b c) i ∙ ap (λ (x : Bool). bitOf a i && x) (bit-and b c i)))
+  where
+    go : (x y z : Bool) → ((x && y) && z) ≡ (x && (y && z))
+    go true y z = refl
+    go false y z = refl
 
 -- what is left of a, less other bits twice, lies inside a
 pub less-inside : (a m v : ℕ) → a < 65536 → bitAnd (bitAnd (bitAnd a m) v) a ≡ bitAnd (bitAnd a m) v

@@ -1,4 +1,4 @@
-// What every other crate counts on: bits of a word, and big-endian numbers in a slice of bytes.
+// What every other crate counts on: bits of a word, big-endian numbers in a slice of bytes, and text.
 ghost use mathlib.Core.Path.{_≡_};
 ghost use mathlib.Core.Bool.{cond};
 ghost use Prim.Native.Nat.{_+_, _^_, _≤_, _<_};
@@ -9,6 +9,7 @@ ghost use mathlib.Core.List.{_++_};
 ghost use lib.Seq.{sets};
 ghost use Rattle.bits.specs.Words.{bitOf};
 ghost use Rattle.bits.specs.Numbers.{numAt, digits};
+ghost use Rattle.bits.specs.Decimal.{decimal};
 
 // ---- words of bits
 
@@ -120,5 +121,36 @@ pub fn copy_front(src: &[u8], n: usize, out: &mut [u8])
     while i < n {
         out[i] = src[i];
         i += 1;
+    }
+}
+
+// ---- text
+
+// Writes a text at `at`, and answers the place after it; all else stays.
+pub fn put_text(s: &mut [u8], at: usize, text: &[u8]) -> usize
+    requires { ⌜ at + length (now text) ≤ length (now s) ⌝ }
+    ensures { λ r. ⌜ (r ≡ at + length (now (text .entry))) × (now (s .exit) ≡ sets (now (s .entry)) at (now (text .entry))) ⌝ }
+{
+    let mut i: usize = 0;
+    while i < text.len() {
+        s[at + i] = text[i];
+        i += 1;
+    }
+    at + i
+}
+
+// Writes a number in decimal at `at`, and answers the place after it; all else stays. It calls itself for the digits
+// before the last, as the definition does: at most 19 times.
+pub fn put_decimal(s: &mut [u8], at: usize, v: u64) -> usize
+    requires { ⌜ at + length (decimal v) ≤ length (now s) ⌝ }
+    ensures { λ r. ⌜ (r ≡ at + length (decimal v)) × (now (s .exit) ≡ sets (now (s .entry)) at (decimal v)) ⌝ }
+{
+    if v < 10 {
+        s[at] = 48 + v as u8;
+        at + 1
+    } else {
+        let last = put_decimal(s, at, v / 10);
+        s[last] = 48 + (v % 10) as u8;
+        last + 1
     }
 }
