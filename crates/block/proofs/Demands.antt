@@ -49,9 +49,10 @@ a-right-scan-is-accepted st w x room right state words scans fits =
 
 module _ (st : Settings) (row : Row) (x : State) (settings : settingsNumber st ≡ 0) (state : stateNumber st x ≡ 0) (right-row : rowNumber (limitsOf st) row ≡ 0)
     (scans : x .done + row .hold ≤ mostScans) where
-  input : 0 ≡ inputNumber st x row
+  -- nothing refuses it before its room is looked at
+  pub right-input-is-accepted : inputNumber st x row ≡ 0
   unfolding inputNumber
-  input = rw (settings, state, right-row, le-leb (x .done + row .hold) mostScans scans)
+  right-input-is-accepted = rw (settings, state, right-row, le-leb (x .done + row .hold) mostScans scans)
 
   -- every one of its single scans is accepted, where it is lent the room for its records: no 8, 9 or 10 comes in between
   pub every-scan-is-accepted : (k : ℕ) → k < row .hold → (room : ℕ)
@@ -67,8 +68,8 @@ module _ (st : Settings) (row : Row) (x : State) (settings : settingsNumber st �
       → (heldOf st row x (length out) ≡ grantedHeld st row x) × (heldInto st row x out ≡ atFront (run st row x .events) out)
   unfolding heldOf heldInto heldNumber
   one-stroke-is-single-scans out fits = (
-    sym (granted-in-room (inputNumber st x row) (length (run st row x .events)) (length out) 0 input (grantedHeld st row x) (refusedHeld x) refl fits),
-    sym (granted-in-room (inputNumber st x row) (length (run st row x .events)) (length out) 0 input (atFront (run st row x .events) out) (λ n. out) refl fits),
+    sym (granted-in-room (inputNumber st x row) (length (run st row x .events)) (length out) 0 (sym right-input-is-accepted) (grantedHeld st row x) (refusedHeld x) refl fits),
+    sym (granted-in-room (inputNumber st x row) (length (run st row x .events)) (length out) 0 (sym right-input-is-accepted) (atFront (run st row x .events) out) (λ n. out) refl fits),
   )
 
   -- rounds, as many as twice the effects and one, come to those single scans
@@ -78,15 +79,23 @@ module _ (st : Settings) (row : Row) (x : State) (settings : settingsNumber st �
       let r = startRun (x .done) (x .next) (x .slots) in
       ap (λ (n : ℕ). byRounds (2 * n + 1) ss (row .hold) r) (sym (length-tabulate (signalsOf st (row .words)) (st .count)))
       ∙ one-stroke ss (row .hold) r (signals-timed st (row .words) settings)
-      ∙ sym (runs.run-is st row x 0 input refl)
+      ∙ sym (runs.run-is st row x right-input-is-accepted)
 
   -- the scans in which an effect changes state never outnumber twice the effects
   pub live-at-most-twice-the-effects : run st row x .live ≤ 2 * st .count
-  live-at-most-twice-the-effects = runs.live-few st row x 0 input refl
+  live-at-most-twice-the-effects = runs.live-few st row x right-input-is-accepted
+
+  -- two records an effect, sixteen effects: no held run needs more room than 384 bytes
+  pub records-fit-384-bytes : 12 * length (run st row x .events) ≤ 384
+  records-fit-384-bytes = runs.due-bytes st row x right-input-is-accepted
+
+  -- the scans done grow by the hold
+  pub scans-done-grow-by-the-hold : run st row x .state .done ≡ x .done + row .hold
+  scans-done-grow-by-the-hold = runs.done-is st row x right-input-is-accepted
 
   -- exercised scans are the hold where some effect's active word is not 0, else 0
   pub exercised-is-the-hold-or-nothing : run st row x .exercised ≡ row .hold * one (anyExercised (signals st (row .words)))
-  exercised-is-the-hold-or-nothing = runs.exercised-is st row x 0 input refl
+  exercised-is-the-hold-or-nothing = runs.exercised-is st row x right-input-is-accepted
 
   -- a held run of a right state gives a right state
   pub a-held-run-keeps-right : stateNumber st (run st row x .state) ≡ 0

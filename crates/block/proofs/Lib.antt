@@ -1,8 +1,9 @@
 pub mod Answers
-pub mod Scans
 pub mod RightStates
+pub mod Boards
 pub mod Corners
 pub mod Later
 pub mod Stepping
+pub mod Scans
 pub mod Runs
 pub mod Demands

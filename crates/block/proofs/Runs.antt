@@ -1,44 +1,50 @@
--- A held run that is granted: the one stroke gives what single scans give, and its records fit the space that they are laid in.
+-- A held run that nothing refuses: the one stroke gives what single scans give, and its records fit the space that they are laid in.
 use mathlib.Core.Path.{_≡_, refl, ap, sym, _∙_}
-use mathlib.Core.List.{List, _++_}
+use mathlib.Core.List.{List}
 use Prim.Native.Nat.{ℕ, zero, suc, _+_, _*_, _/_, _≤_}
 use native.Mathlib.Nat.{zero-add, not-suc-le-zero}
 use native.Mathlib.Omega.{arith}
-use lib.ListN.{length, take}
+use lib.ListN.{length}
 use lib.Seq.{sets}
 use Rattle.bits.specs.Words.{one}
 use Rattle.bits.proofs.Lists.{length-tabulate}
-use Rattle.rules.specs.declared.Signals.{Signals}
-use Rattle.effects.specs.declared.Progress.{Progress}
+use Rattle.rules.specs.declared.Slot.{Slot}
 use Rattle.effects.specs.Records.{bytes}
 use Rattle.effects.specs.Scan.{effectWord, latentWord, anyExercised}
-use Rattle.rounds.specs.Steps.{Run, start as startRun, held, progressOf}
-use Rattle.rounds.specs.Stroke.{Timed}
-use Rattle.rounds.proofs.Held.{live-at-most, due-at-most}
+use Rattle.rounds.specs.Steps.{Run, start as startRun, held}
+use Rattle.rounds.proofs.Held.{live-at-most, due-at-most, length-slots}
+use Rattle.planes.specs.Table.{tableOf, slotsOf}
+use Rattle.planes.specs.Board.{runOf as runFrom, boardOf}
+use Rattle.wiring.specs.declared.Stroked.{Stroked}
+use Rattle.wiring.specs.Wiring.{strokedBy}
 use Rattle.settings.specs.declared.Settings.{Settings}
 use Rattle.settings.specs.declared.Row.{Row}
 use Rattle.settings.specs.Right.{limitsOf, settingsNumber}
 use Rattle.settings.specs.Signals.{signals, signalsOf}
+use Rattle.settings.proofs.Right.{row-words}
 use Rattle.block.specs.declared.State.{State}
-use Rattle.block.specs.declared.Held.{Held}
+use Rattle.block.specs.declared.Ran.{Ran}
 use Rattle.block.specs.Scan.{inputNumber}
-use Rattle.block.specs.Held.{start, run, grantedHeld}
-use Rattle.block.specs.Run.{reachedBy}
+use Rattle.block.specs.Held.{start, run}
+use Rattle.block.specs.State.{stateNumber}
+use Rattle.block.specs.Run.{startOf, reachedBy, ranOf}
 use Rattle.block.proofs.Answers.{settings-right, state-right, row-right, few, countable, hold-some}
-use Rattle.block.proofs.Later.{row-words, signals-timed}
-use Rattle.block.proofs.Scans.{signals-in}
-use Rattle.block.proofs.Stepping.{Ready, runOf, stepped-runs, stepped-effect, stepped-latent, stepped-exercised}
+use Rattle.block.proofs.Boards.{shows}
+use Rattle.block.proofs.Stepping.{Ready, ready-at, runOf, stepped-runs, stepped-done, stepped-effect, stepped-latent, stepped-exercised}
 
-module _ (st : Settings) (row : Row) (x : State) (n : ℕ) (is : n ≡ inputNumber st x row) (z : n ≡ 0) where
+abbrev state : ℕ → ℕ → List Slot → State
+state d q xs = record { done = d; next = q; slots = xs }
+
+module _ (st : Settings) (row : Row) (x : State) (input : inputNumber st x row ≡ 0) where
   right : settingsNumber st ≡ 0
-  right = settings-right st row x n is z
+  right = settings-right st row x _ refl input
 
   ready : Ready st right (row .words) (row .hold) x
   ready =
       record {
-        words = row-words (limitsOf st) row (row-right st row x n is z);
-        state = state-right st row x n is z;
-        scans = countable st row x n is z;
+        words = row-words (limitsOf st) row (row-right st row x _ refl input);
+        state = state-right st row x _ refl input;
+        scans = countable st row x _ refl input;
       }
 
   -- single scans give what the run over lists gives
@@ -59,7 +65,12 @@ module _ (st : Settings) (row : Row) (x : State) (n : ℕ) (is : n ≡ inputNumb
       omega (arith, e, live-at-most (signals st (row .words)) (row .hold) (startRun (x .done) (x .next) (x .slots)), length-tabulate (signalsOf st (row .words)) (st .count))
 
   pub due-bytes : 12 * length (run st row x .events) ≤ 384
-  due-bytes = omega (arith, due-few, few st row x n is z)
+  due-bytes = omega (arith, due-few, few st row x _ refl input)
+
+  -- the scans done grow by the hold
+  pub done-is : run st row x .state .done ≡ x .done + row .hold
+  unfolding run
+  done-is = stepped-done st right (row .hold) (row .words) (start x) ready
 
   -- the words and the exercised scans
   from-hold : (m : ℕ) → 1 ≤ m → row .hold ≡ m → (run st row x .effect ≡ effectWord (st .count) (run st row x .state .slots)) × (run st row x .latent ≡ latentWord (signals st (row .words)))
@@ -70,43 +81,55 @@ module _ (st : Settings) (row : Row) (x : State) (n : ℕ) (is : n ≡ inputNumb
       rw e (stepped-effect st right m (row .words) (start x) r, stepped-latent st right m (row .words) (start x) r)
 
   words-are : (run st row x .effect ≡ effectWord (st .count) (run st row x .state .slots)) × (run st row x .latent ≡ latentWord (signals st (row .words)))
-  words-are = from-hold (row .hold) (hold-some st row x n is z) refl
+  words-are = from-hold (row .hold) (hold-some st row x _ refl input) refl
 
   -- exercised: the hold where some effect's active word is not 0, else 0
   pub exercised-is : run st row x .exercised ≡ row .hold * one (anyExercised (signals st (row .words)))
   unfolding run
   exercised-is = stepped-exercised st (row .hold) (row .words) (start x) ∙ zero-add _
 
+  -- a held run of a right state gives a right state
+  pub keeps-right : stateNumber st (run st row x .state) ≡ 0
+  unfolding run
+  keeps-right =
+      let r : Ready st right (row .words) (row .hold + 0) x = record { words = ready .words; state = ready .state; scans = omega (arith, ready .scans) } in
+      ready-at st right (row .hold) 0 (row .words) (start x) r .state
+
   -- ## What the code holds
 
-  module _ (ss rest : List Signals) (are : ss ≡ signals st (row .words) ++ rest) where
-    pub timed : Timed (take (st .count) ss)
-    timed = rw (signals-in st (row .words) ss rest are) (signals-timed st (row .words) right)
-
+  module _ (long : length (x .slots) ≡ 16) where
+    -- the run that starts at the words of the state
     abbrev stroke : Run
-    stroke = held (take (st .count) ss) (row .hold) (startRun (x .done) (x .next) (x .slots))
+    stroke = held (signals st (row .words)) (row .hold) (runFrom (st .count) (boardOf (st .count) (startOf x)))
 
     stroke-is : stroke ≡ runOf (run st row x)
-    stroke-is = ap (λ (l : List Signals). held l (row .hold) (startRun (x .done) (x .next) (x .slots))) (signals-in st (row .words) ss rest are) ∙ sym run-is
+    stroke-is =
+        ap (λ (xs : List Slot). held (signals st (row .words)) (row .hold) (startRun (x .done) (x .next) xs)) (shows st x (ready .state) long right)
+        ∙ sym run-is
+
+    -- the words that it starts with are those of what they show
+    pub starts-right : boardOf (st .count) (startOf x) .table ≡ tableOf (st .count) (slotsOf (st .count) (boardOf (st .count) (startOf x) .table))
+    starts-right = ap (tableOf (st .count)) (sym (shows st x (ready .state) long right))
 
     pub laid : (space space′ : List ℕ) → space′ ≡ sets space 0 (bytes (stroke .events)) → space′ ≡ sets space 0 (bytes (run st row x .events))
     laid space space′ e = e ∙ ap (λ (r : Run). sets space 0 (bytes (r .events))) stroke-is
 
-    module _ (p : Progress) (e : p ≡ progressOf stroke) where
-      comes-to : p ≡ progressOf (runOf (run st row x))
-      comes-to = e ∙ ap progressOf stroke-is
+    long-after : length (run st row x .state .slots) ≡ 16
+    long-after = ap (λ (r : Run). length (r .slots)) run-is ∙ length-slots (signals st (row .words)) (row .hold) (startRun (x .done) (x .next) (x .slots)) ∙ long
 
-      pub at-run : p .at ≡ 12 * length (run st row x .events)
-      at-run = ap (λ (q : Progress). q .at) comes-to
+    module _ (s : Stroked) (e : s ≡ strokedBy st (row .words) stroke) where
+      comes-to : s ≡ strokedBy st (row .words) (runOf (run st row x))
+      comes-to = e ∙ ap (strokedBy st (row .words)) stroke-is
 
-      pub granted-run : (r : State) (f l v : ℕ) → r ≡ reachedBy p → f ≡ effectWord (st .count) (p .slots) → l ≡ latentWord (take (st .count) ss)
-          → v ≡ row .hold * one (anyExercised (take (st .count) ss))
-          → _≡_ {A = Held} (record { number = 0; place = 0; state = r; effect = f; latent = l; records = p .at / 12; live = p .live; exercised = v }) (grantedHeld st row x)
-      granted-run r f l v er ef el ev =
-          let gr = er ∙ ap reachedBy comes-to in
-          let gf = ef ∙ ap (λ (q : Progress). effectWord (st .count) (q .slots)) comes-to ∙ sym (words-are .0) in
-          let gl = el ∙ ap latentWord (signals-in st (row .words) ss rest are) ∙ sym (words-are .1) in
-          let gn : p .at / 12 ≡ length (run st row x .events) = omega (arith, at-run) in
-          let gi = ap (λ (q : Progress). q .live) comes-to in
-          let gv = ev ∙ ap (λ (m : List Signals). row .hold * one (anyExercised m)) (signals-in st (row .words) ss rest are) ∙ sym exercised-is in
-          λ i. record { number = 0; place = 0; state = gr i; effect = gf i; latent = gl i; records = gn i; live = gi i; exercised = gv i }
+      pub ran-is : (r : State) (v : ℕ) → r ≡ reachedBy (st .count) (s .board) → v ≡ row .hold * one (s .exercised)
+          → _≡_ {A = Ran} (record { state = r; effect = s .effect; latent = s .latent; records = s .board .at / 12; live = s .board .live; exercised = v }) (ranOf (run st row x))
+      ran-is r v er ev =
+          let end = run st row x .state in
+          let gr = er ∙ ap (λ (q : Stroked). reachedBy (st .count) (q .board)) comes-to
+          ∙ ap (state (end .done) (end .next)) (shows st end keeps-right long-after right) in
+          let gf = ap (λ (q : Stroked). q .effect) comes-to ∙ sym (words-are .0) in
+          let gl = ap (λ (q : Stroked). q .latent) comes-to ∙ sym (words-are .1) in
+          let gn : s .board .at / 12 ≡ length (run st row x .events) = omega (arith, ap (λ (q : Stroked). q .board .at) comes-to) in
+          let gi = ap (λ (q : Stroked). q .board .live) comes-to in
+          let gv = ev ∙ ap (λ (q : Stroked). row .hold * one (q .exercised)) comes-to ∙ sym exercised-is in
+          λ i. record { state = gr i; effect = gf i; latent = gl i; records = gn i; live = gi i; exercised = gv i }

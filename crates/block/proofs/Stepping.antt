@@ -16,6 +16,7 @@ use Rattle.settings.specs.Limits.{mostScans}
 use Rattle.settings.specs.Right.{limitsOf, settingsNumber, wordsNumber}
 use Rattle.settings.specs.Signals.{signals}
 use Rattle.block.specs.declared.State.{State}
+use Rattle.block.specs.declared.Scanned.{Scanned}
 use Rattle.block.specs.State.{stateNumber}
 use Rattle.block.specs.Scan.{inputNumber, once, after, events, scanNumber, grantedScan, refusedScan, scanOf}
 use Rattle.block.specs.Held.{later, Stepped, single, step, stepped}
@@ -100,6 +101,14 @@ module _ (st : Settings) (right : settingsNumber st ≡ 0) where
   stepped-latent zero w r ready = rw (single-accepted w zero (r .state) ready)
   stepped-latent (suc n) w r ready =
       stepped-latent n (later w) (step st w r) (ready-after w (suc n) (r .state) ready) ∙ rw (signals-later st w) (latent-clear (signals st w))
+
+  -- the scans done
+  pub stepped-done : (n : ℕ) (w : Words) (r : Stepped) → Ready w n (r .state) → stepped st w n r .state .done ≡ r .state .done + n
+  unfolding after
+  stepped-done zero w r ready = omega arith
+  stepped-done (suc n) w r ready =
+      let one-more : step st w r .state .done ≡ r .state .done + 1 = ap (λ (a : Scanned). a .state .done) (single-accepted w n (r .state) ready) in
+      omega (arith, stepped-done n (later w) (step st w r) (ready-after w n (r .state) ready), one-more)
 
 -- exercised scans: all of the hold, or none
 pub stepped-exercised : (st : Settings) (n : ℕ) (w : Words) (r : Stepped) → stepped st w n r .exercised ≡ r .exercised + n * one (anyExercised (signals st w))

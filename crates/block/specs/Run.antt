@@ -1,9 +1,48 @@
--- A state as the code of a run carries it. No promise cites this page but those of inner functions.
+-- A state as the code of a run carries it, and what a held run gives as the code returns it. No promise cites this page but
+-- those of inner functions.
+use Prim.Native.Nat.{ℕ}
+use lib.ListN.{length}
 use Rattle.effects.specs.declared.Progress.{Progress}
+use Rattle.planes.specs.declared.Board.{Board}
+use Rattle.planes.specs.Table.{slotsOf}
 use Rattle.block.specs.declared.State.{State}
+use Rattle.block.specs.declared.Scanned.{Scanned}
+use Rattle.block.specs.declared.Held.{Held}
+use Rattle.block.specs.declared.Ran.{Ran}
+use Rattle.block.specs.Held.{Stepped}
 
 abbrev pub startOf : State → Progress
 startOf x = record { done = x .done; next = x .next; slots = x .slots; at = 0; live = 0 }
 
-abbrev pub reachedBy : Progress → State
-reachedBy p = record { done = p .done; next = p .next; slots = p .slots }
+abbrev pub reachedBy : ℕ → Board → State
+reachedBy n b = record { done = b .done; next = b .next; slots = slotsOf n (b .table) }
+
+-- its records are those of its events
+abbrev pub ranOf : Stepped → Ran
+ranOf r =
+    record {
+      state = r .state;
+      effect = r .effect;
+      latent = r .latent;
+      records = length (r .events);
+      live = r .live;
+      exercised = r .exercised;
+    }
+
+-- the answer to a scan that nothing refuses
+abbrev pub scannedBy : Ran → Scanned
+scannedBy r = record { number = 0; place = 0; state = r .state; effect = r .effect; latent = r .latent; records = r .records }
+
+-- the answer to a held run that nothing refuses
+abbrev pub heldBy : Ran → Held
+heldBy r =
+    record {
+      number = 0;
+      place = 0;
+      state = r .state;
+      effect = r .effect;
+      latent = r .latent;
+      records = r .records;
+      live = r .live;
+      exercised = r .exercised;
+    }

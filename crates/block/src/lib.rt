@@ -1,16 +1,19 @@
 // The block: its state, what is right of it, and one scan of it. Document 01, "Settings, row, state", "The rules of one
 // scan" and "Refusal numbers".
 ghost use mathlib.Core.Path.{_≡_};
-ghost use Prim.Native.Nat.{_*_, _<_};
+ghost use Prim.Native.Nat.{_*_, _≤_, _<_};
 ghost use lib.ListN.{length};
+ghost use lib.Seq.{sets};
 ghost use Rattle.bits.specs.Lists.{allFrom};
 ghost use Rattle.bits.specs.Words.{one};
+ghost use Rattle.effects.specs.Records.{bytes};
 ghost use Rattle.settings.specs.Limits.{mostScans};
 ghost use Rattle.block.specs.State.{timerRight, firstRight, slotRight, slotUnused, slotOk, stateNumber, fresh as freshState};
 ghost use Rattle.block.specs.Scan.{scansNumber, inputNumber, refusedScan, scanOf, scanInto};
-ghost use Rattle.block.specs.Held.{refusedHeld, heldOf, heldInto};
-ghost use Rattle.block.specs.Run.{startOf, reachedBy};
-use effects::Progress;
+ghost use Rattle.block.specs.Held.{run, refusedHeld, heldOf, heldInto};
+ghost use Rattle.planes.specs.Board.{boardOf};
+ghost use Rattle.block.specs.Run.{startOf, reachedBy, ranOf, scannedBy, heldBy};
+use planes::Board;
 use rules::EffectState;
 use rules::Slot;
 use settings::Effect;
@@ -40,6 +43,16 @@ pub struct Scanned {
 pub struct Held {
     pub number: u8,
     pub place: usize,
+    pub state: State,
+    pub effect: u16,
+    pub latent: u16,
+    pub records: usize,
+    pub live: u32,
+    pub exercised: u32,
+}
+
+// What a held run gives that nothing refuses: as `Held`, without number and place.
+pub struct Ran {
     pub state: State,
     pub effect: u16,
     pub latent: u16,
@@ -129,7 +142,7 @@ fn state_number(st: Settings, x: State) -> u8
 // ---- what is right of a scan or a held run: 2, 3, 8, 4, 5, 6, 9
 
 // 0 where the scans of a hold end at or before the last that is counted, else 9.
-fn scans_number(done: u32, hold: u32) -> u8
+pub fn scans_number(done: u32, hold: u32) -> u8
     ensures { λ r. ⌜ r ≡ scansNumber done hold ⌝ }
 {
     if (done as u64) + (hold as u64) <= State::MOST_SCANS as u64 {
@@ -173,31 +186,6 @@ fn refused_scan(number: u8, x: State) -> Scanned
     }
 }
 
-// A run that starts at a state, and the state that a run has come to.
-fn start(x: State) -> Progress
-    ensures { λ r. ⌜ r ≡ startOf x ⌝ }
-{
-    let slots = x.slots;
-    Progress {
-        done: x.done,
-        next: x.next,
-        slots: slots,
-        at: 0,
-        live: 0,
-    }
-}
-
-fn reached(p: Progress) -> State
-    ensures { λ r. ⌜ r ≡ reachedBy p ⌝ }
-{
-    let slots = p.slots;
-    State {
-        done: p.done,
-        next: p.next,
-        slots: slots,
-    }
-}
-
 // ---- a held run
 
 fn refused_held(number: u8, given: State) -> Held
@@ -220,6 +208,83 @@ fn exercised_scans(hold: u32, exercised: bool) -> u32
     ensures { λ r. ⌜ r ≡ hold * one exercised ⌝ }
 {
     if exercised { hold } else { 0 }
+}
+
+// The words of effects that a run starts with, at a state; and the state that it has come to.
+fn board_of(count: usize, x: State) -> Board
+    requires { ⌜ count ≤ 16 ⌝ }
+    ensures { λ r. ⌜ r ≡ boardOf count (startOf x) ⌝ }
+{
+    let slots = x.slots;
+    Board {
+        done: x.done,
+        next: x.next,
+        at: 0,
+        live: 0,
+        table: planes::table_of(count, slots),
+    }
+}
+
+fn reached(count: usize, b: Board) -> State
+    requires { ⌜ count ≤ 16 ⌝ }
+    ensures { λ r. ⌜ r ≡ reachedBy count b ⌝ }
+{
+    let table = b.table;
+    State {
+        done: b.done,
+        next: b.next,
+        slots: planes::slots_of(count, table),
+    }
+}
+
+// A held run in one stroke, of input that was found right: the row's words for its hold, the reset word in the first scan
+// only. Its records go to the front of `buf`. A single scan is a run of hold 1.
+pub fn run_right(buf: &mut [u8], st: Settings, row: Row, x: State) -> Ran
+    requires { ⌜ (inputNumber st x row ≡ 0) × (24 * st .count ≤ length (now buf)) ⌝ }
+    ensures { λ r. ⌜ r ≡ ranOf (run st row x) ⌝ }
+    ensures { λ _. ⌜ now (buf .exit) ≡ sets (now (buf .entry)) 0 (bytes (run st row x .events)) ⌝ }
+{
+    let count = st.count as usize;
+    let r = wiring::stroke(buf, st, wiring::wiring_of(st), row, board_of(count, x));
+    let board = r.board;
+    Ran {
+        state: reached(count, board),
+        effect: r.effect,
+        latent: r.latent,
+        records: board.at / 12,
+        live: board.live,
+        exercised: exercised_scans(row.hold, r.exercised),
+    }
+}
+
+fn granted_scan(ran: Ran) -> Scanned
+    ensures { λ r. ⌜ r ≡ scannedBy ran ⌝ }
+{
+    let state = ran.state;
+    Scanned {
+        number: 0,
+        place: 0,
+        state: state,
+        effect: ran.effect,
+        latent: ran.latent,
+        records: ran.records,
+    }
+}
+
+fn granted_held(ran: Ran) -> Held
+    ensures { λ r. ⌜ r ≡ heldBy ran ⌝ }
+{
+    let state = ran.state;
+    Held {
+        number: 0,
+        place: 0,
+        state: state,
+        effect: ran.effect,
+        latent: ran.latent,
+        records: ran.records,
+        live: ran.live,
+        exercised: ran.exercised,
+    }
 }
 
 impl State {
@@ -254,32 +319,22 @@ impl State {
         ensures { λ r. ⌜ r ≡ scanOf st w self (length (now (out .entry))) ⌝ }
         ensures { λ _. ⌜ now (out .exit) ≡ scanInto st w self (now (out .entry)) ⌝ }
     {
-        let number = input_number(st, self, Row { hold: 1, words: w });
+        let once = Row { hold: 1, words: w };
+        let number = input_number(st, self, once);
         if number != 0 {
             return refused_scan(number, self);
         }
-        let count = st.count as usize;
-        let ss = settings::all_signals(st, w);
-        let mut space = [0u8; 192];
-        let p = effects::scan(&mut space, count, ss, start(self));
-        let at = p.at;
+        let mut space = [0u8; 384];
+        let ran = run_right(&mut space, st, once, self);
+        let at = 12 * ran.records;
         if out.len() < at {
             return refused_scan(10, self);
         }
         bits::copy_front(&space, at, out);
-        let after = p.slots;
-        Scanned {
-            number: 0,
-            place: 0,
-            state: reached(p),
-            effect: effects::effect_word(count, after),
-            latent: effects::latent_word(count, ss),
-            records: at / 12,
-        }
+        granted_scan(ran)
     }
 
-    // A held run in one stroke: the row's words for its hold, the reset word in the first scan only. Its records go to the
-    // front of `out`, as those of a scan do.
+    // A held run. Its records go to the front of `out`, as those of a scan do.
     pub fn held(self, st: Settings, row: Row, out: &mut [u8]) -> Held
         ensures { λ r. ⌜ r ≡ heldOf st row self (length (now (out .entry))) ⌝ }
         ensures { λ _. ⌜ now (out .exit) ≡ heldInto st row self (now (out .entry)) ⌝ }
@@ -288,26 +343,13 @@ impl State {
         if number != 0 {
             return refused_held(number, self);
         }
-        let count = st.count as usize;
-        let ss = settings::all_signals(st, row.words);
-        let slots = self.slots;
         let mut space = [0u8; 384];
-        let p = rounds::stroke(&mut space, row.hold, count, ss, self.done, self.next, slots);
-        let at = p.at;
+        let ran = run_right(&mut space, st, row, self);
+        let at = 12 * ran.records;
         if out.len() < at {
             return refused_held(10, self);
         }
         bits::copy_front(&space, at, out);
-        let after = p.slots;
-        Held {
-            number: 0,
-            place: 0,
-            state: reached(p),
-            effect: effects::effect_word(count, after),
-            latent: effects::latent_word(count, ss),
-            records: at / 12,
-            live: p.live,
-            exercised: exercised_scans(row.hold, effects::any_exercised(count, ss)),
-        }
+        granted_held(ran)
     }
 }

@@ -1,14 +1,11 @@
 -- What a case gives: settings, a state and words, at their places in its bytes, and the lent buffer. Numbers are
 -- big-endian; second/README.md lays the streams out.
 use Prim.Native.Nat.{ℕ, _+_, _*_, _%_}
-use mathlib.Core.Bool.{cond}
 use mathlib.Core.List.{List}
-use lib.Dec.{eqb}
 use Rattle.bits.specs.Lists.{tabulate}
 use Rattle.bits.specs.Numbers.{numAt}
-use Rattle.rules.specs.declared.EffectState.{EffectState}
-use Rattle.rules.specs.declared.EffectState.the-variants.{Tripped, WaitReset, Ready, WaitStart, Normal, Delayed}
 use Rattle.rules.specs.declared.Slot.{Slot}
+use Rattle.rules.specs.Rules.{stateOf}
 use Rattle.settings.specs.declared.Effect.{Effect}
 use Rattle.settings.specs.declared.Settings.{Settings}
 use Rattle.settings.specs.declared.Words.{Words}
@@ -45,13 +42,7 @@ wordsAt s at =
       «force_normal» = numAt 2 s (at + 18);
     }
 
--- the state of a code; a code above 5 stands in no stream
-abbrev pub stateOf : ℕ → EffectState
-stateOf k =
-    cond (eqb k 0) Tripped
-    (cond (eqb k 1) WaitReset (cond (eqb k 2) Ready (cond (eqb k 3) WaitStart (cond (eqb k 4) Normal Delayed))))
-
--- slot i of those that stand from `at` on: state code 1, timer 4, first-out 2
+-- slot i of those that stand from `at` on: state code 1, timer 4, first-out 2. No stream has a code above 5
 unfoldable pub slotAt : List ℕ → ℕ → ℕ → Slot
 slotAt s at i = record { state = stateOf (numAt 1 s (at + 7 * i)); timer = numAt 4 s (at + 7 * i + 1); first = numAt 2 s (at + 7 * i + 5) }
 

@@ -8,7 +8,7 @@ ghost use lib.Seq.{sets};
 ghost use Rattle.bits.specs.Layout.{pack};
 ghost use Rattle.bits.specs.Lists.{tabulate};
 ghost use Rattle.bits.specs.Numbers.{numAt};
-ghost use Rattle.cases.specs.Given.{effectAt, settingsAt, wordsAt, stateOf, slotAt, stateAt, fillAt};
+ghost use Rattle.cases.specs.Given.{effectAt, settingsAt, wordsAt, slotAt, stateAt, fillAt};
 ghost use Rattle.cases.specs.Answers.{joined, slotBytes, stateBytes, answerBytes, hexDigit, hexByte, pairBytes};
 use block::Scanned;
 use block::State;
@@ -86,32 +86,13 @@ pub fn words_at(s: &[u8], at: usize) -> Words
 
 // ---- state: 118 bytes
 
-// The state of a code. No stream has a code above 5, and one would be taken as Delayed.
-fn state_of(code: u8) -> EffectState
-    ensures { λ r. ⌜ r ≡ stateOf code ⌝ }
-{
-    if code == 0 {
-        EffectState::Tripped
-    } else if code == 1 {
-        EffectState::WaitReset
-    } else if code == 2 {
-        EffectState::Ready
-    } else if code == 3 {
-        EffectState::WaitStart
-    } else if code == 4 {
-        EffectState::Normal
-    } else {
-        EffectState::Delayed
-    }
-}
-
 // Slot i of those that stand from `at` on.
 fn slot_at(s: &[u8], at: usize, i: usize) -> Slot
     requires { ⌜ (i < 16) × (at + 112 ≤ length (now s)) ⌝ }
     ensures { λ r. ⌜ r ≡ slotAt (now (s .entry)) at i ⌝ }
 {
     Slot {
-        state: state_of(bits::get8(s, at + 7 * i)),
+        state: rules::state_of(bits::get8(s, at + 7 * i)),
         timer: bits::get32(s, at + 7 * i + 1),
         first: bits::get16(s, at + 7 * i + 5),
     }

@@ -1,3 +1,2 @@
 pub mod Records
-pub mod Loops
 pub mod Laws

@@ -1,16 +1,19 @@
--- Records laid one after the other.
-use mathlib.Core.Path.{_≡_, refl, ap, sym, _∙_}
+-- Records laid one after the other, and read back.
+use mathlib.Core.Path.{_≡_, refl, ap, ap₂, sym, _∙_}
 use mathlib.Core.Bool.{Bool, true, false}
 use mathlib.Core.List.{List, [], _∷_, _++_, append-assoc}
 use Prim.Native.Nat.{ℕ, _+_, _*_, _≤_}
 use native.Mathlib.Nat.{add-zero}
 use native.Mathlib.Omega.{arith}
-use lib.ListN.{length, take, drop, length-append}
+use lib.ListN.{length, take, drop, getD, length-append}
 use lib.Seq.{sets, sets-eq, take-at}
 use Rattle.bits.specs.Words.{one}
-use Rattle.bits.proofs.Numbers.{sets-append}
+use Rattle.bits.specs.Numbers.{numAt}
+use Rattle.bits.proofs.Numbers.{fields-spelled}
+use Rattle.rules.specs.Rules.{code, stateOf}
+use Rattle.rules.proofs.States.{state-of-code}
 use Rattle.effects.specs.declared.Event.{Event}
-use Rattle.effects.specs.Records.{encode, bytes}
+use Rattle.effects.specs.Records.{encode, bytes, eventAt, eventsAt}
 use Rattle.effects.specs.Scan.{only}
 
 pub length-encode : (e : Event) → length (encode e) ≡ 12
@@ -29,14 +32,37 @@ pub length-only : (m : Bool) (e : Event) (rest : List Event) → length (only m 
 length-only true e rest = omega arith
 length-only false e rest = omega arith
 
--- the record of one effect, where there is one, and those of the rest behind it
-pub put-turn : (l : List ℕ) (at : ℕ) (m : Bool) (e : Event) (rest : List Event)
-    → sets l at (bytes (only m e ++ rest)) ≡ sets (sets l at (bytes (only m e))) (at + 12 * one m) (bytes rest)
-unfolding encode
-put-turn l at true e rest = sets-append l at (encode e) (bytes rest)
-put-turn l at false e rest = rw add-zero
-
 -- the front of a buffer to which records were written is those records
 pub front-bytes : (es : List Event) (l : List ℕ) → 12 * length es ≤ length l → take (12 * length es) (sets l 0 (bytes es)) ≡ bytes es
 front-bytes es l h =
     rw (sets-eq (bytes es) l 0 (omega (arith, length-bytes es))) (take-at (bytes es) (drop (0 + length (bytes es)) l) (12 * length es) (length-bytes es))
+
+-- ## Records that are read back
+
+-- a record is read as the event that it is of
+pub event-encoded : (e : Event) (p q : List ℕ) (at : ℕ) → at ≡ length p → eventAt (p ++ (encode e ++ q)) at ≡ e
+unfolding encode eventAt
+event-encoded e p q at h =
+    let s = p ++ (encode e ++ q) in
+    let vs = e .seq ∷ e .scan ∷ e .effect ∷ code (e .from) ∷ code (e .to) ∷ 0 ∷ e .first ∷ [] in
+    let f =
+    fields-spelled (2 ∷ 4 ∷ 1 ∷ 1 ∷ 1 ∷ 1 ∷ 2 ∷ []) vs p q at 0 (omega arith)
+    ((λ z. omega arith), ((λ z. omega arith), ((λ z. omega arith), ((λ z. omega arith), ((λ z. omega arith), ((λ z. refl), ((λ z. omega arith), tt)))))))
+    in
+    let seq : numAt 2 s at ≡ e .seq = rw add-zero at (ap (λ (l : List ℕ). getD l 0 0) f) in
+    let scan : numAt 4 s (at + 2) ≡ e .scan = ap (λ (l : List ℕ). getD l 1 0) f in
+    let effect : numAt 1 s (at + 6) ≡ e .effect = ap (λ (l : List ℕ). getD l 2 0) f in
+    let from : stateOf (numAt 1 s (at + 7)) ≡ e .from = ap (λ (l : List ℕ). stateOf (getD l 3 0)) f ∙ state-of-code (e .from) in
+    let to : stateOf (numAt 1 s (at + 8)) ≡ e .to = ap (λ (l : List ℕ). stateOf (getD l 4 0)) f ∙ state-of-code (e .to) in
+    let first : numAt 2 s (at + 10) ≡ e .first = ap (λ (l : List ℕ). getD l 6 0) f in
+    rw (seq, scan, effect, from, to, first)
+
+pub events-of-bytes : (es : List Event) (p q : List ℕ) (at : ℕ) → at ≡ length p → eventsAt (p ++ (bytes es ++ q)) (length es) at ≡ es
+events-of-bytes [] p q at h = refl
+events-of-bytes (e ∷ es) p q at h =
+    let again : p ++ ((encode e ++ bytes es) ++ q) ≡ (p ++ encode e) ++ (bytes es ++ q) = simp append-assoc in
+    let here : eventAt (p ++ ((encode e ++ bytes es) ++ q)) at ≡ e = rw (append-assoc (encode e) (bytes es) q) (event-encoded e p (bytes es ++ q) at h) in
+    let there : eventsAt (p ++ ((encode e ++ bytes es) ++ q)) (length es) (at + 12) ≡ es =
+    rw again (events-of-bytes es (p ++ encode e) q (at + 12) (omega (arith, length-append p (encode e), length-encode e)))
+    in
+    ap₂ {B = List Event} (λ (x : Event) (y : List Event). x ∷ y) here there

@@ -1,8 +1,9 @@
--- The bytes of an event record, and of records. Document 01, "The rules of one scan".
-use Prim.Native.Nat.{ℕ}
+-- The bytes of an event record, and of records; and the events that they are of. Document 01, "The rules of one scan".
+use Prim.Native.Nat.{ℕ, zero, suc, _+_}
 use mathlib.Core.List.{List, [], _∷_, _++_}
 use Rattle.bits.specs.Layout.{pack}
-use Rattle.rules.specs.Rules.{code}
+use Rattle.bits.specs.Numbers.{numAt}
+use Rattle.rules.specs.Rules.{code, stateOf}
 use Rattle.effects.specs.declared.Event.{Event}
 
 -- 12 bytes, big-endian: sequence (2), scan number (4), effect (1), state before (1), state after (1), zero (1), first-out after (2)
@@ -14,3 +15,20 @@ encode e =
 abbrev pub bytes : List Event → List ℕ
 bytes [] = []
 bytes (e ∷ es) = encode e ++ bytes es
+
+-- the event of the record at a place
+unfoldable pub eventAt : List ℕ → ℕ → Event
+eventAt s at =
+    record {
+      seq = numAt 2 s at;
+      scan = numAt 4 s (at + 2);
+      effect = numAt 1 s (at + 6);
+      from = stateOf (numAt 1 s (at + 7));
+      to = stateOf (numAt 1 s (at + 8));
+      first = numAt 2 s (at + 10);
+    }
+
+-- the events of n records, from a place on
+abbrev pub eventsAt : List ℕ → (n at : ℕ) → List Event
+eventsAt s zero at = []
+eventsAt s (suc n) at = eventAt s at ∷ eventsAt s n (at + 12)

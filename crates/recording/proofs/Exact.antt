@@ -169,7 +169,7 @@ join s e r end h₁ h₂ =
 abbrev pub rowsAt : List ℕ → ℕ → List Row
 rowsAt s r = listOf (rowAt s) 24 (numAt 2 s r) (r + 2)
 
-module _ (s : List ℕ) (bytes : Bytes s) (e r end : ℕ) (t : ToEnd s e r end) where
+module _ (s : List ℕ) (e r end : ℕ) (t : ToEnd s e r end) where
   abbrev st : Settings
   st = settingsAt s e
 
@@ -225,24 +225,25 @@ module _ (s : List ℕ) (bytes : Bytes s) (e r end : ℕ) (t : ToEnd s e r end) 
         each-row = all-list 24 rowAt putRow (rowNumber (limitsOf st)) rows-codec s (numAt 2 s r) (r + 2) (rows-whole .passed .right);
       }
 
-  block-bytes : blockBytes st ≡ take (e - 0) (drop 0 s)
-  block-bytes =
-      let one : numAt 2 s 0 ≡ 1 = omega (arith, block-whole .least, block-whole .most) in
-      ap (λ (k : ℕ). counted putBlock (listOf (blockAt s) 4 k 2)) (sym one) ∙ section-bytes 4 blockAt putBlock blockCheck block-codec s 1 1 0 e bytes block-whole
-
-  effect-bytes : effectBytes st ≡ take (r - e) (drop e s)
-  effect-bytes =
-      ap (counted putEffect) listed ∙ section-bytes 6 effectAt putEffect (effectNumber (st .causes)) effects-codec s 1 16 e r bytes effects-whole
-
-  row-bytes : counted putRow (rowsAt s r) ≡ take (end - r) (drop r s)
-  row-bytes = section-bytes 24 rowAt putRow (rowNumber (limitsOf st)) rows-codec s 1 2048 r end bytes rows-whole
-
-  -- and their encoding is the bytes through the rows' end
-  pub encoded-at : encode st (rowsAt s r) ≡ take end s
-  unfolding encode
-  encoded-at =
-      ap₂ (λ (x y : List ℕ). x ++ y) block-bytes (ap₂ (λ (x y : List ℕ). x ++ y) effect-bytes row-bytes)
-      ∙ join s e r end (omega (arith, effects-whole .passed .next)) (omega (arith, rows-whole .passed .next))
-
   pub within : end ≤ length s
   within = rows-whole .passed .inside
+
+  module _ (bytes : Bytes s) where
+    block-bytes : blockBytes st ≡ take (e - 0) (drop 0 s)
+    block-bytes =
+        let one : numAt 2 s 0 ≡ 1 = omega (arith, block-whole .least, block-whole .most) in
+        ap (λ (k : ℕ). counted putBlock (listOf (blockAt s) 4 k 2)) (sym one) ∙ section-bytes 4 blockAt putBlock blockCheck block-codec s 1 1 0 e bytes block-whole
+
+    effect-bytes : effectBytes st ≡ take (r - e) (drop e s)
+    effect-bytes =
+        ap (counted putEffect) listed ∙ section-bytes 6 effectAt putEffect (effectNumber (st .causes)) effects-codec s 1 16 e r bytes effects-whole
+
+    row-bytes : counted putRow (rowsAt s r) ≡ take (end - r) (drop r s)
+    row-bytes = section-bytes 24 rowAt putRow (rowNumber (limitsOf st)) rows-codec s 1 2048 r end bytes rows-whole
+
+    -- and their encoding is the bytes through the rows' end
+    pub encoded-at : encode st (rowsAt s r) ≡ take end s
+    unfolding encode
+    encoded-at =
+        ap₂ (λ (x y : List ℕ). x ++ y) block-bytes (ap₂ (λ (x y : List ℕ). x ++ y) effect-bytes row-bytes)
+        ∙ join s e r end (omega (arith, effects-whole .passed .next)) (omega (arith, rows-whole .passed .next))

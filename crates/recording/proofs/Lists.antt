@@ -1,11 +1,11 @@
 -- Laws of entries one after the other, and of an array that is filled from its start.
 use mathlib.Core.Path.{_≡_, refl, sym, ap, _∙_}
-use mathlib.Core.List.{List, [], _∷_, _++_, map, append-assoc, append-nil}
+use mathlib.Core.List.{List, [], _∷_, _++_, append-assoc, append-nil}
 use Prim.Native.Nat.{ℕ, zero, suc, _+_, _-_, _*_, _<_}
 use native.Mathlib.Nat.{add-zero, mul-suc, mul-zero}
 use native.Mathlib.Numerals.{add-one}
 use native.Mathlib.Omega.{arith}
-use lib.ListN.{length, set, take, getD, replicate, length-append, length-map}
+use lib.ListN.{length, set, take, getD, replicate, length-append}
 use lib.Seq.{set-at, sets, take-suc, length-take-le}
 use Rattle.bits.proofs.Numbers.{sets-then}
 use Rattle.recording.specs.Entries.{listOf, putAll}
@@ -59,7 +59,3 @@ module _ {A : Type 0} where
       let len : length (putAll put (take i xs)) ≡ w * i = length-putAll put w f (take i xs) ∙ ap (λ (n : ℕ). w * n) (length-take-le i xs (omega arith)) in
       rw (add-one i, take-suc xs i d h, putAll-snoc put (take i xs) (getD xs i d))
       (sets-then s s′ s″ at (w * i) (putAll put (take i xs)) (put (getD xs i d)) p q len)
-
--- an array as the machine holds it has as many elements
-pub length-mapped : (X Y : Type 0) (f : X → Y) (l : List X) (n : ℕ) → length (map f l) ≡ n → length l ≡ n
-length-mapped X Y f l n e = sym (length-map l f) ∙ e

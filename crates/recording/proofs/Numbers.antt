@@ -60,7 +60,7 @@ module _ (s : List ℕ) where
       (λ e r k p t g h. let l = limitsOf (settingsAt s e) in not-seven k p (section-gives Rows l s r k p (refuses-stops Rows l s r k p g)) h)
       (λ e r end t d h.
       let i = rows-whole s (limitsOf (settingsAt s e)) r end (t .rows) .passed .inside in
-      let bs : encode (settingsAt s e) (rowsAt s r) ≡ take end s = encoded-at s bytes e r end t in
-      let c = complete (settingsAt s e) (rowsAt s r) (right-at s bytes e r end t) in
+      let bs : encode (settingsAt s e) (rowsAt s r) ≡ take end s = encoded-at s e r end t bytes in
+      let c = complete (settingsAt s e) (rowsAt s r) (right-at s e r end t) in
       (omega (arith, i, d), ap (λ (l : List ℕ). number (reading l .answer)) (sym bs) ∙ ap (λ (x : Reading). number (x .answer)) c))
       (λ e r t h. absurd (omega (arith, h)))

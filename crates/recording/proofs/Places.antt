@@ -1,8 +1,8 @@
 -- The rows of an accepted file stand at its row places, and nowhere else: the file is its first row's place and whole rows.
-use mathlib.Core.Path.{_≡_, refl}
+use mathlib.Core.Path.{_≡_, refl, sym}
 use mathlib.Core.Bool.{Bool, true, false, _&&_}
 use mathlib.Core.List.{List}
-use Prim.Native.Nat.{ℕ, suc, _+_, _-_, _*_, _/_, _%_, _<_}
+use Prim.Native.Nat.{ℕ, suc, _+_, _-_, _*_, _/_, _%_, _≤_, _<_}
 use native.Mathlib.Omega.{arith}
 use borrow.Author.Tests.{le-leb, lt-ltb, eq-eqb, leb-true, ltb-true, eqb-true}
 use lib.Dec.{leb, ltb, eqb}
@@ -79,6 +79,20 @@ module _ (s : List ℕ) where
       let at = r + 2 + 24 * i in
       let next : at + 24 ≡ r + 2 + 24 * suc i = omega arith in
       rw (le-leb (at + 24) (length s) (omega (arith, rows-end e r t, l)), getD-listOf (rowAt s) 24 (numAt 2 s r) (r + 2) i d l, next))
+
+  -- and the row's bytes are there to be read, without a look at the width
+  abbrev Within : Row → Reading → Type 0
+  Within d x = (i : ℕ) → i < rowCount (x .answer)
+      → (place x i + 24 ≤ length s) × (rowAt s (place x i) ≡ getD (rowsIn (x .answer) s) i d) × (rowWidth (x .answer) ≡ 24)
+
+  pub row-within : (d : Row) → Within d (reading s)
+  row-within d =
+      reading-cases s (Within d)
+      (λ k p b i l. absurd (omega (arith, l)))
+      (λ e k p b f i l. absurd (omega (arith, l)))
+      (λ e r k p t g i l. absurd (omega (arith, l)))
+      (λ e r end t f i l. absurd (omega (arith, l)))
+      (λ e r t i l. (omega (arith, rows-end e r t, l), sym (getD-listOf (rowAt s) 24 (numAt 2 s r) (r + 2) i d l), refl))
 
   -- elsewhere it has ended
   abbrev Elsewhere : ℕ → Reading → Type 0

@@ -17,7 +17,7 @@ use Rattle.settings.specs.Refusals.{unless, orElse}
 use Rattle.recording.specs.declared.Answer.the-variants as A
 use Rattle.recording.specs.declared.Reading.{Reading}
 use Rattle.recording.specs.declared.Kind.{Kind}
-use Rattle.recording.specs.Entries.{putRow, putAll}
+use Rattle.recording.specs.Entries.{rowAt, putRow, putAll}
 use Rattle.recording.specs.Reader.{refusal, reading}
 use Rattle.recording.specs.Answers.{number, place, rowCount, firstRow, rowWidth, sectionNumber, sectionPlace, ended, noRow, stepRow, nextPlace, writtenNumber, writtenLength}
 use Rattle.recording.specs.Steps.{rowIn, stepAt, rowsOf}
@@ -27,12 +27,12 @@ use Rattle.recording.specs.Sections.{sectionOf}
 use Rattle.recording.specs.Refused.{Stops, Refused}
 use Rattle.recording.proofs.Right.{in-parts}
 use Rattle.recording.proofs.Pieces.{number-of, stands, untouched}
-use Rattle.recording.proofs.Places.{same-at-place, row-at-place, ended-elsewhere as nothing-elsewhere}
+use Rattle.recording.proofs.Places.{same-at-place, row-at-place, row-within, ended-elsewhere as nothing-elsewhere}
 use Rattle.recording.proofs.Refusals.{refused-as-said as said, said-is-refused as answered, section-said, stops-refuses}
 use Rattle.recording.proofs.Numbers.{not-accepted-refused, reading-numbers, before-spare}
 use Rattle.recording.proofs.Front.{reading-of-front}
 use Rattle.recording.proofs.Exact.{complete, rows-are-back, spare, length-encode}
-use Rattle.recording.proofs.Trips.{accepted-encodes, accepted-case as case-of, length-rowsOf, in-pieces, right-passes, passes-right}
+use Rattle.recording.proofs.Trips.{accepted-encodes, accepted-right, first-row-place, accepted-case as case-of, length-rowsOf, in-pieces, right-passes, passes-right}
 
 -- the reader accepts
 abbrev pub Accepted : List ℕ → Type 0
@@ -53,6 +53,10 @@ Answers s st rows =
 -- what the reader accepts is the encoding of the settings and rows that are read, and these are right
 pub accepted-is-encoding : (s : List ℕ) → Bytes s → Accepted s → Right (reading s .settings) (rowsOf s) × (encode (reading s .settings) (rowsOf s) ≡ s)
 accepted-is-encoding s bytes h = accepted-encodes s bytes h
+
+-- that these are right holds of any list of numbers that is accepted
+pub accepted-is-right : (s : List ℕ) → Accepted s → Right (reading s .settings) (rowsOf s)
+accepted-is-right = accepted-right
 
 -- and the encoding of right settings and 1 to 2,048 right rows is accepted, and answered by them
 pub encoding-is-accepted : (st : Settings) (rows : List Row) → Right st rows → Answers (encode st rows) st rows
@@ -88,6 +92,16 @@ pub row-at-its-place : (s : List ℕ) (i : ℕ) → i < rowCount (reading s .ans
     (ended step ≡ false) × (stepRow step ≡ getD (rowsOf s) i noRow) × (nextPlace step ≡ first + width * suc i)
 unfolding stepAt
 row-at-its-place s i l = rw (sym (same-at-place s i l) ∙ row-at-place s noRow i l) (refl, refl, refl)
+
+-- the first row stands after the opening
+pub first-row-after-the-opening : (s : List ℕ) → Accepted s → firstRow (reading s .answer) ≡ 10 + 6 * reading s .settings .count
+first-row-after-the-opening = first-row-place
+
+-- a row's bytes are there to be read
+pub row-in-the-file : (s : List ℕ) (i : ℕ) → i < rowCount (reading s .answer)
+    → let at = firstRow (reading s .answer) + rowWidth (reading s .answer) * i in
+    (at + 24 ≤ length s) × (rowAt s at ≡ getD (rowsOf s) i noRow) × (rowWidth (reading s .answer) ≡ 24)
+row-in-the-file s = row-within s noRow
 
 -- at any other place of any bytes the step has ended
 pub ended-elsewhere : (s : List ℕ) (at : ℕ)

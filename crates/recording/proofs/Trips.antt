@@ -3,7 +3,7 @@
 use mathlib.Core.Path.{_≡_, refl, _∙_}
 use mathlib.Core.List.{List, [], _∷_, _++_, append-assoc}
 use mathlib.Core.Logic.{inl, inr}
-use Prim.Native.Nat.{ℕ, _+_}
+use Prim.Native.Nat.{ℕ, _+_, _*_}
 use native.Mathlib.Omega.{arith}
 use borrow.Author.Tests.{leb-true, le-leb}
 use lib.Dec.{leb}
@@ -25,10 +25,12 @@ use Rattle.recording.specs.Answers.{number, rowCount, firstRow, rowWidth
 use Rattle.recording.specs.Steps.{rowsIn, rowsOf}
 use Rattle.recording.specs.Encode.{encode, opening, All, Right}
 use Rattle.recording.specs.Writer.{openingNumber, rowPieceNumber}
+use Rattle.recording.specs.Refused.{ToEnd}
 use Rattle.recording.proofs.Lists.{length-listOf}
 use Rattle.bits.proofs.Lists.{and-left, and-right}
 use Rattle.recording.proofs.Refusals.{Given, section-gives, refuses-stops}
-use Rattle.recording.proofs.Cases.{reading-cases}
+use Rattle.recording.proofs.Between.{block-room, effects-whole}
+use Rattle.recording.proofs.Cases.{acceptance, reading-cases}
 use Rattle.recording.proofs.Exact.{right-at, encoded-at}
 
 -- ## Accepted files
@@ -38,32 +40,37 @@ not-zero : {X : Type 0} (s : List ℕ) (n p : ℕ) → Given s n p → n ≡ 0 �
 not-zero s n p (inl h) e = absurd (omega (arith, h .0, e))
 not-zero s n p (inr h) e = absurd (omega (arith, h .0, e))
 
--- an accepted file is the encoding of the settings and rows that are read, and these are right
-module _ (s : List ℕ) (bytes : Bytes s) where
-  abbrev IsEncoding : Reading → Type 0
-  IsEncoding x = number (x .answer) ≡ 0 → Right (x .settings) (rowsIn (x .answer) s) × (encode (x .settings) (rowsIn (x .answer) s) ≡ s)
-
-  pub accepted-encodes : IsEncoding (reading s)
-  accepted-encodes =
-      reading-cases s IsEncoding
-      (λ k p b h. not-zero s k p (section-gives Block noLimits s 0 k p (refuses-stops Block noLimits s 0 k p b)) h)
-      (λ e k p b f h. not-zero s k p (section-gives Effects (blockLimits s) s e k p (refuses-stops Effects (blockLimits s) s e k p f)) h)
-      (λ e r k p t g h.
-      let l = limitsOf (settingsAt s e) in
-      not-zero s k p (section-gives Rows l s r k p (refuses-stops Rows l s r k p g)) h)
-      (λ e r end t d h. absurd (omega (arith, h)))
-      (λ e r t h. (right-at s bytes e r (length s) t, encoded-at s bytes e r (length s) t ∙ take-length s))
-
--- what is numbered 0 is an acceptance
-pub accepted-case : (s : List ℕ) → number (reading s .answer) ≡ 0
-    → reading s .answer ≡ A.Accepted (rowCount (reading s .answer)) (firstRow (reading s .answer)) (rowWidth (reading s .answer))
-accepted-case s =
-    reading-cases s (λ x. number (x .answer) ≡ 0 → x .answer ≡ A.Accepted (rowCount (x .answer)) (firstRow (x .answer)) (rowWidth (x .answer)))
+-- so what holds of an acceptance holds of the reading of an accepted file
+when-accepted : (s : List ℕ) (P : Reading → Type 0) → ((e r : ℕ) → ToEnd s e r (length s) → P (acceptance s e r)) → number (reading s .answer) ≡ 0 → P (reading s)
+when-accepted s P accepts =
+    reading-cases s (λ x. number (x .answer) ≡ 0 → P x)
     (λ k p b h. not-zero s k p (section-gives Block noLimits s 0 k p (refuses-stops Block noLimits s 0 k p b)) h)
     (λ e k p b f h. not-zero s k p (section-gives Effects (blockLimits s) s e k p (refuses-stops Effects (blockLimits s) s e k p f)) h)
     (λ e r k p t g h. let l = limitsOf (settingsAt s e) in not-zero s k p (section-gives Rows l s r k p (refuses-stops Rows l s r k p g)) h)
     (λ e r end t d h. absurd (omega (arith, h)))
-    (λ e r t h. refl)
+    (λ e r t h. accepts e r t)
+
+-- the settings and rows that are read are right
+pub accepted-right : (s : List ℕ) → number (reading s .answer) ≡ 0 → Right (reading s .settings) (rowsOf s)
+accepted-right s = when-accepted s (λ x. Right (x .settings) (rowsIn (x .answer) s)) (λ e r t. right-at s e r (length s) t)
+
+-- and the file is their encoding
+pub accepted-encodes : (s : List ℕ) → Bytes s → number (reading s .answer) ≡ 0 → Right (reading s .settings) (rowsOf s) × (encode (reading s .settings) (rowsOf s) ≡ s)
+accepted-encodes s bytes h = (
+  accepted-right s h,
+  when-accepted s (λ x. encode (x .settings) (rowsIn (x .answer) s) ≡ s) (λ e r t. encoded-at s e r (length s) t bytes ∙ take-length s) h,
+)
+
+-- what is numbered 0 is an acceptance
+pub accepted-case : (s : List ℕ) → number (reading s .answer) ≡ 0
+    → reading s .answer ≡ A.Accepted (rowCount (reading s .answer)) (firstRow (reading s .answer)) (rowWidth (reading s .answer))
+accepted-case s = when-accepted s (λ x. x .answer ≡ A.Accepted (rowCount (x .answer)) (firstRow (x .answer)) (rowWidth (x .answer))) (λ e r t. refl)
+
+-- the first row stands after the opening
+pub first-row-place : (s : List ℕ) → number (reading s .answer) ≡ 0 → firstRow (reading s .answer) ≡ 10 + 6 * reading s .settings .count
+first-row-place s =
+    when-accepted s (λ x. firstRow (x .answer) ≡ 10 + 6 * x .settings .count)
+    (λ e r t. omega (arith, block-room s e (t .before .block) .0, effects-whole s (blockLimits s) e r (t .before .effects) .passed .next))
 
 -- the count that is answered is the number of the rows
 pub length-rowsOf : (s : List ℕ) → length (rowsOf s) ≡ rowCount (reading s .answer)

@@ -94,7 +94,8 @@ fn words_at(s: &[u8], at: usize) -> Words
     }
 }
 
-fn row_at(s: &[u8], at: usize) -> Row
+// The row at a place that is known to be a row's, as the callers that have read the file know it.
+pub fn row_at(s: &[u8], at: usize) -> Row
     requires { ⌜ at + 24 ≤ length (now s) ⌝ }
     ensures { λ r. ⌜ r ≡ rowAt (now (s .entry)) at ⌝ }
 {

@@ -27,7 +27,7 @@ both-at f e true = and-left (f true) (f false) e
 both-at f e false = and-right (f true) (f false) e
 
 -- a test that holds of all states holds of any
-states-at : (f : EffectState → Bool) → allStates f ≡ true → (p : EffectState) → f p ≡ true
+pub states-at : (f : EffectState → Bool) → allStates f ≡ true → (p : EffectState) → f p ≡ true
 unfolding allStates
 states-at f e Tripped = and-left (f Tripped) _ e
 states-at f e WaitReset = and-left (f WaitReset) _ (and-right (f Tripped) _ e)

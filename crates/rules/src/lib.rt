@@ -1,7 +1,7 @@
 // One effect in one scan: its state, what it sees, and the nine rules. Document 01, "The rules of one scan".
 ghost use mathlib.Core.Path.{_≡_};
 ghost use Prim.Native.Nat.{_-_};
-ghost use Rattle.rules.specs.Rules.{code as codeOf, same as sameAs, rule4, rule5, rule6, rule7, rule8, rule9, byState, rule as ruleOf, asks, after as afterOf, timerAt, firstOutWord, firstAt, enter as enterOf, next as nextOf, moved as movedOf, isOn, isLatent, isExercised};
+ghost use Rattle.rules.specs.Rules.{code as codeOf, stateOf, same as sameAs, rule4, rule5, rule6, rule7, rule8, rule9, byState, rule as ruleOf, asks, after as afterOf, timerAt, firstOutWord, firstAt, enter as enterOf, next as nextOf, moved as movedOf, isOn, isLatent, isExercised};
 
 // The state of one effect.
 pub enum EffectState {
@@ -59,6 +59,25 @@ pub fn code(p: EffectState) -> u8
         EffectState::WaitStart => 3,
         EffectState::Normal => 4,
         EffectState::Delayed => 5,
+    }
+}
+
+// The state of a code. Above 5 there is none, and Delayed stands in.
+pub fn state_of(code: u8) -> EffectState
+    ensures { λ r. ⌜ r ≡ stateOf code ⌝ }
+{
+    if code == 0 {
+        EffectState::Tripped
+    } else if code == 1 {
+        EffectState::WaitReset
+    } else if code == 2 {
+        EffectState::Ready
+    } else if code == 3 {
+        EffectState::WaitStart
+    } else if code == 4 {
+        EffectState::Normal
+    } else {
+        EffectState::Delayed
     }
 }
 

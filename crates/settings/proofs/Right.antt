@@ -12,7 +12,11 @@ use Rattle.bits.specs.Lists.{allFrom}
 use Rattle.bits.proofs.Lists.{and-left, and-right, all-at}
 use Rattle.settings.specs.declared.Effect.{Effect}
 use Rattle.settings.specs.declared.Settings.{Settings}
-use Rattle.settings.specs.Right.{blockOk, blockNumber, countOk, effectOk, effectsNumber, limitsOf, settingsNumber, slotOk}
+use Rattle.settings.specs.declared.Limits.{Limits}
+use Rattle.settings.specs.declared.Row.{Row}
+use Rattle.settings.specs.declared.Words.{Words}
+use Rattle.settings.specs.Limits.{mostHold}
+use Rattle.settings.specs.Right.{blockOk, wordsOk, fieldsNumber, wordsNumber, holdNumber, rowNumber, blockNumber, countOk, effectOk, effectsNumber, limitsOf, settingsNumber, slotOk}
 use Rattle.settings.specs.Signals.{noEffect}
 use Rattle.settings.proofs.Refusals.{or-else-none, unless-none}
 
@@ -60,3 +64,71 @@ module _ (st : Settings) (right : settingsNumber st ≡ 0) where
             in
             omega (arith, lt, pow-mono causes-few)
         go false k = rw (List·getD-eq-default (st .effects) noEffect {n = i} (ltb-false i (length (st .effects)) k)) (omega arith)
+
+-- the words of a right row have only bits of existing effects
+pub record Inside (n : ℕ) (w : Words) : Type 0 where
+  pub require : w .«require_reset» < 2 ^ n
+  pub permit : w .«reset_permit» < 2 ^ n
+  pub start : w .«start_permit» < 2 ^ n
+  pub reset : w .reset < 2 ^ n
+  pub trip : w .«force_trip» < 2 ^ n
+  pub normal : w .«force_normal» < 2 ^ n
+
+-- of ten tests that all hold, those of the effects' words
+of-ten : (a b c d e f g h i j : Bool) → (a && b && c && d && e && f && g && h && i && j) ≡ true
+    → (d ≡ true) × (e ≡ true) × (f ≡ true) × (g ≡ true) × (i ≡ true) × (j ≡ true)
+of-ten a b c d e f g h i j p =
+    let p₉ = and-left (a && b && c && d && e && f && g && h && i) j p in
+    let p₇ = and-left (a && b && c && d && e && f && g) h (and-left (a && b && c && d && e && f && g && h) i p₉) in
+    let p₆ = and-left (a && b && c && d && e && f) g p₇ in
+    let p₅ = and-left (a && b && c && d && e) f p₆ in
+    let p₄ = and-left (a && b && c && d) e p₅ in (
+      and-right (a && b && c) d p₄,
+      and-right (a && b && c && d) e p₅,
+      and-right (a && b && c && d && e) f p₆,
+      and-right (a && b && c && d && e && f) g p₇,
+      and-right (a && b && c && d && e && f && g && h) i p₉,
+      and-right (a && b && c && d && e && f && g && h && i) j p,
+    )
+
+pub inside : (k : Limits) (w : Words) → wordsNumber k w ≡ 0 → Inside (k .count) w
+unfolding wordsNumber
+inside k w e =
+    let h =
+    of-ten
+    (ltb (w .values) (2 ^ k .causes))
+    (ltb (w .bad) (2 ^ k .causes))
+    (ltb (w .mask) (2 ^ k .causes))
+    (ltb (w .«require_reset») (2 ^ k .count))
+    (ltb (w .«reset_permit») (2 ^ k .count))
+    (ltb (w .«start_permit») (2 ^ k .count))
+    (ltb (w .reset) (2 ^ k .count))
+    (leb (w .«force_permit») 1)
+    (ltb (w .«force_trip») (2 ^ k .count))
+    (ltb (w .«force_normal») (2 ^ k .count))
+    (unless-none (wordsOk k w) 3 (or-else-none (fieldsNumber k w) _ e .0))
+    in
+    record {
+      require = ltb-true _ _ (h .0);
+      permit = ltb-true _ _ (h .1);
+      start = ltb-true _ _ (h .2);
+      reset = ltb-true _ _ (h .3);
+      trip = ltb-true _ _ (h .4);
+      normal = ltb-true _ _ (h .5);
+    }
+
+-- what a right row tells
+module _ (k : Limits) (row : Row) (right : rowNumber k row ≡ 0) where
+  pub row-words : wordsNumber k (row .words) ≡ 0
+  unfolding rowNumber
+  row-words = or-else-none (holdNumber (row .hold)) _ right .1
+
+  hold-right : (leb 1 (row .hold) && leb (row .hold) mostHold) ≡ true
+  unfolding rowNumber
+  hold-right = unless-none _ 3 (or-else-none (holdNumber (row .hold)) _ right .0)
+
+  pub hold-some : 1 ≤ row .hold
+  hold-some = leb-true 1 (row .hold) (and-left _ _ hold-right)
+
+  pub hold-most : row .hold ≤ mostHold
+  hold-most = leb-true (row .hold) mostHold (and-right (leb 1 (row .hold)) _ hold-right)

@@ -2,18 +2,14 @@
 // Document 01, "Settings, row, state", "Refusal numbers" and "The rules of one scan".
 ghost use mathlib.Core.Path.{_≡_};
 ghost use mathlib.Core.Bool.{_&&_, _||_, not};
-ghost use mathlib.Core.List.{_++_};
 ghost use Prim.Native.Nat.{_+_, _<_, _≤_};
 ghost use lib.Bits.{bitAnd};
 ghost use lib.Count.{ones};
 ghost use lib.Dec.{eqb, leb, ltb};
-ghost use lib.ListN.{drop, replicate};
 ghost use Rattle.bits.specs.Lists.{allFrom};
-ghost use Rattle.rules.specs.Rules.{noSignals};
 ghost use Rattle.settings.specs.Limits.{mostDelay, mostHold};
 ghost use Rattle.settings.specs.Right.{limitsOf, blockNumber, effectOk, effectNumber, countOk, slotOk, effectsNumber, settingsNumber, wordsOk, fieldsNumber, apart, apartNumber, several, severalNumber, wordsNumber, holdNumber, rowNumber};
-ghost use Rattle.settings.specs.Signals.{activeOf, forcesCount, badTrip, signalsOf, signals};
-use rules::Signals;
+ghost use Rattle.settings.specs.Signals.{forcesCount, badTrip};
 
 // The settings of one effect: its association word and its delay in milliseconds.
 pub struct Effect {
@@ -261,69 +257,16 @@ pub fn row_number(known: Limits, row: Row) -> u8
 
 // ---- what an effect sees in a scan
 
-// The association word, less the masked causes, less those whose value is 1.
-fn active(association: u16, mask: u16, values: u16) -> u16
-    ensures { λ r. ⌜ r ≡ activeOf association mask values ⌝ }
-{
-    association & !mask & !values
-}
-
-fn forces_count(options: u8, w: Words) -> bool
+// Forces count.
+pub fn forces_count(options: u8, w: Words) -> bool
     ensures { λ r. ⌜ r ≡ forcesCount options w ⌝ }
 {
     (w.force_permit == 1) | bits::bit(options as u16, 1)
 }
 
-fn bad_trip(options: u8, w: Words) -> bool
+// There is a Bad trip.
+pub fn bad_trip(options: u8, w: Words) -> bool
     ensures { λ r. ⌜ r ≡ badTrip options w ⌝ }
 {
     bits::bit(options as u16, 0) & (0 < w.bad)
-}
-
-// What effect i sees, counted from 0.
-fn signals_of(st: Settings, w: Words, i: usize) -> Signals
-    requires { ⌜ i < 16 ⌝ }
-    ensures { λ r. ⌜ r ≡ signalsOf st w i ⌝ }
-{
-    let e = st.effects[i];
-    let counts = forces_count(st.options, w);
-    Signals {
-        active: active(e.association, w.mask, w.values),
-        bad: bad_trip(st.options, w),
-        trip: (counts) & bits::bit(w.force_trip, i),
-        normal: (counts) & bits::bit(w.force_normal, i),
-        require: bits::bit(w.require_reset, i),
-        permit: bits::bit(w.reset_permit, i),
-        start: bits::bit(w.start_permit, i),
-        reset: bits::bit(w.reset, i),
-        delay: e.delay,
-        period: st.period as u32,
-    }
-}
-
-// What the effects see; the slots past them see nothing.
-pub fn all_signals(st: Settings, w: Words) -> [Signals; 16]
-    requires { ⌜ st .count ≤ 16 ⌝ }
-    ensures { λ r. ⌜ r ≡ signals st w ++ drop (st .count) (replicate 16 noSignals) ⌝ }
-{
-    let none = Signals {
-        active: 0,
-        bad: false,
-        trip: false,
-        normal: false,
-        require: false,
-        permit: false,
-        start: false,
-        reset: false,
-        delay: 0,
-        period: 0,
-    };
-    let n = st.count as usize;
-    let mut ss = [none; 16];
-    let mut i: usize = 0;
-    while i < n {
-        ss[i] = signals_of(st, w, i);
-        i += 1;
-    }
-    ss
 }

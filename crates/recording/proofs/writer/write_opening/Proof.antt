@@ -4,7 +4,7 @@ use Prim.Native.Nat.{ℕ, _+_}
 use native.Mathlib.Omega.{arith}
 use lib.ListN.{length}
 use Rattle.recording.specs.Encode.{opening}
-use Rattle.recording.proofs.Lists.{length-mapped}
+use Rattle.bits.proofs.Lists.{length-mapped}
 use Rattle.recording.proofs.Opening.{opening-count, right-length}
 use Rattle.recording.proofs.Pieces.{piece-refused, piece-short, piece-fits}
 use borrow.Author.Needs.{needs}

@@ -1,0 +1,55 @@
+-- A right state by the words of its effects, and back: slots past the effects are those of no effect.
+use mathlib.Core.Path.{_≡_, refl, ap, sym, _∙_}
+use mathlib.Core.Bool.{Bool, true, cond, _&&_}
+use mathlib.Core.List.{List}
+use Prim.Native.Nat.{ℕ, _+_, _-_, _≤_, _<_}
+use native.Mathlib.Nat.{zero-add}
+use native.Mathlib.Omega.{arith}
+use borrow.Author.Tests.{eqb-true, le-ltb}
+use lib.Dec.{eqb, ltb}
+use lib.ListN.{drop, getD, length, replicate, length-drop, length-replicate, getD-replicate}
+use lib.Seq.{ext-getD, getD-drop}
+use Rattle.bits.specs.Lists.{allFrom}
+use Rattle.bits.proofs.Lists.{and-left, and-right, all-at}
+use Rattle.rules.specs.declared.EffectState.{EffectState}
+use Rattle.rules.specs.declared.EffectState.the-variants.{Tripped}
+use Rattle.rules.specs.declared.Slot.{Slot}
+use Rattle.rules.specs.Rules.{noSlot, same}
+use Rattle.rules.proofs.States.{same-eq}
+use Rattle.planes.specs.Table.{tableOf, slotsOf}
+use Rattle.planes.proofs.Slots.{Padded, back}
+use Rattle.settings.specs.declared.Settings.{Settings}
+use Rattle.settings.specs.Right.{settingsNumber}
+use Rattle.settings.proofs.Right.{count-few}
+use Rattle.block.specs.declared.State.{State}
+use Rattle.block.specs.State.{slotUnused, slotOk, stateNumber}
+use Rattle.block.proofs.RightStates.{slots-right}
+
+-- an unused slot is that of no effect
+unused : (x : Slot) → slotUnused x ≡ true → x ≡ noSlot
+unused x e =
+    let both = and-left (same (x .state) Tripped && eqb (x .timer) 0) (eqb (x .first) 0) e in
+    let p = same-eq (x .state) Tripped (and-left (same (x .state) Tripped) (eqb (x .timer) 0) both) in
+    let t = eqb-true (x .timer) 0 (and-right (same (x .state) Tripped) (eqb (x .timer) 0) both) in
+    let f = eqb-true (x .first) 0 (and-right (same (x .state) Tripped && eqb (x .timer) 0) (eqb (x .first) 0) e) in
+    λ i. record { state = p i; timer = t i; first = f i }
+
+module _ (st : Settings) (x : State) (right : stateNumber st x ≡ 0) (long : length (x .slots) ≡ 16) where
+  past : (i : ℕ) → st .count ≤ i → i < 16 → getD (x .slots) i noSlot ≡ noSlot
+  past i h k =
+      unused (getD (x .slots) i noSlot)
+      (rw (zero-add, le-ltb i (st .count) h) at (all-at (slotOk st) 0 (x .slots) noSlot (slots-right st x right) i (rw long k)))
+
+  pub padded : Padded (st .count) (x .slots)
+  padded = (
+    long,
+    ext-getD noSlot _ _ (rw (length-drop, length-drop, length-replicate, long))
+        (λ i k.
+        let l : i < 16 - st .count = rw (length-drop, long) at k in
+        getD-drop (st .count) (x .slots) i noSlot ∙ past (st .count + i) (omega arith) (omega arith)
+        ∙ sym (getD-drop (st .count) (replicate 16 noSlot) i noSlot ∙ getD-replicate 16 (st .count + i) noSlot noSlot (omega arith))),
+  )
+
+  -- the words show the state's slots
+  pub shows : settingsNumber st ≡ 0 → slotsOf (st .count) (tableOf (st .count) (x .slots)) ≡ x .slots
+  shows settings = back (st .count) (count-few st settings) (x .slots) padded

@@ -1,0 +1,65 @@
+-- `block::run_right` meets its contract: the stroke is the run of single scans, and its records are those of the definitions.
+use mathlib.Core.Path.{_≡_, refl, ap, _∙_}
+use Prim.Native.Nat.{_*_, _≤_}
+use borrow.Author.Needs.{needs}
+use denote.Ref.{now}
+use lib.ListN.{length}
+use Rattle.bits.proofs.Lists.{length-mapped}
+use Rattle.block.proofs.Answers.{settings-right, row-right, few, countable}
+use Rattle.block.proofs.Runs.{starts-right, laid, ran-is}
+use Rattle.block.proofs.run_right.Statement.{statement}
+use Rattle.block.proofs.run_right.Tie as tie
+
+few-effects : (s : tie.Start) → s .args .st .count ≤ 16
+few-effects s = few (s .args .st) (s .args .row) (s .args .x) _ refl (s .pre .0)
+
+long : (s : tie.Start) → length (s .args .x .slots) ≡ 16
+long s = search (needs, length-mapped)
+
+wiring-of-requires : tie.Need-wiring-of-requires
+wiring-of-requires c κs = few-effects (c .before .before .before)
+
+board-of-requires : tie.Need-board-of-requires
+board-of-requires c κs = few-effects (c .before .before .before .before)
+
+stroke-requires : tie.Need-stroke-requires
+stroke-requires c κs =
+    let s = c .before .before .before .before .before in
+    let a = s .args in
+    let input = s .pre .0 in
+    rw (c .board-of .ensures) (
+      settings-right (a .st) (a .row) (a .x) _ refl input,
+      c .before .wiring-of .ensures,
+      row-right (a .st) (a .row) (a .x) _ refl input,
+      countable (a .st) (a .row) (a .x) _ refl input,
+      starts-right (a .st) (a .row) (a .x) input (long s),
+      s .pre .1,
+    )
+
+reached-requires : tie.Need-reached-requires
+reached-requires c κs = few-effects (c .before .before .before .before .before .before .before .before .before)
+
+returns : tie.Need-returns
+returns c =
+    let k = c .before .before .before .before .before .before in
+    let s = c .before .before .before .before .before .before .before .before .before .before .before .before in
+    let a = s .args in
+    let input = s .pre .0 in
+    let board = k .before .board-of .ensures in
+    let e = rw board at (k .stroke .ensures) in (
+      ran-is (a .st) (a .row) (a .x) input (long s) _ (e .0) _ _ (c .before .before .reached .ensures) (c .exercised-scans .ensures),
+      laid (a .st) (a .row) (a .x) input (long s) (now (a .buf)) _ (e .1),
+    )
+
+pub run-right-spec : {M : Type 1} → statement M
+run-right-spec =
+    tie.close
+    (tie.spec
+    (λ c. search needs)
+    wiring-of-requires
+    board-of-requires
+    stroke-requires
+    reached-requires
+    (λ c κs. search needs)
+    (λ c. search needs)
+    returns)

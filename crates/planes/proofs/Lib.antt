@@ -1,0 +1,10 @@
+pub mod ByWord
+pub mod Low
+pub mod Picked
+pub mod Records
+pub mod Step
+pub mod Quiet
+pub mod Scanned
+pub mod Slots
+pub mod Going
+pub mod Turn

@@ -1,0 +1,94 @@
+-- A run by words: one scan more, scans that are not live, and the run of slots that it shows. No promise cites this page.
+use Prim.Native.Nat.{ℕ, _+_, _*_, _%_, _^_}
+use mathlib.Core.Path.{_≡_}
+use mathlib.Core.Bool.{not}
+use mathlib.Core.List.{List}
+use lib.Dec.{eqb}
+use lib.ListN.{length, getD}
+use Rattle.bits.specs.Lists.{tabulate}
+use Rattle.bits.specs.Words.{bitOf, one}
+use Rattle.rules.specs.declared.Signals.{Signals}
+use Rattle.rules.specs.Rules.{asks}
+use Rattle.effects.specs.declared.Progress.{Progress}
+use Rattle.rounds.specs.Steps.{Run, start}
+use Rattle.planes.specs.declared.Asked.{Asked}
+use Rattle.planes.specs.declared.Board.{Board}
+use Rattle.planes.specs.Planes.{changedOf}
+use Rattle.planes.specs.Table.{activeIn, tableAfter, tableLater, tableOf, askedOf, slotsOf, entriesTo}
+
+-- the records of a scan
+abbrev pub entriesOf : (n : ℕ) (causes delays : List ℕ) (period tripped : ℕ) → Asked → Board → List (List ℕ)
+entriesOf n causes delays period tripped w x =
+    let y = tableAfter n causes delays period tripped w (x .table) in
+    entriesTo (x .next) (x .done + 1) (changedOf (x .table .planes) (y .planes)) (x .table .planes) (y .planes) (y .firsts) 16
+
+-- one scan more
+unfoldable pub scanned : (n : ℕ) (causes delays : List ℕ) (period tripped : ℕ) → Asked → Board → Board
+scanned n causes delays period tripped w x =
+    let y = tableAfter n causes delays period tripped w (x .table) in
+    let es = entriesOf n causes delays period tripped w x in
+    record {
+      done = x .done + 1;
+      next = (x .next + length es) % 2 ^ 16;
+      at = x .at + 12 * length es;
+      live = x .live + one (not (eqb (changedOf (x .table .planes) (y .planes)) 0));
+      table = y;
+    }
+
+-- k scans that are not live
+unfoldable pub later : (k n period : ℕ) → Board → Board
+later k n period x =
+    record { done = x .done + k; next = x .next; at = x .at; live = x .live; table = tableLater k n period (x .table) }
+
+-- what is asked in the scans after the first
+abbrev pub unset : Asked → Asked
+unset w =
+    record {
+      trip = w .trip;
+      normal = w .normal;
+      bad = w .bad;
+      active = w .active;
+      require = w .require;
+      permit = w .permit;
+      start = w .start;
+      reset = 0;
+      delayed = w .delayed;
+    }
+
+abbrev pub begun : Board → Board
+begun x = record { done = x .done; next = x .next; at = 0; live = 0; table = x .table }
+
+-- ## What the words show
+
+-- the signals of effect i
+unfoldable pub signalsBy : (causes delays : List ℕ) (period tripped : ℕ) → Asked → ℕ → Signals
+signalsBy causes delays period tripped w i =
+    record {
+      active = activeIn causes tripped i;
+      bad = bitOf (w .bad) i;
+      trip = bitOf (w .trip) i;
+      normal = bitOf (w .normal) i;
+      require = bitOf (w .require) i;
+      permit = bitOf (w .permit) i;
+      start = bitOf (w .start) i;
+      reset = bitOf (w .reset) i;
+      delay = getD delays i 0;
+      period = period;
+    }
+
+-- and of all
+abbrev pub signalsIn : (n : ℕ) (causes delays : List ℕ) (period tripped : ℕ) → Asked → List Signals
+signalsIn n causes delays period tripped w = tabulate (signalsBy causes delays period tripped w) n
+
+-- the run that starts at a board
+abbrev pub runOf : ℕ → Board → Run
+runOf n x = start (x .done) (x .next) (slotsOf n (x .table))
+
+-- the words are those of what they show
+pub record Right (n : ℕ) (causes delays : List ℕ) (period tripped : ℕ) (w : Asked) (x : Board) : Type 0 where
+  pub asked : w ≡ askedOf n (λ i. asks (signalsBy causes delays period tripped w i))
+  pub table : x .table ≡ tableOf n (slotsOf n (x .table))
+
+-- the board of a run
+abbrev pub boardOf : ℕ → Progress → Board
+boardOf n p = record { done = p .done; next = p .next; at = p .at; live = p .live; table = tableOf n (p .slots) }

@@ -1,0 +1,4 @@
+pub mod Planes
+pub mod Picked
+pub mod Table
+pub mod Board

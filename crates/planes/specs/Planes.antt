@@ -1,0 +1,93 @@
+-- The states of all effects as six words, one bit an effect, and the rules on them. No promise cites this page.
+use Prim.Native.Nat.{ℕ, _+_, _-_, _*_, _/_, _%_, _^_}
+use mathlib.Core.Bool.{Bool, cond}
+use lib.Bits.{bitAnd, bitOr}
+use Rattle.bits.specs.Words.{bitOf, wordOf}
+use Rattle.rules.specs.declared.EffectState.{EffectState}
+use Rattle.rules.specs.declared.EffectState.the-variants.{Tripped, WaitReset, Ready, WaitStart, Normal, Delayed}
+use Rattle.rules.specs.Rules.{same}
+use Rattle.planes.specs.declared.Asked.{Asked}
+use Rattle.planes.specs.declared.Planes.{Planes}
+
+-- the six words of the states f 0, f 1, .. of n effects
+unfoldable pub planesOf : ℕ → (ℕ → EffectState) → Planes
+planesOf n f =
+    record {
+      tripped = wordOf (λ i. same (f i) Tripped) n;
+      wait = wordOf (λ i. same (f i) WaitReset) n;
+      ready = wordOf (λ i. same (f i) Ready) n;
+      start = wordOf (λ i. same (f i) WaitStart) n;
+      normal = wordOf (λ i. same (f i) Normal) n;
+      delayed = wordOf (λ i. same (f i) Delayed) n;
+    }
+
+-- ## The rules on a word, or on a bit: the same formulas over any and, or and less (the first without the second)
+
+module _ {B : Type 0} (and or less : B → B → B) where
+  -- one of the three first rules applies
+  abbrev pub stopped : (trip normal bad : B) → B
+  stopped t n b = or t (or n b)
+
+  abbrev pub toTripped : (trip normal bad active delayed due : B) → (T W R S N D : B) → B
+  toTripped t n b a de due T W R S N D =
+      or t (or (less b n) (less (or (and D due) (and a (or T (or W (or R (or S (less N de))))))) (stopped t n b)))
+
+  abbrev pub toWait : (trip normal bad active require permit : B) → (T W R : B) → B
+  toWait t n b a rq pm T W R = less (or W (or R (and T rq))) (or (stopped t n b) (or a pm))
+
+  abbrev pub toReady : (trip normal bad active require permit reset : B) → (T W R : B) → B
+  toReady t n b a rq pm rs T W R = less (and pm (or W (or (and T rq) (less R rs)))) (or (stopped t n b) a)
+
+  -- what is left of the way to Normal is the start permit
+  abbrev pub onWay : (require permit reset : B) → (T R S : B) → B
+  onWay rq pm rs T R S = or S (or (less T rq) (and R (and pm rs)))
+
+  abbrev pub toStart : (trip normal bad active require permit start reset : B) → (T R S : B) → B
+  toStart t n b a rq pm st rs T R S = less (onWay rq pm rs T R S) (or (stopped t n b) (or a st))
+
+  abbrev pub toNormal : (trip normal bad active require permit start reset : B) → (T R S N : B) → B
+  toNormal t n b a rq pm st rs T R S N = or (less n t) (less (or N (and st (onWay rq pm rs T R S))) (or (stopped t n b) a))
+
+  abbrev pub toDelayed : (trip normal bad active delayed due : B) → (N D : B) → B
+  toDelayed t n b a de due N D = less (or (less D due) (and N (and a de))) (stopped t n b)
+
+  -- one of the first six is without its like among the others
+  abbrev pub differ : (T W R S N D T′ W′ R′ S′ N′ D′ : B) → B
+  differ T W R S N D T′ W′ R′ S′ N′ D′ = or (less T T′) (or (less W W′) (or (less R R′) (or (less S S′) (or (less N N′) (less D D′)))))
+
+-- the code's `v & !w`
+abbrev pub less16 : ℕ → ℕ → ℕ
+less16 v w = bitAnd v (65535 - w)
+
+-- the states after a scan, by words
+unfoldable pub planesAfter : Asked → ℕ → Planes → Planes
+planesAfter w due p =
+    record {
+      tripped = toTripped bitAnd bitOr less16 (w .trip) (w .normal) (w .bad) (w .active) (w .delayed) due (p .tripped) (p .wait) (p .ready) (p .start) (p .normal) (p .delayed);
+      wait = toWait bitAnd bitOr less16 (w .trip) (w .normal) (w .bad) (w .active) (w .require) (w .permit) (p .tripped) (p .wait) (p .ready);
+      ready = toReady bitAnd bitOr less16 (w .trip) (w .normal) (w .bad) (w .active) (w .require) (w .permit) (w .reset) (p .tripped) (p .wait) (p .ready);
+      start = toStart bitAnd bitOr less16 (w .trip) (w .normal) (w .bad) (w .active) (w .require) (w .permit) (w .start) (w .reset) (p .tripped) (p .ready) (p .start);
+      normal = toNormal bitAnd bitOr less16 (w .trip) (w .normal) (w .bad) (w .active) (w .require) (w .permit) (w .start) (w .reset) (p .tripped) (p .ready) (p .start) (p .normal);
+      delayed = toDelayed bitAnd bitOr less16 (w .trip) (w .normal) (w .bad) (w .active) (w .delayed) due (p .normal) (p .delayed);
+    }
+
+-- the effects whose state differs
+unfoldable pub changedOf : Planes → Planes → ℕ
+changedOf p q =
+    differ bitAnd bitOr less16 (p .tripped) (p .wait) (p .ready) (p .start) (p .normal) (p .delayed)
+    (q .tripped) (q .wait) (q .ready) (q .start) (q .normal) (q .delayed)
+
+-- ## A state, from its bit in each word
+
+abbrev pub oneOf : ℕ → ℕ → ℕ
+oneOf w i = w / 2 ^ i % 2
+
+-- its code
+unfoldable pub codeAt : Planes → ℕ → ℕ
+codeAt p i = oneOf (p .wait) i + 2 * oneOf (p .ready) i + 3 * oneOf (p .start) i + 4 * oneOf (p .normal) i + 5 * oneOf (p .delayed) i
+
+-- the state itself
+unfoldable pub stateAt : Planes → ℕ → EffectState
+stateAt p i =
+    cond (bitOf (p .tripped) i) Tripped (cond (bitOf (p .wait) i) WaitReset (cond (bitOf (p .ready) i) Ready
+    (cond (bitOf (p .start) i) WaitStart (cond (bitOf (p .normal) i) Normal Delayed))))

@@ -1,0 +1,604 @@
+// The stroke by words of effects: six plane words say which effects are in which state, one bit an effect, so a scan of all
+// effects is a few operations on words. Document 01, "Held runs and their two counts".
+// This crate is an algorithm alone: no promise cites it. What a scan and a held run mean stands in the specs of effects and
+// rounds, over lists of signals and slots; here stands that the words come to the same.
+ghost use mathlib.Core.Path.{_≡_};
+ghost use mathlib.Core.Bool.{cond};
+ghost use mathlib.Core.List.{[], _∷_, _++_};
+ghost use Prim.Native.Nat.{_+_, _-_, _*_, _/_, _%_, _^_, _<_, _≤_, min};
+ghost use lib.Count.{trailingZeros};
+ghost use lib.ListN.{drop, getD, length, replicate};
+ghost use lib.Seq.{sets};
+ghost use Rattle.bits.specs.Lists.{tabulate};
+ghost use Rattle.bits.specs.Layout.{pack};
+ghost use Rattle.bits.specs.Words.{bitOf, wordOf, one};
+ghost use Rattle.rules.specs.Rules.{noSlot, same};
+ghost use Rattle.effects.specs.Records.{bytes};
+ghost use Rattle.rounds.specs.Steps.{held, progressOf};
+ghost use Rattle.planes.specs.Planes.{planesAfter, changedOf, oneOf, codeAt, stateAt};
+ghost use Rattle.planes.specs.Table.{activeAt, dueAt, timerBy, firstBy, tableAfter, lowTo, quietsBy, tableLater, entriesTo, joined, tableOf, slotAt, slotsOf};
+ghost use Rattle.planes.specs.Board.{entriesOf, scanned, later as laterOf, unset as unsetOf, begun, Right, signalsIn, runOf, boardOf};
+use rules::EffectState;
+use rules::Slot;
+
+// What the rules ask of all effects, a bit each. active and delayed: the active word and the delay are not 0.
+pub struct Asked {
+    pub trip: u16,
+    pub normal: u16,
+    pub bad: u16,
+    pub active: u16,
+    pub require: u16,
+    pub permit: u16,
+    pub start: u16,
+    pub reset: u16,
+    pub delayed: u16,
+}
+
+// The states of all effects: bit i is set in the word of effect i's state.
+pub struct Planes {
+    pub tripped: u16,
+    pub wait: u16,
+    pub ready: u16,
+    pub start: u16,
+    pub normal: u16,
+    pub delayed: u16,
+}
+
+// What is kept of all effects.
+pub struct Table {
+    pub planes: Planes,
+    pub timers: [u32; 16],
+    pub firsts: [u16; 16],
+}
+
+// How far a run of scans has come: the scans done, the next sequence number, the place after the records in the buffer, the
+// live scans so far, and what is kept of the effects.
+pub struct Board {
+    pub done: u32,
+    pub next: u16,
+    pub at: usize,
+    pub live: u32,
+    pub table: Table,
+}
+
+// ---- the rules by words
+
+// The states after a scan. due: the timer is at most the period.
+fn planes_after(w: Asked, due: u16, p: Planes) -> Planes
+    ensures { λ r. ⌜ r ≡ planesAfter w due p ⌝ }
+{
+    let stop = w.trip | (w.normal | w.bad);
+    let way = p.start | ((p.tripped & !w.require) | (p.ready & (w.permit & w.reset)));
+    Planes {
+        tripped: w.trip
+            | ((w.bad & !w.normal)
+                | (((p.delayed & due)
+                    | (w.active
+                        & (p.tripped | (p.wait | (p.ready | (p.start | (p.normal & !w.delayed)))))))
+                    & !stop)),
+        wait: (p.wait | (p.ready | (p.tripped & w.require))) & !(stop | (w.active | w.permit)),
+        ready: (w.permit & (p.wait | ((p.tripped & w.require) | (p.ready & !w.reset))))
+            & !(stop | w.active),
+        start: way & !(stop | (w.active | w.start)),
+        normal: (w.normal & !w.trip) | ((p.normal | (w.start & way)) & !(stop | w.active)),
+        delayed: ((p.delayed & !due) | (p.normal & (w.active & w.delayed))) & !stop,
+    }
+}
+
+// The effects whose state differs.
+fn changed(p: Planes, q: Planes) -> u16
+    ensures { λ r. ⌜ r ≡ changedOf p q ⌝ }
+{
+    (p.tripped & !q.tripped)
+        | ((p.wait & !q.wait)
+            | ((p.ready & !q.ready)
+                | ((p.start & !q.start) | ((p.normal & !q.normal) | (p.delayed & !q.delayed)))))
+}
+
+// ---- words of effects
+
+// The effects whose active word is not 0. tripped: the causes that are tripped and not masked.
+pub fn active_word(count: usize, causes: &[u16; 16], tripped: u16) -> u16
+    requires { ⌜ count ≤ 16 ⌝ }
+    ensures { λ r. ⌜ r ≡ wordOf (activeAt (now (causes .entry)) tripped) count ⌝ }
+{
+    let mut word: u16 = 0;
+    let mut i: usize = 0;
+    while i < count {
+        word = bits::put_bit(word, i, 0 < causes[i] & tripped);
+        i += 1;
+    }
+    word
+}
+
+// The effects whose timer is at most the period.
+fn due_word(count: usize, timers: &[u32; 16], period: u32) -> u16
+    requires { ⌜ count ≤ 16 ⌝ }
+    ensures { λ r. ⌜ r ≡ wordOf (dueAt (now (timers .entry)) period) count ⌝ }
+{
+    let mut word: u16 = 0;
+    let mut i: usize = 0;
+    while i < count {
+        word = bits::put_bit(word, i, timers[i] <= period);
+        i += 1;
+    }
+    word
+}
+
+// ---- timers and first-outs
+
+fn pick32(b: bool, x: u32, y: u32) -> u32
+    ensures { λ r. ⌜ r ≡ cond b x y ⌝ }
+{
+    if b { x } else { y }
+}
+
+fn pick16(b: bool, x: u16, y: u16) -> u16
+    ensures { λ r. ⌜ r ≡ cond b x y ⌝ }
+{
+    if b { x } else { y }
+}
+
+// The timers after a scan. was, is: the effects in Delayed before it and after it.
+fn timers_after(
+    count: usize,
+    timers: [u32; 16],
+    delays: &[u32; 16],
+    period: u32,
+    was: u16,
+    is: u16,
+) -> [u32; 16]
+    requires { ⌜ count ≤ 16 ⌝ }
+    ensures { λ r. ⌜ r ≡ tabulate (timerBy timers (now (delays .entry)) period was is) count ++ drop count timers ⌝ }
+{
+    let mut after = timers;
+    let mut i: usize = 0;
+    while i < count {
+        let t = timers[i];
+        let d = delays[i];
+        after[i] = pick32(
+            bits::bit(is, i),
+            pick32(bits::bit(was, i), rules::less(t, period), d),
+            0,
+        );
+        i += 1;
+    }
+    after
+}
+
+// The first-outs after a scan. was, is: the effects in Normal before it and after it.
+fn firsts_after(
+    count: usize,
+    firsts: [u16; 16],
+    causes: &[u16; 16],
+    tripped: u16,
+    was: u16,
+    is: u16,
+) -> [u16; 16]
+    requires { ⌜ count ≤ 16 ⌝ }
+    ensures { λ r. ⌜ r ≡ tabulate (firstBy firsts (now (causes .entry)) tripped was is) count ++ drop count firsts ⌝ }
+{
+    let mut after = firsts;
+    let mut i: usize = 0;
+    while i < count {
+        let f = firsts[i];
+        let c = causes[i];
+        after[i] = pick16(
+            bits::bit(is, i),
+            0,
+            pick16(bits::bit(was, i), c & tripped, f),
+        );
+        i += 1;
+    }
+    after
+}
+
+// What is kept of all effects after a scan.
+fn table_after(
+    count: usize,
+    causes: &[u16; 16],
+    delays: &[u32; 16],
+    period: u32,
+    tripped: u16,
+    w: Asked,
+    b: Table,
+) -> Table
+    requires { ⌜ count ≤ 16 ⌝ }
+    ensures { λ r. ⌜ r ≡ tableAfter count (now (causes .entry)) (now (delays .entry)) period tripped w b ⌝ }
+{
+    let planes = b.planes;
+    let timers = b.timers;
+    let firsts = b.firsts;
+    let due = due_word(count, &timers, period);
+    let after = planes_after(w, due, planes);
+    Table {
+        planes: after,
+        timers: timers_after(count, timers, delays, period, planes.delayed, after.delayed),
+        firsts: firsts_after(count, firsts, causes, tripped, planes.normal, after.normal),
+    }
+}
+
+// ---- scans that are not live
+
+fn least(a: u32, b: u32) -> u32
+    ensures { λ r. ⌜ r ≡ min a b ⌝ }
+{
+    if a < b { a } else { b }
+}
+
+// The least timer of the effects in Delayed.
+fn low_timer(count: usize, timers: &[u32; 16], delayed: u16) -> u32
+    requires { ⌜ count ≤ 16 ⌝ }
+    ensures { λ r. ⌜ r ≡ lowTo (bitOf delayed) (λ i. getD (now (timers .entry)) i 0) count ⌝ }
+{
+    let mut low: u32 = 4294967295;
+    let mut i: usize = 0;
+    while i < count {
+        low = pick32(bits::bit(delayed, i), least(low, timers[i]), low);
+        i += 1;
+    }
+    low
+}
+
+// How many of the next n scans leave every state as it is.
+fn quiets(n: u32, count: usize, period: u32, w: Asked, b: Table) -> u32
+    requires { ⌜ (count ≤ 16) × (0 < period) ⌝ }
+    ensures { λ r. ⌜ r ≡ quietsBy n count period w b ⌝ }
+{
+    if n == 0 {
+        return 0;
+    }
+    let planes = b.planes;
+    let timers = b.timers;
+    let due = due_word(count, &timers, period);
+    let next = planes_after(w, due, planes);
+    if changed(planes, next) == 0 {
+        least(
+            n,
+            rules::less(low_timer(count, &timers, planes.delayed), 1) / period,
+        )
+    } else {
+        0
+    }
+}
+
+fn timers_later(count: usize, timers: [u32; 16], by: u32) -> [u32; 16]
+    requires { ⌜ count ≤ 16 ⌝ }
+    ensures { λ r. ⌜ r ≡ tabulate (λ i. getD timers i 0 - by) count ++ drop count timers ⌝ }
+{
+    let mut after = timers;
+    let mut i: usize = 0;
+    while i < count {
+        let t = timers[i];
+        after[i] = rules::less(t, by);
+        i += 1;
+    }
+    after
+}
+
+// What is kept of all effects after k such scans.
+fn table_later(k: u32, count: usize, period: u32, b: Table) -> Table
+    requires { ⌜ (count ≤ 16) × (k ≤ 1000000) × (period ≤ 1000) ⌝ }
+    ensures { λ r. ⌜ r ≡ tableLater k count period b ⌝ }
+{
+    if k == 0 {
+        return b;
+    }
+    let planes = b.planes;
+    let timers = b.timers;
+    let firsts = b.firsts;
+    let by = k * period;
+    Table {
+        planes,
+        timers: timers_later(count, timers, by),
+        firsts,
+    }
+}
+
+// ---- the records
+
+fn one_bit(w: u16, i: usize) -> u8
+    requires { ⌜ i < 16 ⌝ }
+    ensures { λ r. ⌜ (r ≡ oneOf w i) × (r ≤ 1) ⌝ }
+{
+    ((w >> i) % 2) as u8
+}
+
+// The code of effect i's state.
+fn code_at(p: Planes, i: usize) -> u8
+    requires { ⌜ i < 16 ⌝ }
+    ensures { λ r. ⌜ r ≡ codeAt p i ⌝ }
+{
+    one_bit(p.wait, i)
+        + 2 * one_bit(p.ready, i)
+        + 3 * one_bit(p.start, i)
+        + 4 * one_bit(p.normal, i)
+        + 5 * one_bit(p.delayed, i)
+}
+
+// The lowest set bit of a word that is not 0.
+fn lowest(w: u16) -> usize
+    ensures { λ r. ⌜ r ≡ trailingZeros 16 w ⌝ }
+{
+    u16::trailing_zeros(w) as usize
+}
+
+// The records of the effects in the word `ch`; and the place after them.
+fn put_scan(
+    buf: &mut [u8],
+    at0: usize,
+    q0: u16,
+    number: u32,
+    ch: u16,
+    was: Planes,
+    is: Planes,
+    firsts: &[u16; 16],
+) -> usize
+    requires { ⌜ at0 + 12 * length (entriesTo q0 number ch was is (now firsts) 16) ≤ length (now buf) ⌝ }
+    ensures { λ r. ⌜ (r ≡ at0 + 12 * length (entriesTo q0 number ch was is (now (firsts .entry)) 16)) × (now (buf .exit) ≡ sets (now (buf .entry)) at0 (joined (entriesTo q0 number ch was is (now (firsts .entry)) 16))) ⌝ }
+{
+    let mut at = at0;
+    let mut q = q0;
+    let mut rest = ch;
+    while 0 < rest {
+        let i = lowest(rest);
+        effects::put_record(
+            buf,
+            at,
+            q,
+            number,
+            i as u8 + 1,
+            code_at(was, i),
+            code_at(is, i),
+            firsts[i],
+        );
+        at += 12;
+        q = std::num::wrapping_add_u16(q, 1);
+        rest &= rest - 1;
+    }
+    at
+}
+
+// ---- a run
+
+// The sequence number after the records from one place to another.
+fn seq_after(q: u16, from: usize, to: usize) -> u16
+    requires { ⌜ (from ≤ to) × (to ≤ from + 192) ⌝ }
+    ensures { λ r. ⌜ r ≡ (q + (to - from) / 12) % 2 ^ 16 ⌝ }
+{
+    std::num::wrapping_add_u16(q, ((to - from) / 12) as u16)
+}
+
+fn count_live(n: u32, b: bool) -> u32
+    requires { ⌜ n + 1 < 2 ^ 32 ⌝ }
+    ensures { λ r. ⌜ r ≡ n + one b ⌝ }
+{
+    if b { n + 1 } else { n }
+}
+
+// One scan more: its records go to the buffer at the run's place.
+fn scan(
+    buf: &mut [u8],
+    count: usize,
+    causes: &[u16; 16],
+    delays: &[u32; 16],
+    period: u32,
+    tripped: u16,
+    w: Asked,
+    x: Board,
+) -> Board
+    requires { ⌜ (count ≤ 16) × (x .done < 1000000000) × (x .live < 1000000) × (x .at + 12 * length (entriesOf count (now causes) (now delays) period tripped w x) ≤ length (now buf)) ⌝ }
+    ensures { λ r. ⌜ (r ≡ scanned count (now (causes .entry)) (now (delays .entry)) period tripped w x) × (now (buf .exit) ≡ sets (now (buf .entry)) (x .at) (joined (entriesOf count (now (causes .entry)) (now (delays .entry)) period tripped w x))) ⌝ }
+{
+    let table = x.table;
+    let was = table.planes;
+    let y = table_after(count, causes, delays, period, tripped, w, table);
+    let is = y.planes;
+    let firsts = y.firsts;
+    let ch = changed(was, is);
+    let done = x.done + 1;
+    let at = put_scan(buf, x.at, x.next, done, ch, was, is, &firsts);
+    Board {
+        done,
+        next: seq_after(x.next, x.at, at),
+        at,
+        live: count_live(x.live, ch != 0),
+        table: y,
+    }
+}
+
+// The run after k scans that leave every state as it is.
+fn later(k: u32, count: usize, period: u32, x: Board) -> Board
+    requires { ⌜ (count ≤ 16) × (k ≤ 1000000) × (period ≤ 1000) × (x .done + k ≤ 1000000000) ⌝ }
+    ensures { λ r. ⌜ r ≡ laterOf k count period x ⌝ }
+{
+    let table = x.table;
+    Board {
+        done: x.done + k,
+        next: x.next,
+        at: x.at,
+        live: x.live,
+        table: table_later(k, count, period, table),
+    }
+}
+
+// What is asked in the scans after the first.
+fn unset(w: Asked) -> Asked
+    ensures { λ r. ⌜ r ≡ unsetOf w ⌝ }
+{
+    let mut v = w;
+    v.reset = 0;
+    v
+}
+
+// The run that starts where another has come to.
+fn begin(x: Board) -> Board
+    ensures { λ r. ⌜ r ≡ begun x ⌝ }
+{
+    let table = x.table;
+    Board {
+        done: x.done,
+        next: x.next,
+        at: 0,
+        live: 0,
+        table,
+    }
+}
+
+// A held run by rounds: one scan by the rules, and then all scans before the next live one or the hold's end. Its records go
+// to the front of the buffer. The falling number of the loop is `fuel`.
+pub fn stroke(
+    buf: &mut [u8],
+    hold: u32,
+    count: usize,
+    causes: &[u16; 16],
+    delays: &[u32; 16],
+    period: u32,
+    tripped: u16,
+    asked: Asked,
+    from: Board,
+) -> Board
+    requires { ⌜ (count ≤ 16) × (hold ≤ 1000000) × (0 < period) × (period ≤ 1000) × (from .done + hold ≤ 1000000000) × Right count (now causes) (now delays) period tripped asked from × (24 * count ≤ length (now buf)) ⌝ }
+    ensures { λ r. ⌜ (r ≡ boardOf count (progressOf (held (signalsIn count (now (causes .entry)) (now (delays .entry)) period tripped asked) hold (runOf count from)))) × (now (buf .exit) ≡ sets (now (buf .entry)) 0 (bytes (held (signalsIn count (now (causes .entry)) (now (delays .entry)) period tripped asked) hold (runOf count from) .events))) ⌝ }
+{
+    let mut w = asked;
+    let mut x = begin(from);
+    let mut left = hold;
+    let mut fuel = 2 * count + 1;
+    while 0 < left {
+        fuel -= 1;
+        let y = scan(buf, count, causes, delays, period, tripped, w, x);
+        let v = unset(w);
+        let rest = left - 1;
+        let table = y.table;
+        let k = quiets(rest, count, period, v, table);
+        w = v;
+        x = later(k, count, period, y);
+        left = rest - k;
+    }
+    x
+}
+
+// ---- to words and back
+
+// The effects in state q.
+fn plane(count: usize, xs: [Slot; 16], q: EffectState) -> u16
+    requires { ⌜ count ≤ 16 ⌝ }
+    ensures { λ r. ⌜ r ≡ wordOf (λ i. same (getD xs i noSlot .state) q) count ⌝ }
+{
+    let mut word: u16 = 0;
+    let mut i: usize = 0;
+    while i < count {
+        let x = xs[i];
+        let p = x.state;
+        word = bits::put_bit(word, i, rules::same(p, q));
+        i += 1;
+    }
+    word
+}
+
+fn timers_of(count: usize, xs: [Slot; 16]) -> [u32; 16]
+    requires { ⌜ count ≤ 16 ⌝ }
+    ensures { λ r. ⌜ r ≡ tabulate (λ i. getD xs i noSlot .timer) count ++ drop count (replicate 16 0) ⌝ }
+{
+    let mut ts = [0u32; 16];
+    let mut i: usize = 0;
+    while i < count {
+        let x = xs[i];
+        ts[i] = x.timer;
+        i += 1;
+    }
+    ts
+}
+
+fn firsts_of(count: usize, xs: [Slot; 16]) -> [u16; 16]
+    requires { ⌜ count ≤ 16 ⌝ }
+    ensures { λ r. ⌜ r ≡ tabulate (λ i. getD xs i noSlot .first) count ++ drop count (replicate 16 0) ⌝ }
+{
+    let mut fs = [0u16; 16];
+    let mut i: usize = 0;
+    while i < count {
+        let x = xs[i];
+        fs[i] = x.first;
+        i += 1;
+    }
+    fs
+}
+
+// The slots, by words.
+pub fn table_of(count: usize, xs: [Slot; 16]) -> Table
+    requires { ⌜ count ≤ 16 ⌝ }
+    ensures { λ r. ⌜ r ≡ tableOf count xs ⌝ }
+{
+    let planes = Planes {
+        tripped: plane(count, xs, EffectState::Tripped),
+        wait: plane(count, xs, EffectState::WaitReset),
+        ready: plane(count, xs, EffectState::Ready),
+        start: plane(count, xs, EffectState::WaitStart),
+        normal: plane(count, xs, EffectState::Normal),
+        delayed: plane(count, xs, EffectState::Delayed),
+    };
+    Table {
+        planes,
+        timers: timers_of(count, xs),
+        firsts: firsts_of(count, xs),
+    }
+}
+
+// The state of effect i.
+fn state_at(p: Planes, i: usize) -> EffectState
+    requires { ⌜ i < 16 ⌝ }
+    ensures { λ r. ⌜ r ≡ stateAt p i ⌝ }
+{
+    if bits::bit(p.tripped, i) {
+        return EffectState::Tripped;
+    }
+    if bits::bit(p.wait, i) {
+        return EffectState::WaitReset;
+    }
+    if bits::bit(p.ready, i) {
+        return EffectState::Ready;
+    }
+    if bits::bit(p.start, i) {
+        return EffectState::WaitStart;
+    }
+    if bits::bit(p.normal, i) {
+        return EffectState::Normal;
+    }
+    EffectState::Delayed
+}
+
+fn slot_of(p: Planes, t: u32, f: u16, i: usize) -> Slot
+    requires { ⌜ i < 16 ⌝ }
+    ensures { λ r. ⌜ r ≡ (record { state = stateAt p i; timer = t; first = f }) ⌝ }
+{
+    Slot {
+        state: state_at(p, i),
+        timer: t,
+        first: f,
+    }
+}
+
+// And back; slots past the count are those of no effect.
+pub fn slots_of(count: usize, b: Table) -> [Slot; 16]
+    requires { ⌜ count ≤ 16 ⌝ }
+    ensures { λ r. ⌜ r ≡ slotsOf count b ⌝ }
+{
+    let planes = b.planes;
+    let timers = b.timers;
+    let firsts = b.firsts;
+    let none = Slot {
+        state: EffectState::Tripped,
+        timer: 0,
+        first: 0,
+    };
+    let mut xs = [none; 16];
+    let mut i: usize = 0;
+    while i < count {
+        let t = timers[i];
+        let f = firsts[i];
+        xs[i] = slot_of(planes, t, f, i);
+        i += 1;
+    }
+    xs
+}

@@ -1,0 +1,25 @@
+-- `rules::state_of` meets its contract: each branch has the tests of the definition.
+use borrow.Author.Tests.{ne-eqb}
+use Rattle.rules.proofs.state_of.Statement.{statement}
+use Rattle.rules.proofs.state_of.Tie as tie
+
+returns : tie.Need-returns
+returns c = simp (c .if1 .taken)
+
+returns-2 : tie.Need-returns-2
+returns-2 c = simp (c .if2 .taken)
+
+returns-3 : tie.Need-returns-3
+returns-3 c = simp (c .if3 .taken)
+
+returns-4 : tie.Need-returns-4
+returns-4 c = simp (c .if4 .taken)
+
+returns-5 : tie.Need-returns-5
+returns-5 c = simp (c .if5 .taken)
+
+returns-6 : tie.Need-returns-6
+returns-6 c = rw (ne-eqb _ 0 (c .before .before .before .before .if1 .left), ne-eqb _ 1 (c .before .before .before .if2 .left), ne-eqb _ 2 (c .before .before .if3 .left), ne-eqb _ 3 (c .before .if4 .left), ne-eqb _ 4 (c .if5 .left))
+
+pub state-of-spec : {M : Type 1} → statement M
+state-of-spec = tie.close (tie.spec returns returns-2 returns-3 returns-4 returns-5 returns-6)

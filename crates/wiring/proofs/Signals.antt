@@ -1,0 +1,161 @@
+-- The words are those of what the effects see.
+use mathlib.Core.Path.{_≡_, refl, ap, ap₂, sym, _∙_}
+use mathlib.Core.Bool.{Bool, true, false, cond, not, _&&_, _||_}
+use mathlib.Core.List.{List, [], _∷_, _++_}
+use Prim.Native.Nat.{ℕ, zero, suc, _+_, _-_, _%_, _^_, _<_, _≤_}
+use native.Mathlib.Nat.{zero-div, lt-of-lt-of-le}
+use native.Mathlib.Omega.{arith}
+use lib.Bits.{bitAnd, bitOr}
+use lib.Dec.{eqb, ltb}
+use lib.ListN.{getD, length}
+use lib.Pow.{pow-pos}
+use Rattle.bits.specs.Lists.{tabulate}
+use Rattle.bits.specs.Words.{bitOf, wordOf}
+use Rattle.bits.proofs.Lists.{length-tabulate, tabulate-ext, getD-tabulate}
+use Rattle.bits.proofs.Words.{bit-wordOf, wordOf-ext, wordOf-lt, word-bits, and-assoc, and-word, or-word}
+use Rattle.rules.specs.declared.EffectState.{EffectState}
+use Rattle.rules.specs.declared.EffectState.the-variants.{Tripped, WaitReset, Ready, WaitStart, Normal, Delayed}
+use Rattle.rules.specs.declared.Signals.{Signals}
+use Rattle.rules.specs.declared.Slot.{Slot}
+use Rattle.rules.specs.Rules.{noSlot, noSignals, asks, same, isOn, isLatent, isExercised}
+use Rattle.effects.specs.Scan.{effectWord, latentWord, anyExercised}
+use Rattle.planes.specs.declared.Asked.{Asked}
+use Rattle.planes.specs.Planes.{planesOf}
+use Rattle.planes.specs.Table.{activeAt, askedOf, tableOf}
+use Rattle.planes.specs.Board.{signalsBy, signalsIn}
+use Rattle.planes.proofs.Quiet.{anyTo, none-set}
+use Rattle.settings.specs.declared.Settings.{Settings}
+use Rattle.settings.specs.declared.Words.{Words}
+use Rattle.settings.specs.Right.{limitsOf, settingsNumber, wordsNumber}
+use Rattle.settings.specs.Signals.{activeOf, badTrip, forcesCount, signals, signalsOf}
+use Rattle.settings.proofs.Right.{count-few, association-lt, Inside, inside}
+use Rattle.wiring.specs.Wiring.{associationAt, delayAt, wiringOf, trippedOf, askedBy}
+
+bit-none : (i : ℕ) → bitOf 0 i ≡ false
+bit-none i = ap (λ (x : ℕ). eqb (x % 2) 1) (zero-div (2 ^ i))
+
+-- a bit of a word that counts, or does not
+bit-if : (b : Bool) (w i : ℕ) → bitOf (cond b w 0) i ≡ (b && bitOf w i)
+bit-if true w i = refl
+bit-if false w i = bit-none i
+
+bit-all : (b : Bool) (n i : ℕ) → i < n → bitOf (cond b (wordOf (λ j. true) n) 0) i ≡ b
+bit-all true n i k = bit-wordOf (λ j. true) n i k
+bit-all false n i k = bit-none i
+
+signals-path : {a a′ : ℕ} {b b′ t t′ m m′ q p s r : Bool} {d d′ e : ℕ} → a ≡ a′ → b ≡ b′ → t ≡ t′ → m ≡ m′ → d ≡ d′
+    → _≡_ {A = Signals} (record { active = a; bad = b; trip = t; normal = m; require = q; permit = p; start = s; reset = r; delay = d; period = e })
+    (record { active = a′; bad = b′; trip = t′; normal = m′; require = q; permit = p; start = s; reset = r; delay = d′; period = e })
+signals-path {q = q} {p = p} {s = s} {r = r} {e = e} ea eb et em ed =
+    λ i. record { active = ea i; bad = eb i; trip = et i; normal = em i; require = q; permit = p; start = s; reset = r; delay = ed i; period = e }
+
+asked-path : {t t′ m m′ b b′ q q′ p p′ s s′ r r′ : ℕ} {a d : ℕ} → t ≡ t′ → m ≡ m′ → b ≡ b′ → q ≡ q′ → p ≡ p′ → s ≡ s′ → r ≡ r′
+    → _≡_ {A = Asked} (record { trip = t; normal = m; bad = b; active = a; require = q; permit = p; start = s; reset = r; delayed = d })
+    (record { trip = t′; normal = m′; bad = b′; active = a; require = q′; permit = p′; start = s′; reset = r′; delayed = d })
+asked-path {a = a} {d = d} et em eb eq ep es er =
+    λ i. record { trip = et i; normal = em i; bad = eb i; active = a; require = eq i; permit = ep i; start = es i; reset = er i; delayed = d }
+
+lt-if : (b : Bool) (w n : ℕ) → w < 2 ^ n → cond b w 0 < 2 ^ n
+lt-if true w n h = h
+lt-if false w n h = pow-pos n
+
+module _ (st : Settings) (right : settingsNumber st ≡ 0) (w : Words) (words : wordsNumber (limitsOf st) w ≡ 0) where
+  abbrev n : ℕ
+  n = st .count
+
+  abbrev causes : List ℕ
+  causes = tabulate (associationAt st) 16
+
+  abbrev delays : List ℕ
+  delays = tabulate (delayAt st) 16
+
+  abbrev asked : Asked
+  asked = askedBy (st .options) (wiringOf st) w
+
+  abbrev shown : ℕ → Signals
+  shown = signalsBy causes delays (st .period) (trippedOf w) asked
+
+  few : n ≤ 16
+  few = count-few st right
+
+  -- effect i sees what the words show
+  sees : (i : ℕ) → i < n → shown i ≡ signalsOf st w i
+  unfolding signalsBy signalsOf askedBy wiringOf
+  sees i k =
+      let l : i < 16 = lt-of-lt-of-le k few in
+      signals-path
+      (ap (λ (a : ℕ). bitAnd a (trippedOf w)) (getD-tabulate (associationAt st) 16 i 0 l) ∙ sym (and-assoc (associationAt st i) (65535 - w .mask) (65535 - w .values) (association-lt st right i k)))
+      (bit-all (badTrip (st .options) w) n i k)
+      (bit-if (forcesCount (st .options) w) (w .«force_trip») i)
+      (bit-if (forcesCount (st .options) w) (w .«force_normal») i)
+      (getD-tabulate (delayAt st) 16 i 0 l)
+
+  pub signals-are : signalsIn n causes delays (st .period) (trippedOf w) asked ≡ signals st w
+  signals-are = tabulate-ext shown (signalsOf st w) n sees
+
+  -- and the words are those of what they show
+  pub asked-right : asked ≡ askedOf n (λ i. asks (shown i))
+  unfolding askedOf signalsBy askedBy wiringOf
+  asked-right =
+      let h = inside (limitsOf st) w words in
+      let c = forcesCount (st .options) w in
+      asked-path
+      (sym (word-bits _ n (lt-if c (w .«force_trip») n (h .trip))))
+      (sym (word-bits _ n (lt-if c (w .«force_normal») n (h .normal))))
+      (sym (word-bits _ n (lt-if (badTrip (st .options) w) (wordOf (λ i. true) n) n (all-lt n))))
+      (sym (word-bits _ n (h .require)))
+      (sym (word-bits _ n (h .permit)))
+      (sym (word-bits _ n (h .start)))
+      (sym (word-bits _ n (h .reset)))
+    where
+      all-lt : (m : ℕ) → wordOf (λ i. true) m < 2 ^ m
+      all-lt m = wordOf-lt (λ i. true) m
+
+-- ## The words that are reported
+
+on-all : (p : EffectState) → (same p Normal || same p Delayed) ≡ isOn p
+on-all Tripped = refl
+on-all WaitReset = refl
+on-all Ready = refl
+on-all WaitStart = refl
+on-all Normal = refl
+on-all Delayed = refl
+
+-- the effect word
+pub effect-is : (m : ℕ) (xs : List Slot) → bitOr (tableOf m xs .planes .normal) (tableOf m xs .planes .delayed) ≡ effectWord m xs
+unfolding tableOf planesOf
+effect-is m xs = or-word _ _ m ∙ wordOf-ext _ _ m (λ i k. on-all (getD xs i noSlot .state))
+
+-- the latent word, of what is asked
+pub latent-is : (m : ℕ) (s : ℕ → Signals)
+    → bitAnd (askedOf m (λ i. asks (s i)) .normal) (bitOr (askedOf m (λ i. asks (s i)) .active) (askedOf m (λ i. asks (s i)) .bad)) ≡ latentWord (tabulate s m)
+unfolding askedOf
+latent-is m s =
+    simp (or-word, and-word)
+    (wordOf-ext _ _ m (λ i k. ap isLatent (sym (getD-tabulate s m i noSignals k))) ∙ ap (wordOf (λ i. isLatent (getD (tabulate s m) i noSignals))) (sym (length-tabulate s m)))
+
+-- some effect is exercised where the active word is not 0
+or-assoc : (a b c : Bool) → (a || (b || c)) ≡ ((a || b) || c)
+or-assoc true b c = refl
+or-assoc false b c = refl
+
+or-false : (a : Bool) → (a || false) ≡ a
+or-false true = refl
+or-false false = refl
+
+exercised-snoc : (ss : List Signals) (s : Signals) → anyExercised (ss ++ (s ∷ [])) ≡ (anyExercised ss || isExercised s)
+exercised-snoc [] s = or-false (isExercised s)
+exercised-snoc (r ∷ ss) s = ap (λ (b : Bool). isExercised r || b) (exercised-snoc ss s) ∙ or-assoc (isExercised r) (anyExercised ss) (isExercised s)
+
+exercised-upto : (s : ℕ → Signals) (m : ℕ) → anyTo (λ i. isExercised (s i)) m ≡ anyExercised (tabulate s m)
+unfolding anyTo tabulate
+exercised-upto s zero = refl
+exercised-upto s (suc m) = ap (λ (b : Bool). b || isExercised (s m)) (exercised-upto s m) ∙ sym (exercised-snoc (tabulate s m) (s m))
+
+twice : (b : Bool) → not (not b) ≡ b
+twice true = refl
+twice false = refl
+
+pub exercised-is : (m : ℕ) (s : ℕ → Signals) → not (eqb (askedOf m (λ i. asks (s i)) .active) 0) ≡ anyExercised (tabulate s m)
+unfolding askedOf
+exercised-is m s = ap not (none-set (λ i. isExercised (s i)) m) ∙ twice _ ∙ exercised-upto s m

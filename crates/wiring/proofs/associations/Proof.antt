@@ -1,0 +1,48 @@
+-- `wiring::associations` meets its contract. The loop's invariant: what stands before i is filled, and the rest is 0.
+use mathlib.Core.Path.{_≡_, refl}
+use mathlib.Core.List.{_++_, append-nil}
+use Prim.Native.Nat.{_≤_, _-_}
+use native.Mathlib.Omega.{arith}
+use lib.ListN.{drop, replicate}
+use Rattle.bits.specs.Lists.{tabulate}
+use Rattle.bits.proofs.Lists.{fill}
+use Rattle.wiring.specs.Wiring.{associationAt}
+use borrow.Author.Needs.{needs}
+use Rattle.wiring.proofs.associations.Statement.{statement}
+use Rattle.wiring.proofs.associations.Tie as tie
+
+abbrev Inv-loop : tie.InvT-loop
+Inv-loop st words₀ i₀ words i = (i ≤ 16) × (words ≡ tabulate (associationAt st) i ++ drop i (replicate 16 0))
+
+abbrev μ-loop : tie.MeasureT-loop
+μ-loop st words₀ i₀ words i = 16 - i
+
+loop-holds : tie.Need-loop-holds Inv-loop μ-loop
+unfolding tabulate
+loop-holds c = (search needs, refl)
+
+loop-again : tie.Need-loop-again Inv-loop μ-loop
+loop-again c =
+    let k = c .before .before in
+    (omega arith, rw (k .loop .inv .1) (fill _ (replicate 16 0) (k .loop .i) 0 (omega arith)))
+
+returns : tie.Need-returns Inv-loop μ-loop
+returns c =
+    let e : c .before .loop .i ≡ 16 = omega arith in
+    rw (c .before .loop .inv .1, e, append-nil)
+
+pub associations-spec : {M : Type 1} → statement M
+associations-spec =
+    tie.close
+    (tie.spec
+    Inv-loop
+    μ-loop
+    loop-holds
+    (λ c. search needs)
+    (λ c. search needs)
+    (λ c. search needs)
+    (λ c. search needs)
+    (λ c. search needs)
+    (λ c. search needs)
+    loop-again
+    returns)

@@ -1,0 +1,181 @@
+// What the settings and a row give to the words of effects: which causes and delays stand behind each effect, and what the
+// rules are asked of all of them. Document 01, "The rules of one scan".
+// This crate is the way to the algorithm of `planes`: no promise cites it. What an effect sees stands in the specs of settings.
+ghost use mathlib.Core.Path.{_≡_};
+ghost use mathlib.Core.Bool.{cond, true};
+ghost use Prim.Native.Nat.{_+_, _-_, _*_, _≤_};
+ghost use lib.Bits.{bitAnd};
+ghost use lib.Dec.{ltb};
+ghost use lib.ListN.{getD, length};
+ghost use lib.Seq.{sets};
+ghost use Rattle.bits.specs.Lists.{tabulate};
+ghost use Rattle.bits.specs.Words.{wordOf};
+ghost use Rattle.effects.specs.Records.{bytes};
+ghost use Rattle.rounds.specs.Steps.{held};
+ghost use Rattle.planes.specs.Table.{tableOf, slotsOf};
+ghost use Rattle.planes.specs.Board.{runOf};
+ghost use Rattle.settings.specs.Limits.{mostScans};
+ghost use Rattle.settings.specs.Right.{limitsOf, settingsNumber, rowNumber};
+ghost use Rattle.settings.specs.Signals.{signals};
+ghost use Rattle.wiring.specs.Wiring.{associationAt, delayAt, wiringOf, trippedOf, askedBy, strokedBy};
+use planes::Asked;
+use planes::Board;
+use settings::Row;
+use settings::Settings;
+use settings::Words;
+
+// What the settings give, made once for a recording: the effects' number, the period, the word of all effects and of those
+// with a delay, and their association words and delays.
+pub struct Wiring {
+    pub count: usize,
+    pub period: u32,
+    pub all: u16,
+    pub delayed: u16,
+    pub causes: [u16; 16],
+    pub delays: [u32; 16],
+}
+
+// What a held run comes to: how far, the effect and latent words of its last scan, and whether it exercises an effect.
+pub struct Stroked {
+    pub board: Board,
+    pub effect: u16,
+    pub latent: u16,
+    pub exercised: bool,
+}
+
+// ---- the settings
+
+fn associations(st: Settings) -> [u16; 16]
+    ensures { λ r. ⌜ r ≡ tabulate (associationAt st) 16 ⌝ }
+{
+    let mut words = [0u16; 16];
+    let mut i: usize = 0;
+    while i < 16 {
+        let e = st.effects[i];
+        words[i] = e.association;
+        i += 1;
+    }
+    words
+}
+
+fn delays(st: Settings) -> [u32; 16]
+    ensures { λ r. ⌜ r ≡ tabulate (delayAt st) 16 ⌝ }
+{
+    let mut times = [0u32; 16];
+    let mut i: usize = 0;
+    while i < 16 {
+        let e = st.effects[i];
+        times[i] = e.delay;
+        i += 1;
+    }
+    times
+}
+
+// The word of all effects.
+fn all_word(count: usize) -> u16
+    requires { ⌜ count ≤ 16 ⌝ }
+    ensures { λ r. ⌜ r ≡ wordOf (λ i. true) count ⌝ }
+{
+    let mut word: u16 = 0;
+    let mut i: usize = 0;
+    while i < count {
+        word = bits::put_bit(word, i, true);
+        i += 1;
+    }
+    word
+}
+
+// The effects with a delay.
+fn delayed_word(count: usize, times: &[u32; 16]) -> u16
+    requires { ⌜ count ≤ 16 ⌝ }
+    ensures { λ r. ⌜ r ≡ wordOf (λ i. ltb 0 (getD (now (times .entry)) i 0)) count ⌝ }
+{
+    let mut word: u16 = 0;
+    let mut i: usize = 0;
+    while i < count {
+        word = bits::put_bit(word, i, 0 < times[i]);
+        i += 1;
+    }
+    word
+}
+
+pub fn wiring_of(st: Settings) -> Wiring
+    requires { ⌜ st .count ≤ 16 ⌝ }
+    ensures { λ r. ⌜ r ≡ wiringOf st ⌝ }
+{
+    let count = st.count as usize;
+    let times = delays(st);
+    Wiring {
+        count,
+        period: st.period as u32,
+        all: all_word(count),
+        delayed: delayed_word(count, &times),
+        causes: associations(st),
+        delays: times,
+    }
+}
+
+// ---- a row
+
+fn word_if(b: bool, word: u16) -> u16
+    ensures { λ r. ⌜ r ≡ cond b word 0 ⌝ }
+{
+    if b { word } else { 0 }
+}
+
+// The causes that are tripped and not masked.
+fn tripped_causes(w: Words) -> u16
+    ensures { λ r. ⌜ r ≡ trippedOf w ⌝ }
+{
+    !w.mask & !w.values
+}
+
+// What the rules are asked.
+fn asked_by(options: u8, x: Wiring, w: Words) -> Asked
+    requires { ⌜ x .count ≤ 16 ⌝ }
+    ensures { λ r. ⌜ r ≡ askedBy options x w ⌝ }
+{
+    let counts = settings::forces_count(options, w);
+    let causes = x.causes;
+    Asked {
+        trip: word_if(counts, w.force_trip),
+        normal: word_if(counts, w.force_normal),
+        bad: word_if(settings::bad_trip(options, w), x.all),
+        active: planes::active_word(x.count, &causes, tripped_causes(w)),
+        require: w.require_reset,
+        permit: w.reset_permit,
+        start: w.start_permit,
+        reset: w.reset,
+        delayed: x.delayed,
+    }
+}
+
+// A held run of a row that is right, in one stroke. Its records go to the front of the buffer.
+pub fn stroke(buf: &mut [u8], st: Settings, x: Wiring, row: Row, from: Board) -> Stroked
+    requires { ⌜ (settingsNumber st ≡ 0) × (x ≡ wiringOf st) × (rowNumber (limitsOf st) row ≡ 0) × (from .done + row .hold ≤ mostScans) × (from .table ≡ tableOf (st .count) (slotsOf (st .count) (from .table))) × (24 * st .count ≤ length (now buf)) ⌝ }
+    ensures { λ r. ⌜ (r ≡ strokedBy st (row .words) (held (signals st (row .words)) (row .hold) (runOf (st .count) from))) × (now (buf .exit) ≡ sets (now (buf .entry)) 0 (bytes (held (signals st (row .words)) (row .hold) (runOf (st .count) from) .events))) ⌝ }
+{
+    let words = row.words;
+    let asked = asked_by(st.options, x, words);
+    let causes = x.causes;
+    let times = x.delays;
+    let board = planes::stroke(
+        buf,
+        row.hold,
+        x.count,
+        &causes,
+        &times,
+        x.period,
+        tripped_causes(words),
+        asked,
+        from,
+    );
+    let table = board.table;
+    let p = table.planes;
+    Stroked {
+        board,
+        effect: p.normal | p.delayed,
+        latent: asked.normal & (asked.active | asked.bad),
+        exercised: asked.active != 0,
+    }
+}
