@@ -1,0 +1,197 @@
+-- The rows of an accepted file, replayed row by row: what the first rows come to, and that the replay is what they come to.
+use mathlib.Core.Path.{_≡_, refl, sym, ap, _∙_}
+use mathlib.Core.List.{List, [], _∷_, _++_}
+use mathlib.Core.Logic.{_⊎_, inl, inr}
+use Prim.Native.Nat.{ℕ, zero, suc, _+_, _*_, _≤_, _<_}
+use native.Mathlib.Nat.{zero-add}
+use native.Mathlib.Numerals.{add-one}
+use native.Mathlib.Omega.{arith}
+use borrow.Author.Tests.{leb-true}
+use lib.Dec.{leb}
+use lib.ListN.{length, take, drop, take-append-drop}
+use lib.Seq.{take-suc, take-add, take-all, length-take-le}
+use Rattle.settings.specs.declared.Settings.{Settings}
+use Rattle.settings.specs.Limits.{mostScans}
+use Rattle.settings.specs.Right.{limitsOf, settingsNumber, rowNumber}
+use Rattle.settings.proofs.Refusals.{unless-none}
+use Rattle.block.specs.Scan.{scansNumber, granted}
+use Rattle.block.proofs.Demands.{a-fresh-state-is-right, records-fit-384-bytes}
+use Rattle.recording.specs.declared.Answer.the-variants as A
+use Rattle.recording.specs.Answers.{number, place, rowCount, firstRow, rowWidth, noRow}
+use Rattle.recording.specs.Encode.{Right}
+use Rattle.recording.specs.Reader.{reading}
+use Rattle.recording.specs.Steps.{rowsOf}
+use Rattle.recording.proofs.Cases.{not-accepted}
+use Rattle.recording.proofs.Theorems.{accepted-case, accepted-is-right}
+use Rattle.recording.proofs.Trips.{length-rowsOf}
+use Rattle.rerun.specs.Replay.{Outcome, whole, started, joined, refusedAt, replayRows, replay, firstRows, rowOf, rowPlace, rowRun, sumOfHolds}
+use Rattle.rerun.proofs.Rows.{Sound, unless-refuses, past, granted-none, granted-refused, then-the-others, refusal-ends, none-refused-whole, rows-counted, sound-after, within-scans, sound-rows, done-is-holds, all-take, all-at}
+
+module _ (s : List ℕ) where
+  abbrev st : Settings
+  st = reading s .settings
+
+  pub no-rows : firstRows s 0 ≡ whole started
+  unfolding firstRows
+  no-rows = refl
+
+  length-first : (i : ℕ) → i ≤ rowCount (reading s .answer) → length (take i (rowsOf s)) ≡ i
+  length-first i l = length-take-le i (rowsOf s) (omega (arith, length-rowsOf s))
+
+  -- one row more
+  pub one-row-more : (i : ℕ) → i < rowCount (reading s .answer) → firstRows s i .number ≡ 0
+      → let r = firstRows s i .replay in
+      firstRows s (i + 1) ≡ granted (scansNumber (r .state .done) (rowOf s i .hold)) (whole (joined r (rowRun s i))) (refusedAt (rowPlace s i) r)
+  unfolding firstRows rowRun
+  one-row-more i l z =
+      let front = take i (rowsOf s) in
+      let more : take (i + 1) (rowsOf s) ≡ front ++ (rowOf s i ∷ []) = rw add-one (take-suc (rowsOf s) i noRow (omega (arith, length-rowsOf s))) in
+      ap (replayRows s) more
+      ∙ then-the-others st (rowWidth (reading s .answer)) front (rowOf s i ∷ []) (firstRow (reading s .answer)) started z
+      ∙ rw (length-first i (omega arith))
+
+  -- the replay of an accepted file is that of its rows
+  accepted-replay : number (reading s .answer) ≡ 0 → replay s ≡ replayRows s (rowsOf s)
+  unfolding replay
+  accepted-replay a = granted-none (replayRows s (rowsOf s)) (refusedAt (place (reading s .answer)) started) (number (reading s .answer)) a
+
+  -- that of a refused file has run nothing
+  pub refused-replay : (n p : ℕ) → reading s .answer ≡ A.Refused n p → replay s ≡ refusedAt p started n
+  unfolding replay
+  refused-replay n p e =
+      granted-refused (replayRows s (rowsOf s)) (refusedAt (place (reading s .answer)) started) (number (reading s .answer)) (λ z. not-accepted n p _ _ _ (sym e ∙ accepted-case s z))
+      ∙ (λ j. refusedAt (place (e j)) started (number (e j)))
+
+  -- a refused row ends it
+  pub ends-at-refusal : number (reading s .answer) ≡ 0 → (i : ℕ) → (firstRows s i .number ≡ 0 → ⊥) → replay s ≡ firstRows s i
+  unfolding firstRows
+  ends-at-refusal a i h =
+      accepted-replay a
+      ∙ ap (replayRows s) (sym (take-append-drop i (rowsOf s)))
+      ∙ refusal-ends st (rowWidth (reading s .answer)) (take i (rowsOf s)) (drop i (rowsOf s)) (firstRow (reading s .answer)) started h
+
+  pub all-the-rows : number (reading s .answer) ≡ 0 → replay s ≡ firstRows s (rowCount (reading s .answer))
+  unfolding firstRows
+  all-the-rows a =
+      accepted-replay a
+      ∙ ap (replayRows s) (sym (take-all (rowCount (reading s .answer)) (rowsOf s) (omega (arith, length-rowsOf s))))
+
+  pub counted : (i : ℕ) → i ≤ rowCount (reading s .answer) → firstRows s i .number ≡ 0 → firstRows s i .replay .rows ≡ i
+  unfolding firstRows
+  counted i l z =
+      rows-counted st (rowWidth (reading s .answer)) (take i (rowsOf s)) (firstRow (reading s .answer)) started z ∙ omega (arith, length-first i l)
+
+  pub whole-so-far : (i : ℕ) → firstRows s i .number ≡ 0 → firstRows s i ≡ whole (firstRows s i .replay)
+  unfolding firstRows
+  whole-so-far i z = none-refused-whole st (rowWidth (reading s .answer)) (take i (rowsOf s)) (firstRow (reading s .answer)) started z
+
+  -- after a refused row nothing changes
+  stays-refused : (i : ℕ) → (firstRows s i .number ≡ 0 → ⊥) → firstRows s (i + 1) ≡ firstRows s i
+  unfolding firstRows
+  stays-refused i h =
+      ap (replayRows s) (take-add i 1 (rowsOf s))
+      ∙ refusal-ends st (rowWidth (reading s .answer)) (take i (rowsOf s)) (take 1 (drop i (rowsOf s))) (firstRow (reading s .answer)) started h
+
+  -- what holds at the start, and then after each row that runs and at the row that is refused, holds of any first rows
+  module _ (P : Outcome → Type 0) (at-start : P (whole started)) where
+    abbrev pub Before : ℕ → Type 0
+    Before i = (i < rowCount (reading s .answer)) × (firstRows s i .number ≡ 0) × (firstRows s i .replay .rows ≡ i) × P (firstRows s i)
+
+    abbrev numberOf : ℕ → ℕ
+    numberOf i = scansNumber (firstRows s i .replay .state .done) (rowOf s i .hold)
+
+    module _ (runs : (i : ℕ) → Before i → numberOf i ≡ 0 → P (whole (joined (firstRows s i .replay) (rowRun s i))))
+        (refuses : (i : ℕ) → Before i → (numberOf i ≡ 0 → ⊥) → P (refusedAt (rowPlace s i) (firstRows s i .replay) (numberOf i))) where
+      one-more : (i : ℕ) → Before i → (n : ℕ) → numberOf i ≡ n → P (granted (numberOf i) (whole (joined (firstRows s i .replay) (rowRun s i))) (refusedAt (rowPlace s i) (firstRows s i .replay)))
+      one-more i b zero e = rw (granted-none (whole (joined (firstRows s i .replay) (rowRun s i))) (refusedAt (rowPlace s i) (firstRows s i .replay)) (numberOf i) e) (runs i b e)
+      one-more i b (suc n) e =
+          let h : numberOf i ≡ 0 → ⊥ = λ z. omega (arith, e, z) in
+          rw (granted-refused (whole (joined (firstRows s i .replay) (rowRun s i))) (refusedAt (rowPlace s i) (firstRows s i .replay)) (numberOf i) h) (refuses i b h)
+
+      next-row : (i : ℕ) → i < rowCount (reading s .answer) → (n : ℕ) → firstRows s i .number ≡ n → P (firstRows s i) → P (firstRows s (i + 1))
+      next-row i l zero e p = rw (one-row-more i l e) (one-more i (l, e, counted i (omega arith) e, p) (numberOf i) refl)
+      next-row i l (suc n) e p = rw (stays-refused i (λ z. omega (arith, e, z))) p
+
+      pub by-rows : (i : ℕ) → i ≤ rowCount (reading s .answer) → P (firstRows s i)
+      by-rows zero l = rw no-rows at-start
+      by-rows (suc i) l = rw (← add-one i) (next-row i (omega arith) (firstRows s i .number) refl (by-rows i (omega arith)))
+
+  -- ## How it ends
+
+  abbrev Stopped : Outcome → Type 0
+  Stopped o =
+      (o .number ≡ 9)
+      × (o .place ≡ rowPlace s (o .replay .rows))
+      × (o .replay .rows < rowCount (reading s .answer))
+      × (mostScans < o .replay .state .done + rowOf s (o .replay .rows) .hold)
+
+  abbrev Ended : Outcome → Type 0
+  Ended o = ((o .number ≡ 0) × (o .place ≡ 0)) ⊎ Stopped o
+
+  stopped : (i : ℕ) → Before Ended (inl (refl, refl)) i → (scansNumber (firstRows s i .replay .state .done) (rowOf s i .hold) ≡ 0 → ⊥)
+      → Ended (refusedAt (rowPlace s i) (firstRows s i .replay) (scansNumber (firstRows s i .replay .state .done) (rowOf s i .hold)))
+  stopped i b h =
+      let r = firstRows s i .replay in
+      inr (
+        unless-refuses (leb (r .state .done + rowOf s i .hold) mostScans) 9 h,
+        ap (rowPlace s) (sym (b .2)),
+        omega (arith, b .0, b .2),
+        rw (b .2) (past (r .state .done + rowOf s i .hold) mostScans h),
+      )
+
+  ended : (o : Outcome) → (o .number ≡ 0 → o .replay .rows ≡ rowCount (reading s .answer)) → Ended o
+      → ((o .number ≡ 0) × (o .place ≡ 0) × (o .replay .rows ≡ rowCount (reading s .answer))) ⊎ Stopped o
+  ended o f (inl h) = inl (h .0, h .1, f (h .0))
+  ended o f (inr h) = inr h
+
+  pub how-it-ends : number (reading s .answer) ≡ 0
+      → ((replay s .number ≡ 0) × (replay s .place ≡ 0) × (replay s .replay .rows ≡ rowCount (reading s .answer))) ⊎ Stopped (replay s)
+  how-it-ends a =
+      let all = rowCount (reading s .answer) in
+      rw (all-the-rows a) (ended (firstRows s all) (counted all (omega arith)) (by-rows Ended (inl (refl, refl)) (λ i b z. inl (refl, refl)) stopped all (omega arith)))
+
+  -- ## What is known of an accepted file
+
+  module _ (a : number (reading s .answer) ≡ 0) where
+    right : Right st (rowsOf s)
+    right = accepted-is-right s a
+
+    pub settings-right : settingsNumber st ≡ 0
+    settings-right = right .settings
+
+    pub row-right : (i : ℕ) → i < rowCount (reading s .answer) → rowNumber (limitsOf st) (rowOf s i) ≡ 0
+    row-right i l = all-at (rowNumber (limitsOf st)) i (rowsOf s) noRow (omega (arith, length-rowsOf s)) (right .each-row)
+
+    pub few-rows : rowCount (reading s .answer) ≤ 2048
+    few-rows = omega (arith, length-rowsOf s, right .rows-most)
+
+    started-sound : Sound st started
+    started-sound = record { state = a-fresh-state-is-right st; live = omega arith; exercised = omega arith }
+
+    -- the state that any of the first rows leave is right
+    pub sound : (i : ℕ) → Sound st (firstRows s i .replay)
+    unfolding firstRows
+    sound i =
+        sound-rows st (right .settings) (rowWidth (reading s .answer)) (firstRow (reading s .answer)) (take i (rowsOf s))
+        (all-take (rowNumber (limitsOf st)) i (rowsOf s) (right .each-row)) started started-sound
+
+    pub scans-done : replay s .number ≡ 0 → replay s .replay .state .done ≡ sumOfHolds (rowsOf s)
+    scans-done =
+        rw (accepted-replay a)
+        (λ z. done-is-holds st (right .settings) (rowWidth (reading s .answer)) (firstRow (reading s .answer)) (rowsOf s) (right .each-row) started started-sound z ∙ zero-add _)
+
+    -- and so is the one that row i leaves, where its scans can be counted
+    module _ (i : ℕ) (l : i < rowCount (reading s .answer)) (z : scansNumber (firstRows s i .replay .state .done) (rowOf s i .hold) ≡ 0) where
+      pub sound-next : Sound st (joined (firstRows s i .replay) (rowRun s i))
+      unfolding rowRun
+      sound-next = sound-after st settings-right (rowOf s i) (row-right i l) (firstRows s i .replay) (sound i) z
+
+      pub scans-next : rowRun s i .state .done ≤ mostScans
+      unfolding rowRun
+      scans-next = within-scans st settings-right (rowOf s i) (row-right i l) (firstRows s i .replay) (sound i) z
+
+      pub records-next : 12 * length (rowRun s i .events) ≤ 384
+      unfolding rowRun
+      records-next =
+          records-fit-384-bytes st (rowOf s i) (firstRows s i .replay .state) settings-right (sound i .state) (row-right i l)
+          (leb-true (firstRows s i .replay .state .done + rowOf s i .hold) mostScans (unless-none _ 8 z))

@@ -1,0 +1,5 @@
+pub mod Rows
+pub mod Files
+pub mod Turns
+pub mod Theorems
+pub mod Session

@@ -1,0 +1,172 @@
+-- Laws of rows that are replayed one after the other: what follows rows that were all replayed, that a refusal ends it, and
+-- what stays so from row to row (the state is right, and the counts are small).
+use mathlib.Core.Path.{_≡_, refl, ap, _∙_}
+use mathlib.Core.Bool.{Bool, true, false}
+use mathlib.Core.List.{List, [], _∷_, _++_}
+use Prim.Native.Nat.{ℕ, zero, suc, _+_, _*_, _≤_, _<_}
+use native.Mathlib.Nat.{add-zero, mul-suc, mul-zero}
+use native.Mathlib.Omega.{arith}
+use borrow.Author.Tests.{leb-true, leb-false}
+use lib.Dec.{leb}
+use lib.ListN.{length, getD, take}
+use Rattle.bits.specs.Words.{one}
+use Rattle.effects.specs.Scan.{anyExercised}
+use Rattle.settings.specs.declared.Settings.{Settings}
+use Rattle.settings.specs.declared.Row.{Row}
+use Rattle.settings.specs.Limits.{mostScans}
+use Rattle.settings.specs.Right.{limitsOf, settingsNumber, rowNumber}
+use Rattle.settings.specs.Signals.{signals}
+use Rattle.settings.specs.Refusals.{unless, orElse}
+use Rattle.settings.proofs.Refusals.{unless-none}
+use Rattle.settings.proofs.Right.{count-few}
+use Rattle.block.specs.State.{stateNumber}
+use Rattle.block.specs.Scan.{scansNumber, granted}
+use Rattle.block.specs.Held.{run}
+use Rattle.block.proofs.Demands.{a-held-run-keeps-right, live-at-most-twice-the-effects, exercised-is-the-hold-or-nothing, scans-done-grow-by-the-hold}
+use Rattle.recording.specs.Encode.{All}
+use Rattle.rerun.specs.Replay.{Replay, Outcome, whole, afterRow, refusedAt, rowsFrom, sumOfHolds}
+
+-- ## What is given by a number
+
+module _ {A : Type 0} (a : A) (f : ℕ → A) where
+  pub granted-none : (n : ℕ) → n ≡ 0 → granted n a f ≡ a
+  granted-none zero e = refl
+  granted-none (suc k) e = absurd (omega (arith, e))
+
+  pub granted-refused : (n : ℕ) → (n ≡ 0 → ⊥) → granted n a f ≡ f n
+  granted-refused zero h = absurd (h refl)
+  granted-refused (suc k) h = refl
+
+  -- what holds in both cases
+  pub granted-either : (P : A → Type 0) (n : ℕ) → (n ≡ 0 → P a) → ((k : ℕ) → P (f k)) → P (granted n a f)
+  granted-either P zero g h = g refl
+  granted-either P (suc k) g h = h (suc k)
+
+  granted-alike : (n : ℕ) (b : A) → (n ≡ 0 → b ≡ a) → granted n b f ≡ granted n a f
+  granted-alike zero b h = h refl
+  granted-alike (suc k) b h = refl
+
+pub unless-refuses : (ok : Bool) (n : ℕ) → (unless ok n ≡ 0 → ⊥) → unless ok n ≡ n
+unless-refuses true n h = absurd (h refl)
+unless-refuses false n h = refl
+
+pub first-alone : (n m : ℕ) → (n ≡ 0 → m ≡ 0) → orElse n m ≡ n
+first-alone zero m h = h refl
+first-alone (suc n) m h = refl
+
+pub past : (a most : ℕ) → (unless (leb a most) 9 ≡ 0 → ⊥) → most < a
+past a most h = go (leb a most) refl
+  where
+    go : (b : Bool) → leb a most ≡ b → most < a
+    go true e = absurd (h (rw e))
+    go false e = leb-false a most e
+
+-- an outcome without refusal: neither the row's nor one after it
+none-refused : (n at : ℕ) (r : Replay) (o : Outcome) → granted n o (refusedAt at r) .number ≡ 0 → (n ≡ 0) × (o .number ≡ 0)
+none-refused zero at r o h = (refl, h)
+none-refused (suc k) at r o h = absurd (omega (arith, h))
+
+-- ## Rows and those after them
+
+module _ (st : Settings) (w : ℕ) where
+  -- rows that are all replayed are followed by the others, from what they have given
+  pub then-the-others : (xs ys : List Row) (at : ℕ) (r : Replay) → rowsFrom st w at xs r .number ≡ 0
+      → rowsFrom st w at (xs ++ ys) r ≡ rowsFrom st w (at + w * length xs) ys (rowsFrom st w at xs r .replay)
+  then-the-others [] ys at r h = rw (mul-zero, add-zero)
+  then-the-others (x ∷ xs) ys at r h =
+      let n = scansNumber (r .state .done) (x .hold) in
+      let p = none-refused n at r (rowsFrom st w (at + w) xs (afterRow st x r)) h in
+      let place : at + w + w * length xs ≡ at + w * suc (length xs) = omega (arith, mul-suc w (length xs)) in
+      rw (p .0, ← place) (then-the-others xs ys (at + w) (afterRow st x r) (p .1))
+
+  -- a refusal among the first ends it
+  pub refusal-ends : (xs ys : List Row) (at : ℕ) (r : Replay) → (rowsFrom st w at xs r .number ≡ 0 → ⊥) → rowsFrom st w at (xs ++ ys) r ≡ rowsFrom st w at xs r
+  refusal-ends [] ys at r h = absurd (h refl)
+  refusal-ends (x ∷ xs) ys at r h =
+      let n = scansNumber (r .state .done) (x .hold) in
+      let o = rowsFrom st w (at + w) xs (afterRow st x r) in
+      granted-alike o (refusedAt at r) n (rowsFrom st w (at + w) (xs ++ ys) (afterRow st x r))
+      (λ z. refusal-ends xs ys (at + w) (afterRow st x r) (λ q. h (ap (λ (v : Outcome). v .number) (granted-none o (refusedAt at r) n z) ∙ q)))
+
+  -- where no row is refused the place is 0 too
+  pub none-refused-whole : (xs : List Row) (at : ℕ) (r : Replay) → rowsFrom st w at xs r .number ≡ 0 → rowsFrom st w at xs r ≡ whole (rowsFrom st w at xs r .replay)
+  none-refused-whole [] at r h = refl
+  none-refused-whole (x ∷ xs) at r h =
+      let n = scansNumber (r .state .done) (x .hold) in
+      let p = none-refused n at r (rowsFrom st w (at + w) xs (afterRow st x r)) h in
+      rw (p .0) (none-refused-whole xs (at + w) (afterRow st x r) (p .1))
+
+  -- the rows are counted
+  pub rows-counted : (xs : List Row) (at : ℕ) (r : Replay) → rowsFrom st w at xs r .number ≡ 0 → rowsFrom st w at xs r .replay .rows ≡ r .rows + length xs
+  rows-counted [] at r h = omega arith
+  rows-counted (x ∷ xs) at r h =
+      let n = scansNumber (r .state .done) (x .hold) in
+      let p = none-refused n at r (rowsFrom st w (at + w) xs (afterRow st x r)) h in
+      rw (p .0) (omega (arith, rows-counted xs (at + w) (afterRow st x r) (p .1)))
+
+-- ## What stays so
+
+pub record Sound (st : Settings) (r : Replay) : Type 0 where
+  pub state : stateNumber st (r .state) ≡ 0
+  pub live : r .live ≤ 32 * r .rows
+  pub exercised : r .exercised ≤ r .state .done
+
+module _ (st : Settings) (right : settingsNumber st ≡ 0) where
+  module _ (row : Row) (right-row : rowNumber (limitsOf st) row ≡ 0) (r : Replay) (sound : Sound st r) (z : scansNumber (r .state .done) (row .hold) ≡ 0) where
+    scans : r .state .done + row .hold ≤ mostScans
+    scans = leb-true (r .state .done + row .hold) mostScans (unless-none _ 8 z)
+
+    pub done-after : run st row (r .state) .state .done ≡ r .state .done + row .hold
+    done-after = scans-done-grow-by-the-hold st row (r .state) right (sound .state) right-row scans
+
+    exercised-few : run st row (r .state) .exercised ≤ row .hold
+    exercised-few = rw (exercised-is-the-hold-or-nothing st row (r .state) right (sound .state) right-row scans) (some (anyExercised (signals st (row .words))))
+      where
+        some : (b : Bool) → row .hold * one b ≤ row .hold
+        some true = omega arith
+        some false = omega arith
+
+    live-few : run st row (r .state) .live ≤ 32
+    live-few = omega (arith, live-at-most-twice-the-effects st row (r .state) right (sound .state) right-row scans, count-few st right)
+
+    -- one row more, and what the counts then come to
+    pub sound-after : Sound st (afterRow st row r)
+    sound-after =
+        record {
+          state = a-held-run-keeps-right st row (r .state) right (sound .state) right-row scans;
+          live = omega (arith, live-few, sound .live);
+          exercised = omega (arith, exercised-few, done-after, sound .exercised);
+        }
+
+    pub within-scans : run st row (r .state) .state .done ≤ mostScans
+    within-scans = omega (arith, done-after, scans)
+
+  pub sound-rows : (w at : ℕ) (xs : List Row) → All (rowNumber (limitsOf st)) xs → (r : Replay) → Sound st r → Sound st (rowsFrom st w at xs r .replay)
+  sound-rows w at [] all r sound = sound
+  sound-rows w at (x ∷ xs) all r sound =
+      granted-either (rowsFrom st w (at + w) xs (afterRow st x r)) (refusedAt at r) (λ o. Sound st (o .replay)) (scansNumber (r .state .done) (x .hold))
+      (λ z. sound-rows w (at + w) xs (all .1) (afterRow st x r) (sound-after x (all .0) r sound z))
+      (λ k. sound)
+
+  -- the scans done are the holds of the rows
+  pub done-is-holds : (w at : ℕ) (xs : List Row) → All (rowNumber (limitsOf st)) xs → (r : Replay) → Sound st r → rowsFrom st w at xs r .number ≡ 0
+      → rowsFrom st w at xs r .replay .state .done ≡ r .state .done + sumOfHolds xs
+  done-is-holds w at [] all r sound h = omega arith
+  done-is-holds w at (x ∷ xs) all r sound h =
+      let n = scansNumber (r .state .done) (x .hold) in
+      let p = none-refused n at r (rowsFrom st w (at + w) xs (afterRow st x r)) h in
+      let e = done-is-holds w (at + w) xs (all .1) (afterRow st x r) (sound-after x (all .0) r sound (p .0)) (p .1) in
+      rw (p .0) (omega (arith, e, done-after x (all .0) r sound (p .0)))
+
+-- ## Of all rows, some
+
+module _ {A : Type 0} (check : A → ℕ) where
+  pub all-take : (i : ℕ) (xs : List A) → All check xs → All check (take i xs)
+  all-take zero xs h = tt
+  all-take (suc i) [] h = tt
+  all-take (suc i) (x ∷ xs) h = (h .0, all-take i xs (h .1))
+
+  pub all-at : (i : ℕ) (xs : List A) (d : A) → i < length xs → All check xs → check (getD xs i d) ≡ 0
+  all-at i [] d l h = absurd (omega arith)
+  all-at zero (x ∷ xs) d l h = h .0
+  all-at (suc i) (x ∷ xs) d l h = all-at i xs d (omega arith) (h .1)

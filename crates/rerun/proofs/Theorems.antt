@@ -1,0 +1,102 @@
+-- What is promised of a whole replay, each theorem stated once by what it says. Document 01, "One session, whole". `replay s` is
+-- what the bytes s come to; `firstRows s i` and `rowRun s i` are what the code gives row by row (`Turns` has the laws for a
+-- caller's loop: it begins, goes on, stops and ends).
+use mathlib.Core.Path.{_≡_, refl, ap, _∙_}
+use mathlib.Core.Bool.{Bool}
+use mathlib.Core.List.{List, _++_}
+use mathlib.Core.Logic.{_⊎_}
+use Prim.Native.Nat.{ℕ, _+_, _*_, _≤_, _<_}
+use native.Mathlib.Numerals.{add-one}
+use native.Mathlib.Omega.{arith}
+use borrow.Author.Tests.{le-leb}
+use lib.ListN.{length}
+use Rattle.effects.specs.declared.Event.{Event}
+use Rattle.settings.specs.Limits.{mostScans}
+use Rattle.settings.specs.Refusals.{unless, orElse}
+use Rattle.block.specs.State.{stateNumber}
+use Rattle.block.specs.Scan.{scansNumber, roomNumber, inputNumber, granted}
+use Rattle.block.specs.Held.{run, grantedHeld, refusedHeld, heldNumber, heldOf}
+use Rattle.recording.specs.Answers.{number, place, rowCount}
+use Rattle.recording.specs.Reader.{reading}
+use Rattle.recording.specs.Steps.{rowsOf}
+use Rattle.recording.proofs.Theorems.{Accepted}
+use Rattle.rerun.specs.Replay.{Outcome, whole, started, joined, refusedAt, replayRows, replay, firstRows, rowOf, rowPlace, rowRun, eventsOf, sumOfHolds}
+use Rattle.rerun.proofs.Rows.{first-alone, granted-refused}
+use Rattle.rerun.proofs.Files as files
+use Rattle.rerun.proofs.Files.{by-rows}
+
+-- ## Row by row
+
+-- a refused file: the reader's number and place, and nothing has run
+pub a-refused-file-is-not-run : (s : List ℕ) → (Accepted s → ⊥) → replay s ≡ refusedAt (place (reading s .answer)) started (number (reading s .answer))
+unfolding replay
+a-refused-file-is-not-run s h = granted-refused (replayRows s (rowsOf s)) (refusedAt (place (reading s .answer)) started) (number (reading s .answer)) h
+
+-- an accepted one: all its rows
+pub a-replay-is-all-its-rows : (s : List ℕ) → Accepted s → replay s ≡ firstRows s (rowCount (reading s .answer))
+a-replay-is-all-its-rows = files.all-the-rows
+
+-- no row gives nothing; each row more runs from where those before it left off, or is refused at its first byte
+pub no-rows-give-nothing : (s : List ℕ) → firstRows s 0 ≡ whole started
+no-rows-give-nothing = files.no-rows
+
+pub one-row-more : (s : List ℕ) (i : ℕ) → i < rowCount (reading s .answer) → firstRows s i .number ≡ 0
+    → let r = firstRows s i .replay in
+    firstRows s (i + 1) ≡ granted (scansNumber (r .state .done) (rowOf s i .hold)) (whole (joined r (rowRun s i))) (refusedAt (rowPlace s i) r)
+one-row-more = files.one-row-more
+
+-- a refused row ends the replay
+pub a-refused-row-ends-the-replay : (s : List ℕ) → Accepted s → (i : ℕ) → (firstRows s i .number ≡ 0 → ⊥) → replay s ≡ firstRows s i
+a-refused-row-ends-the-replay = files.ends-at-refusal
+
+module _ (s : List ℕ) (accepted : Accepted s) where
+  -- the replay, by what holds of its first rows
+  of-all : (P : Outcome → Type 0) → ((i : ℕ) → i ≤ rowCount (reading s .answer) → P (firstRows s i)) → P (replay s)
+  of-all P h = rw (a-replay-is-all-its-rows s accepted) (h (rowCount (reading s .answer)) (omega arith))
+
+  -- the events of the whole are those of its rows, joined, up to the refused row
+  pub events-are-the-rows-joined : replay s .replay .events ≡ eventsOf s (replay s .replay .rows)
+  events-are-the-rows-joined =
+      of-all (λ o. o .replay .events ≡ eventsOf s (o .replay .rows))
+      (by-rows s (λ o. o .replay .events ≡ eventsOf s (o .replay .rows)) refl
+      (λ i b z. rw (add-one (firstRows s i .replay .rows)) (rw (b .2) (ap (λ (l : List Event). l ++ rowRun s i .events) (b .3 ∙ ap (eventsOf s) (b .2)))))
+      (λ i b h. b .3))
+
+  -- ## What refuses a row
+
+  -- with 384 lent bytes, every row gets the answer of a held run that is right and has room: 9 is all that can refuse it, and
+  -- neither 8 nor 10 nor 2 to 6 comes up
+  pub a-row-is-refused-by-9-alone : (i : ℕ) → i < rowCount (reading s .answer)
+      → let st = reading s .settings in let x = firstRows s i .replay .state in
+      (stateNumber st x ≡ 0) × (heldOf st (rowOf s i) x 384 ≡ granted (scansNumber (x .done) (rowOf s i .hold)) (grantedHeld st (rowOf s i) x) (refusedHeld x))
+  unfolding heldOf heldNumber inputNumber rowRun
+  a-row-is-refused-by-9-alone i l =
+      let st = reading s .settings in
+      let x = firstRows s i .replay .state in
+      let n = scansNumber (x .done) (rowOf s i .hold) in
+      let due = length (run st (rowOf s i) x .events) in
+      let state = files.sound s accepted i .state in
+      let input : inputNumber st x (rowOf s i) ≡ n = rw (files.settings-right s accepted, state, files.row-right s accepted i l) in
+      let room : n ≡ 0 → roomNumber due 384 ≡ 0 = λ z. ap (λ (b : Bool). unless b 10) (le-leb (12 * due) 384 (files.records-next s accepted i l z)) in
+      (state, ap (λ (k : ℕ). granted k (grantedHeld st (rowOf s i) x) (refusedHeld x)) (ap (λ (k : ℕ). orElse k (roomNumber due 384)) input ∙ first-alone n (roomNumber due 384) room))
+
+  -- an accepted file is replayed whole, or stops at the row whose scans cannot be counted
+  pub whole-or-stopped : let o = replay s in let r = replay s .replay in
+      ((o .number ≡ 0) × (o .place ≡ 0) × (r .rows ≡ rowCount (reading s .answer)))
+      ⊎ ((o .number ≡ 9) × (o .place ≡ rowPlace s (r .rows)) × (r .rows < rowCount (reading s .answer)) × (mostScans < r .state .done + rowOf s (r .rows) .hold))
+  whole-or-stopped = files.how-it-ends s accepted
+
+  -- ## Counts
+
+  pub the-state-is-right : stateNumber (reading s .settings) (replay s .replay .state) ≡ 0
+  the-state-is-right = of-all (λ o. stateNumber (reading s .settings) (o .replay .state) ≡ 0) (λ i l. files.sound s accepted i .state)
+
+  pub live-at-most-32-a-row : replay s .replay .live ≤ 32 * replay s .replay .rows
+  live-at-most-32-a-row = of-all (λ o. o .replay .live ≤ 32 * o .replay .rows) (λ i l. files.sound s accepted i .live)
+
+  pub exercised-at-most-the-scans : replay s .replay .exercised ≤ replay s .replay .state .done
+  exercised-at-most-the-scans = of-all (λ o. o .replay .exercised ≤ o .replay .state .done) (λ i l. files.sound s accepted i .exercised)
+
+  -- the scans done at the end are the holds of the rows
+  pub scans-are-the-holds : replay s .number ≡ 0 → replay s .replay .state .done ≡ sumOfHolds (rowsOf s)
+  scans-are-the-holds = files.scans-done s accepted

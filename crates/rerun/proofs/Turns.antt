@@ -1,0 +1,279 @@
+-- Turns: what the code carries from row to row is what the definitions say, and a caller's loop can begin, go on, stop and end.
+use mathlib.Core.Path.{_≡_, refl, sym, ap, _∙_}
+use mathlib.Core.List.{List, _++_}
+use Prim.Native.Nat.{ℕ, zero, suc, _+_, _*_, _≤_, _<_}
+use native.Mathlib.Nat.{mul-suc, mul-zero}
+use native.Mathlib.Numerals.{add-one}
+use native.Mathlib.Omega.{arith}
+use borrow.Author.Tests.{leb-true}
+use lib.Dec.{leb}
+use lib.ListN.{length, take}
+use lib.Seq.{sets, length-sets}
+use Rattle.effects.specs.Records.{bytes}
+use Rattle.effects.proofs.Records.{front-bytes}
+use Rattle.settings.specs.declared.Row.{Row}
+use Rattle.settings.specs.declared.Settings.{Settings}
+use Rattle.settings.specs.Limits.{mostScans}
+use Rattle.settings.specs.Right.{limitsOf, settingsNumber, rowNumber}
+use Rattle.settings.proofs.Refusals.{unless-none}
+use Rattle.settings.proofs.Right.{count-few}
+use Rattle.block.specs.declared.Ran.{Ran}
+use Rattle.block.specs.State.{stateNumber, fresh}
+use Rattle.block.specs.Scan.{inputNumber, scansNumber, granted}
+use Rattle.block.specs.Held.{Stepped, run}
+use Rattle.block.specs.Run.{ranOf}
+use Rattle.block.proofs.Demands.{right-input-is-accepted}
+use Rattle.recording.specs.declared.Answer.{Answer}
+use Rattle.recording.specs.declared.Answer.the-variants as A
+use Rattle.recording.specs.Answers.{number, rowCount, firstRow, rowWidth}
+use Rattle.recording.specs.Entries.{rowAt}
+use Rattle.recording.specs.Reader.{reading}
+use Rattle.recording.proofs.Theorems.{first-row-after-the-opening, row-in-the-file}
+use Rattle.rerun.specs.declared.Totals.{Totals}
+use Rattle.rerun.specs.declared.Turn.{Turn}
+use Rattle.rerun.specs.Replay.{Replay, Outcome, whole, joined, refusedAt, started, replay, answered, firstRows, rowOf, rowPlace, rowRun}
+use Rattle.rerun.specs.Turn.{answerBy, totalsAt, totalsOf, totalsAfter, Going, turnOf, turnInto}
+use Rattle.rerun.proofs.Rows.{unless-refuses, granted-none, granted-refused, granted-either}
+use Rattle.rerun.proofs.Files.{no-rows, one-row-more, ends-at-refusal, all-the-rows, whole-so-far, counted, settings-right, row-right, few-rows, sound, sound-next, scans-next, records-next}
+
+-- ## Numbers
+
+granted-number : (n at : ℕ) (r r′ : Replay) → granted n (whole r) (refusedAt at r′) .number ≡ n
+granted-number zero at r r′ = refl
+granted-number (suc n) at r r′ = refl
+
+-- ## The lent bytes keep their length
+
+pub length-turn : (s : List ℕ) (i : ℕ) (buf : List ℕ) → length (turnInto s i buf) ≡ length buf
+length-turn s i buf =
+    granted-either (sets buf 0 (bytes (rowRun s i .events))) (λ k. buf) (λ b. length b ≡ length buf) (firstRows s (i + 1) .number)
+    (λ z. length-sets buf 0 (bytes (rowRun s i .events)))
+    (λ k. refl)
+
+-- ## The beginning: what the reader answers
+
+at-first : (s : List ℕ) (first : ℕ) → firstRow (reading s .answer) ≡ first → totalsAt first ≡ totalsOf s started
+at-first s first e =
+    let p : first ≡ firstRow (reading s .answer) + rowWidth (reading s .answer) * 0 = omega (arith, e, mul-zero (rowWidth (reading s .answer))) in
+    λ j. record { state = fresh; place = p j; rows = 0; live = 0; exercised = 0 }
+
+pub begins : (s : List ℕ) (st : Settings) (rows first width : ℕ) (t : Totals) → reading s .answer ≡ A.Accepted rows first width → st ≡ reading s .settings
+    → t ≡ totalsAt first → Going s st width t
+begins s st rows first width t a e f =
+    let none : t .rows ≡ 0 = ap (λ (u : Totals). u .rows) f in
+    let o = ap (firstRows s) none ∙ no-rows s in
+    record {
+      accepted = ap number a;
+      settings = e;
+      wide = sym (ap rowWidth a);
+      counted = omega (arith, none);
+      none-refused = ap (λ (v : Outcome). v .number) o;
+      totals = f ∙ at-first s first (ap firstRow a) ∙ sym (ap (λ (v : Outcome). totalsOf s (v .replay)) o);
+    }
+
+module _ (s : List ℕ) (st : Settings) (width : ℕ) (t : Totals) (g : Going s st width t) where
+  abbrev answer : Answer
+  answer = reading s .answer
+
+  -- what the rows before have given
+  abbrev so-far : Replay
+  so-far = firstRows s (t .rows) .replay
+
+  rows-are : so-far .rows ≡ t .rows
+  rows-are = counted s (t .rows) (g .counted) (g .none-refused)
+
+  place-is : t .place ≡ rowPlace s (t .rows)
+  place-is = ap (λ (u : Totals). u .place) (g .totals) ∙ ap (λ (n : ℕ). rowPlace s n) rows-are
+
+  state-is : t .state ≡ so-far .state
+  state-is = ap (λ (u : Totals). u .state) (g .totals)
+
+  -- one row more in the totals is one row more in the replay
+  after-is : (ran : Stepped) → totalsAfter (totalsOf s so-far) (rowWidth answer) (ranOf ran) ≡ totalsOf s (joined so-far ran)
+  after-is ran =
+      let p : rowPlace s (so-far .rows) + rowWidth answer ≡ rowPlace s (so-far .rows + 1) = rw add-one (omega (arith, mul-suc (rowWidth answer) (so-far .rows))) in
+      λ j. record { state = ran .state; place = p j; rows = so-far .rows + 1; live = so-far .live + ran .live; exercised = so-far .exercised + ran .exercised }
+
+  -- ## The end: no row is left
+
+  pub ends : t .rows ≡ rowCount answer → replay s ≡ whole so-far
+  ends e = all-the-rows s (g .accepted) ∙ ap (firstRows s) (sym e) ∙ whole-so-far s (t .rows) (g .none-refused)
+
+  -- and the totals are the answer
+  pub ends-answered : t .rows ≡ rowCount answer → answerBy 0 0 t ≡ answered (replay s)
+  ends-answered e = ap (answerBy 0 0) (g .totals) ∙ ap answered (sym (ends e))
+
+  -- ## One row more
+
+  module _ (more : t .rows < rowCount answer) where
+    -- its bytes are in the file
+    pub row-there : t .place + 24 ≤ length s
+    row-there = rw place-is (row-in-the-file s (t .rows) more .0)
+
+    pub row-read : rowAt s (t .place) ≡ rowOf s (t .rows)
+    row-read = rw place-is (row-in-the-file s (t .rows) more .1)
+
+    -- its number
+    abbrev next-number : ℕ
+    next-number = scansNumber (so-far .state .done) (rowOf s (t .rows) .hold)
+
+    next-is : firstRows s (t .rows + 1) ≡ granted next-number (whole (joined so-far (rowRun s (t .rows)))) (refusedAt (rowPlace s (t .rows)) so-far)
+    next-is = one-row-more s (t .rows) more (g .none-refused)
+
+    next-refused : (next-number ≡ 0 → ⊥) → firstRows s (t .rows + 1) ≡ refusedAt (rowPlace s (t .rows)) so-far next-number
+    next-refused h = next-is ∙ granted-refused (whole (joined so-far (rowRun s (t .rows)))) (refusedAt (rowPlace s (t .rows)) so-far) next-number h
+
+    next-granted : next-number ≡ 0 → firstRows s (t .rows + 1) ≡ whole (joined so-far (rowRun s (t .rows)))
+    next-granted z = next-is ∙ granted-none (whole (joined so-far (rowRun s (t .rows)))) (refusedAt (rowPlace s (t .rows)) so-far) next-number z
+
+    number-next : firstRows s (t .rows + 1) .number ≡ next-number
+    number-next = ap (λ (o : Outcome). o .number) next-is ∙ granted-number next-number (rowPlace s (t .rows)) (joined so-far (rowRun s (t .rows))) so-far
+
+    -- ## What a caller has after it
+
+    module _ (u : Turn) (is : u ≡ turnOf s (t .rows)) where
+      from-number : u .number ≡ next-number
+      from-number = ap (λ (v : Turn). v .number) is ∙ number-next
+
+      -- its records are few
+      pub few-records : u .records ≤ 32
+      few-records =
+          rw (ap (λ (v : Turn). v .records) is)
+          (granted-either (length (rowRun s (t .rows) .events)) (λ k. 0) (λ m. m ≤ 32) (firstRows s (t .rows + 1) .number)
+          (λ z. omega (arith, records-next s (g .accepted) (t .rows) more (sym number-next ∙ z)))
+          (λ k. omega arith))
+
+      -- without refusal the loop goes on, by one row, and its events are joined to those before
+      module _ (z : u .number ≡ 0) where
+        next-none : firstRows s (t .rows + 1) .number ≡ 0
+        next-none = number-next ∙ sym from-number ∙ z
+
+        pub one-row : u .totals .rows ≡ t .rows + 1
+        one-row = ap (λ (v : Turn). v .totals .rows) is ∙ counted s (t .rows + 1) (omega (arith, more)) next-none
+
+        -- its records, and their bytes at the front of the lent ones
+        pub records-are : u .records ≡ length (rowRun s (t .rows) .events)
+        records-are = ap (λ (v : Turn). v .records) is ∙ granted-none (length (rowRun s (t .rows) .events)) (λ k. 0) (firstRows s (t .rows + 1) .number) next-none
+
+        pub bytes-are : (buf : List ℕ) → 384 ≤ length buf → take (12 * u .records) (turnInto s (t .rows) buf) ≡ bytes (rowRun s (t .rows) .events)
+        bytes-are buf l =
+            let es = rowRun s (t .rows) .events in
+            rw (records-are, granted-none (sets buf 0 (bytes es)) (λ k. buf) (firstRows s (t .rows + 1) .number) next-none)
+            (front-bytes es buf (omega (arith, l, records-next s (g .accepted) (t .rows) more (sym from-number ∙ z))))
+
+        pub goes-on : Going s st width (u .totals)
+        goes-on =
+            record {
+              accepted = g .accepted;
+              settings = g .settings;
+              wide = g .wide;
+              counted = omega (arith, one-row, more);
+              none-refused = ap (λ (n : ℕ). firstRows s n .number) one-row ∙ next-none;
+              totals = ap (λ (v : Turn). v .totals) is ∙ ap (λ (n : ℕ). totalsOf s (firstRows s n .replay)) (sym one-row);
+            }
+
+        pub events-join : firstRows s (u .totals .rows) .replay .events ≡ so-far .events ++ rowRun s (t .rows) .events
+        events-join = ap (λ (n : ℕ). firstRows s n .replay .events) one-row ∙ ap (λ (o : Outcome). o .replay .events) (next-granted (sym from-number ∙ z))
+
+      -- a refusal is 9, at the row's first byte, and the replay is what the rows before have given
+      module _ (h : u .number ≡ 0 → ⊥) where
+        pub by-nine : u .number ≡ 9
+        by-nine = from-number ∙ unless-refuses (leb (so-far .state .done + rowOf s (t .rows) .hold) mostScans) 9 (λ z. h (from-number ∙ z))
+
+        pub stops : replay s ≡ refusedAt (u .totals .place) so-far 9
+        stops =
+            let o = next-refused (λ z. h (from-number ∙ z)) in
+            let place : u .totals .place ≡ rowPlace s (t .rows) =
+            ap (λ (v : Turn). v .totals .place) is ∙ ap (λ (v : Outcome). rowPlace s (v .replay .rows)) o ∙ ap (λ (n : ℕ). rowPlace s n) rows-are
+            in
+            ends-at-refusal s (g .accepted) (t .rows + 1) (λ z. h (from-number ∙ sym number-next ∙ z))
+            ∙ o
+            ∙ (λ j. refusedAt (sym place j) so-far ((sym from-number ∙ by-nine) j))
+
+        pub unchanged : u .totals ≡ t
+        unchanged =
+            ap (λ (v : Turn). v .totals) is ∙ ap (λ (o : Outcome). totalsOf s (o .replay)) (next-refused (λ z. h (from-number ∙ z))) ∙ sym (g .totals)
+
+        pub stops-answered : answerBy (u .number) (u .totals .place) (u .totals) ≡ answered (replay s)
+        stops-answered = (λ j. answerBy (by-nine j) (u .totals .place) ((unchanged ∙ g .totals) j)) ∙ ap answered (sym stops)
+
+    -- ## What the code reads and computes of it
+
+    module _ (row : Row) (is : row ≡ rowAt s (t .place)) (n : ℕ) (number-is : n ≡ scansNumber (t .state .done) (row .hold)) where
+      row-is : row ≡ rowOf s (t .rows)
+      row-is = is ∙ row-read
+
+      same-number : n ≡ next-number
+      same-number = number-is ∙ (λ j. scansNumber (state-is j .done) (row-is j .hold))
+
+      -- a refused row
+      module _ (h : n ≡ 0 → ⊥) where
+        refused-is : firstRows s (t .rows + 1) ≡ refusedAt (rowPlace s (t .rows)) so-far n
+        refused-is =
+            next-refused (λ z. h (same-number ∙ z)) ∙ ap (refusedAt (rowPlace s (t .rows)) so-far) (sym same-number)
+
+        pub refused-turn : (buf : List ℕ) → (_≡_ {A = Turn} (record { number = n; records = 0; totals = t }) (turnOf s (t .rows))) × (buf ≡ turnInto s (t .rows) buf)
+        refused-turn buf =
+            let en = ap (λ (o : Outcome). o .number) refused-is in
+            let not-none : firstRows s (t .rows + 1) .number ≡ 0 → ⊥ = λ z. h (sym en ∙ z) in
+            let er = granted-refused (length (rowRun s (t .rows) .events)) (λ k. 0) (firstRows s (t .rows + 1) .number) not-none in
+            let et = ap (λ (o : Outcome). totalsOf s (o .replay)) refused-is ∙ sym (g .totals) in (
+              (λ j. record { number = sym en j; records = sym er j; totals = sym et j }),
+              sym (granted-refused (sets buf 0 (bytes (rowRun s (t .rows) .events))) (λ k. buf) (firstRows s (t .rows + 1) .number) not-none),
+            )
+
+      -- a row that runs
+      module _ (z : n ≡ 0) where
+        scans : t .state .done + row .hold ≤ mostScans
+        scans = leb-true (t .state .done + row .hold) mostScans (unless-none _ 8 (sym number-is ∙ z))
+
+        right-settings : settingsNumber st ≡ 0
+        right-settings = rw (g .settings) (settings-right s (g .accepted))
+
+        right-state : stateNumber st (t .state) ≡ 0
+        right-state = rw (g .settings, state-is) (sound s (g .accepted) (t .rows) .state)
+
+        right-row : rowNumber (limitsOf st) row ≡ 0
+        right-row = rw (g .settings, row-is) (row-right s (g .accepted) (t .rows) more)
+
+        pub right-input : inputNumber st (t .state) row ≡ 0
+        right-input = right-input-is-accepted st row (t .state) right-settings right-state right-row scans
+
+        pub room : 24 * st .count ≤ 384
+        room = omega (arith, count-few st right-settings)
+
+        run-is : run st row (t .state) ≡ rowRun s (t .rows)
+        unfolding rowRun
+        run-is = λ j. run (g .settings j) (row-is j) (state-is j)
+
+        granted-is : firstRows s (t .rows + 1) ≡ whole (joined so-far (rowRun s (t .rows)))
+        granted-is = next-granted (sym same-number ∙ z)
+
+        module _ (ran : Ran) (ran-is : ran ≡ ranOf (run st row (t .state))) where
+          ran-row : ran ≡ ranOf (rowRun s (t .rows))
+          ran-row = ran-is ∙ ap ranOf run-is
+
+          -- the counts stay small
+          pub sums : (t .place + width ≤ 1000000) × (t .rows ≤ 2048) × (t .live + ran .live ≤ 1000000) × (t .exercised + ran .exercised ≤ 1000000000)
+          sums =
+              let kept = sound-next s (g .accepted) (t .rows) more (sym same-number ∙ z) in
+              let most = scans-next s (g .accepted) (t .rows) more (sym same-number ∙ z) in
+              let rows = few-rows s (g .accepted) in
+              let l : t .live + ran .live ≡ so-far .live + rowRun s (t .rows) .live = λ j. g .totals j .live + ran-row j .live in
+              let x : t .exercised + ran .exercised ≡ so-far .exercised + rowRun s (t .rows) .exercised = λ j. g .totals j .exercised + ran-row j .exercised in
+              let first = first-row-after-the-opening s (g .accepted) in
+              let few = count-few (reading s .settings) (settings-right s (g .accepted)) in
+              let wide = row-in-the-file s (t .rows) more .2 in
+              let place : rowPlace s (t .rows) ≡ 10 + 6 * reading s .settings .count + 24 * t .rows = λ j. first j + wide j * t .rows in
+              (omega (arith, more, rows, place-is, place, few, g .wide, wide), omega (arith, more, rows), omega (arith, more, rows, l, kept .live, rows-are), omega (arith, x, kept .exercised, most))
+
+          pub granted-turn : (u : Totals) → u ≡ totalsAfter t width ran → (buf buf′ : List ℕ) → buf′ ≡ sets buf 0 (bytes (run st row (t .state) .events))
+              → (_≡_ {A = Turn} (record { number = 0; records = ran .records; totals = u }) (turnOf s (t .rows))) × (buf′ ≡ turnInto s (t .rows) buf)
+          granted-turn u e buf buf′ f =
+              let en = ap (λ (o : Outcome). o .number) granted-is in
+              let er = ap (λ (q : Ran). q .records) ran-row ∙ sym (granted-none (length (rowRun s (t .rows) .events)) (λ k. 0) (firstRows s (t .rows + 1) .number) en) in
+              let et = e ∙ (λ j. totalsAfter (g .totals j) (g .wide j) (ran-row j)) ∙ after-is (rowRun s (t .rows)) ∙ sym (ap (λ (o : Outcome). totalsOf s (o .replay)) granted-is) in
+              let eb = f ∙ ap (λ (q : Stepped). sets buf 0 (bytes (q .events))) run-is in (
+                (λ j. record { number = sym en j; records = er j; totals = et j }),
+                eb ∙ sym (granted-none (sets buf 0 (bytes (rowRun s (t .rows) .events))) (λ k. buf) (firstRows s (t .rows + 1) .number) en),
+              )

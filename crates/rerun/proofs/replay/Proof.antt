@@ -1,0 +1,32 @@
+-- `rerun::replay` meets its contract: a file is accepted, and its rows are replayed, or refused, and nothing is.
+use mathlib.Core.Path.{sym, ap, _∙_}
+use borrow.Author.Needs.{needs}
+use denote.Ref.{now}
+use Rattle.recording.specs.declared.Reading.{Reading}
+use Rattle.rerun.specs.Replay.{answered}
+use Rattle.rerun.proofs.Files.{refused-replay}
+use Rattle.rerun.proofs.replay.Statement.{statement}
+use Rattle.rerun.proofs.replay.Tie as tie
+
+replay-rows-requires : tie.Need-replay-rows-requires
+replay-rows-requires c κs =
+    let read = c .before .before .before .before .read .ensures in
+    (sym (ap (λ (x : Reading). x .answer) read) ∙ c .before .answer .given .1, ap (λ (x : Reading). x .settings) read)
+
+returns-2 : tie.Need-returns-2
+returns-2 c =
+    let read = c .before .before .before .before .before .read .ensures in
+    c .not-run .ensures
+    ∙ sym (ap answered (refused-replay (now (c .before .before .before .before .before .before .before .args .s)) _ _ (sym (ap (λ (x : Reading). x .answer) read) ∙ c .before .before .answer2 .given .1)))
+
+pub replay-spec : {M : Type 1} → statement M
+replay-spec =
+    tie.close
+    (tie.spec
+    (λ c κs. search needs)
+    (λ c. search needs)
+    replay-rows-requires
+    (λ c. search needs)
+    (λ c κs. search needs)
+    (λ c. search needs)
+    returns-2)

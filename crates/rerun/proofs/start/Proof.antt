@@ -1,0 +1,10 @@
+-- `rerun::start` meets its contract, from what `State::fresh` ensures.
+use borrow.Author.Needs.{needs}
+use Rattle.rerun.proofs.start.Statement.{statement}
+use Rattle.rerun.proofs.start.Tie as tie
+
+returns : tie.Need-returns
+returns c = rw (c .fresh .ensures)
+
+pub start-spec : {M : Type 1} → statement M
+start-spec = tie.close (tie.spec (λ c κs. search needs) returns)

@@ -1,0 +1,71 @@
+-- What the code carries from row to row, and what one row more comes to. No promise cites this page but those of `start` and of
+-- inner functions.
+use Prim.Native.Nat.{ℕ, _+_, _≤_}
+use mathlib.Core.Path.{_≡_}
+use mathlib.Core.List.{List}
+use lib.ListN.{length}
+use lib.Seq.{sets}
+use Rattle.effects.specs.Records.{bytes}
+use Rattle.settings.specs.declared.Settings.{Settings}
+use Rattle.block.specs.declared.Ran.{Ran}
+use Rattle.block.specs.State.{fresh}
+use Rattle.block.specs.Scan.{granted}
+use Rattle.recording.specs.Answers.{number, rowCount, rowWidth}
+use Rattle.recording.specs.Reader.{reading}
+use Rattle.rerun.specs.declared.Totals.{Totals}
+use Rattle.rerun.specs.declared.Turn.{Turn}
+use Rattle.rerun.specs.declared.Replayed.{Replayed}
+use Rattle.rerun.specs.Replay.{Replay, firstRows, rowPlace, rowRun}
+
+abbrev pub totalsAt : (first : ℕ) → Totals
+totalsAt first = record { state = fresh; place = first; rows = 0; live = 0; exercised = 0 }
+
+-- the place is that of the row after the rows so far
+abbrev pub totalsOf : List ℕ → Replay → Totals
+totalsOf s r =
+    record {
+      state = r .state;
+      place = rowPlace s (r .rows);
+      rows = r .rows;
+      live = r .live;
+      exercised = r .exercised;
+    }
+
+-- one row more, which ran so
+abbrev pub totalsAfter : Totals → (width : ℕ) → Ran → Totals
+totalsAfter t width ran =
+    record {
+      state = ran .state;
+      place = t .place + width;
+      rows = t .rows + 1;
+      live = t .live + ran .live;
+      exercised = t .exercised + ran .exercised;
+    }
+
+abbrev pub answerBy : (number place : ℕ) → Totals → Replayed
+answerBy number place t =
+    record { number = number; place = place; state = t .state; rows = t .rows; live = t .live; exercised = t .exercised }
+
+-- in an accepted file with these settings and rows of this width: the totals are those of as many first rows as they count,
+-- none of which was refused
+pub record Going (s : List ℕ) (st : Settings) (width : ℕ) (t : Totals) : Type 0 where
+  pub accepted : number (reading s .answer) ≡ 0
+  pub settings : st ≡ reading s .settings
+  pub wide : width ≡ rowWidth (reading s .answer)
+  pub counted : t .rows ≤ rowCount (reading s .answer)
+  pub none-refused : firstRows s (t .rows) .number ≡ 0
+  pub totals : t ≡ totalsOf s (firstRows s (t .rows) .replay)
+
+-- row i: its number, its records, and the totals after it. A refused row gives no record, and leaves the totals as they were:
+-- their place is its first byte
+abbrev pub turnOf : List ℕ → ℕ → Turn
+turnOf s i =
+    record {
+      number = firstRows s (i + 1) .number;
+      records = granted (firstRows s (i + 1) .number) (length (rowRun s i .events)) (λ n. 0);
+      totals = totalsOf s (firstRows s (i + 1) .replay);
+    }
+
+-- the lent bytes after it
+abbrev pub turnInto : List ℕ → ℕ → List ℕ → List ℕ
+turnInto s i buf = granted (firstRows s (i + 1) .number) (sets buf 0 (bytes (rowRun s i .events))) (λ n. buf)
