@@ -1,0 +1,76 @@
+-- Laws of lines: their pieces, and lines joined.
+use mathlib.Core.Path.{_≡_, refl, sym, ap, _∙_}
+use mathlib.Core.List.{List, [], _∷_, _++_, append-assoc}
+use Prim.Native.Nat.{ℕ, suc, _+_, _-_, _*_, _<_}
+use native.Mathlib.Nat.{sub-zero}
+use native.Mathlib.Omega.{arith}
+use lib.ListN.{length, length-append}
+use Rattle.bits.specs.Decimal.{ascii}
+use Rattle.effects.specs.declared.Event.{Event}
+use Rattle.effects.specs.Records.{eventAt, eventsAt}
+use Rattle.listing.specs.Text.{line, lines, lastLine, refusalLine}
+use Rattle.listing.specs.Pieces.{when, change, total}
+
+-- ## The line of a record, in its two halves
+
+pub halves : (e : Event) → line e ≡ when e ++ change e
+unfolding line when change
+halves e = sym (simp append-assoc)
+
+pub length-halves : (e : Event) → length (line e) ≡ length (when e) + length (change e)
+length-halves e = ap length (halves e) ∙ length-append (when e) (change e)
+
+-- ## The other lines, in pieces
+
+pub refusal-pieces : (n p : ℕ) → refusalLine n p ≡ total (ascii "refused") n 32 ++ total (ascii "at") p 10
+unfolding refusalLine total
+refusal-pieces n p = sym (simp append-assoc)
+
+module _ (r s l x : ℕ) where
+  abbrev rows : List ℕ
+  rows = total (ascii "rows") r 32
+
+  abbrev scans : List ℕ
+  scans = total (ascii "scans") s 32
+
+  abbrev live : List ℕ
+  live = total (ascii "live") l 32
+
+  abbrev exercised : List ℕ
+  exercised = total (ascii "exercised") x 10
+
+  pub last-pieces : lastLine r s l x ≡ rows ++ (scans ++ (live ++ exercised))
+  unfolding lastLine total
+  last-pieces = sym (simp append-assoc)
+
+  pub length-last : length (lastLine r s l x) ≡ length rows + (length scans + (length live + length exercised))
+  length-last = ap length last-pieces ∙ simp length-append
+
+-- ## Lines joined
+
+pub lines-append : (es fs : List Event) → lines (es ++ fs) ≡ lines es ++ lines fs
+lines-append [] fs = refl
+lines-append (e ∷ es) fs = ap (λ (l : List ℕ). line e ++ l) (lines-append es fs) ∙ sym (append-assoc (line e) (lines es) (lines fs))
+
+-- ## A loop over n records: the lines that are left from record i on
+
+abbrev pub left : List ℕ → (n i : ℕ) → List ℕ
+left s n i = lines (eventsAt s (n - i) (12 * i))
+
+pub left-all : (s : List ℕ) (n : ℕ) → left s n 0 ≡ lines (eventsAt s n 0)
+left-all s n = rw sub-zero
+
+module _ (s : List ℕ) (n i : ℕ) where
+  pub left-turn : i < n → left s n i ≡ line (eventAt s (12 * i)) ++ left s n (i + 1)
+  left-turn h =
+      let m : n - i ≡ suc (n - (i + 1)) = omega arith in
+      let p : 12 * (i + 1) ≡ 12 * i + 12 = omega arith in
+      rw (m, p)
+
+  pub left-length : i < n → length (left s n i) ≡ length (line (eventAt s (12 * i))) + length (left s n (i + 1))
+  left-length h = ap length (left-turn h) ∙ length-append (line (eventAt s (12 * i))) (left s n (i + 1))
+
+  pub left-none : i ≡ n → left s n i ≡ []
+  left-none h =
+      let m : n - i ≡ 0 = omega arith in
+      rw m

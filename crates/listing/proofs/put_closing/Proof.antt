@@ -1,0 +1,23 @@
+-- `listing::put_closing` meets its contract: by the two ways of its test.
+use borrow.Author.Needs.{needs}
+use Rattle.rerun.proofs.Rows.{granted-refused}
+use Rattle.listing.specs.Printed.{closing}
+use Rattle.listing.specs.Text.{lastLine, refusalLine}
+use Rattle.listing.proofs.put_closing.Statement.{statement}
+use Rattle.listing.proofs.put_closing.Tie as tie
+
+returns : tie.Need-returns
+unfolding closing
+returns c = rw (c .before .before .before .before .before .if1 .taken) (c .before .before .put-last .ensures)
+
+returns-2 : tie.Need-returns-2
+unfolding closing
+returns-2 c =
+    let a = c .before .before .before .before .before .before .args in
+    rw (granted-refused (lastLine (a .t .rows) (a .t .state .done) (a .t .live) (a .t .exercised)) (λ n. refusalLine n (a .t .place)) (a .number) (c .before .before .before .before .if1 .left))
+    (c .before .before .put-refusal .ensures)
+
+pub put-closing-spec : {M : Type 1} → statement M
+put-closing-spec =
+    tie.close
+    (tie.spec (λ c κs. search needs) (λ c κs. search needs) (λ c. search needs) returns (λ c. search needs) returns-2)

@@ -1,0 +1,5 @@
+pub mod Text
+pub mod Pieces
+pub mod Room
+pub mod Listing
+pub mod Printed

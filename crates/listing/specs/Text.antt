@@ -1,0 +1,46 @@
+-- The lines of a listing, as bytes. Document 01, "One session, whole": fields with a space between, LF after every line.
+use Prim.Native.Nat.{ℕ}
+use mathlib.Core.List.{List, [], _∷_, _++_}
+use Rattle.bits.specs.Decimal.{ascii, decimal}
+use Rattle.rules.specs.declared.EffectState.{EffectState}
+use Rattle.rules.specs.declared.EffectState.the-variants.{Tripped, WaitReset, Ready, WaitStart, Normal, Delayed}
+use Rattle.effects.specs.declared.Event.{Event}
+
+-- a line: its fields with a space between, and then LF
+abbrev pub lineOf : List (List ℕ) → List ℕ
+lineOf [] = ascii "\n"
+lineOf (f ∷ []) = f ++ ascii "\n"
+lineOf (f ∷ g ∷ fs) = f ++ ascii " " ++ lineOf (g ∷ fs)
+
+-- the first line
+unfoldable pub header : List ℕ
+header = ascii "seq scan effect from to first\n"
+
+-- the name of a state
+unfoldable pub name : EffectState → List ℕ
+name Tripped = ascii "tripped"
+name WaitReset = ascii "wait-reset"
+name Ready = ascii "ready"
+name WaitStart = ascii "wait-start"
+name Normal = ascii "normal"
+name Delayed = ascii "delayed"
+
+-- the line of an event record
+unfoldable pub line : Event → List ℕ
+line e =
+    lineOf
+    (decimal (e .seq) ∷ decimal (e .scan) ∷ decimal (e .effect) ∷ name (e .from) ∷ name (e .to) ∷ decimal (e .first) ∷ [])
+
+abbrev pub lines : List Event → List ℕ
+lines [] = []
+lines (e ∷ es) = line e ++ lines es
+
+-- the last line
+unfoldable pub lastLine : (rows scans live exercised : ℕ) → List ℕ
+lastLine r s l x =
+    lineOf
+    (ascii "rows" ∷ decimal r ∷ ascii "scans" ∷ decimal s ∷ ascii "live" ∷ decimal l ∷ ascii "exercised" ∷ decimal x ∷ [])
+
+-- the line of a refusal
+unfoldable pub refusalLine : (number place : ℕ) → List ℕ
+refusalLine n p = lineOf (ascii "refused" ∷ decimal n ∷ ascii "at" ∷ decimal p ∷ [])
