@@ -464,14 +464,14 @@ pub struct Run {
 }
 
 /// The words of every scan but the first: reset goes False after every execution.
-fn without_reset(words: &Words) -> Words {
+pub fn without_reset(words: &Words) -> Words {
     let mut later = *words;
     later.reset = 0;
     later
 }
 
 /// Exercised scans: the hold if any effect's active word is not 0, otherwise 0.
-fn exercised(settings: &Settings, row: &Row) -> u32 {
+pub fn exercised(settings: &Settings, row: &Row) -> u32 {
     for effect in settings.slots.iter().take(usize::from(settings.effects)) {
         if active(effect, &row.words) != 0 {
             return row.hold;

@@ -2,6 +2,7 @@
 
 use crate::block::{held, scan, Answer, Phase, Row, Slot, State, Words};
 use crate::recording::{read, row_of, write_opening, write_row, Recording, Refusal, ROW_BYTES};
+use crate::replay::replay;
 use crate::settings::{Effect, Settings, SLOTS};
 
 /// The largest room of a scan or held case.
@@ -18,6 +19,7 @@ pub enum Kind {
     Held,
     Recording,
     Writing,
+    Replay,
 }
 
 impl Kind {
@@ -27,6 +29,7 @@ impl Kind {
             "held" => Some(Kind::Held),
             "recording" => Some(Kind::Recording),
             "writing" => Some(Kind::Writing),
+            "replay" => Some(Kind::Replay),
             _ => None,
         }
     }
@@ -363,11 +366,17 @@ pub fn answer_writing(case: &WritingCase) -> String {
     format!("{first} {}\n", piece(row, &buffer))
 }
 
+/// A recording's listing and an empty line.
+pub fn answer_replay(file: &[u8]) -> String {
+    replay(file).text + "\n"
+}
+
 /// Answers the next case of a stream.
 pub fn answer_next(kind: Kind, stream: &mut Stream) -> Result<String, String> {
     Ok(match kind {
         Kind::Scan | Kind::Held => answer_run(kind, &stream.run_case(kind)?),
         Kind::Recording => answer_file(stream.file()?),
         Kind::Writing => answer_writing(&stream.writing_case()?),
+        Kind::Replay => answer_replay(stream.file()?),
     })
 }

@@ -2,13 +2,16 @@
 //! plainly as it can be, to be compared with the proved one.
 //!
 //! Nothing here is clever on purpose. A held run steps its scans one by one and the
-//! reader of a recording goes from section to section.
+//! reader of a recording goes from section to section. Only the replay of a whole file
+//! passes over scans, effect by effect, since a file can hold 1,000,000,000 of them.
 
 pub mod block;
 pub mod cases;
 pub mod make;
 pub mod make_files;
+pub mod make_replays;
 pub mod make_runs;
 pub mod recording;
+pub mod replay;
 pub mod settings;
 pub mod show;

@@ -1,24 +1,33 @@
-//! `second answer|make|show KIND ...`: see `USAGE`.
+//! `second answer|make|show KIND ...` and `second replay`: see `USAGE`.
 
 use second::cases::{answer_next, Kind, Stream};
 use second::make::stream_of;
+use second::replay::{replay, ENOUGH_BYTES};
 use second::show::show_next;
 use std::io::{self, BufWriter, Read, Write};
 use std::process::ExitCode;
 
 const USAGE: &str = "usage:
-  second answer scan|held|recording|writing < cases > answers
-  second make scan|held|recording|writing SEED COUNT > cases
-  second show scan|held|recording|writing < cases";
+  second replay < recording > listing
+  second answer scan|held|recording|writing|replay < cases > answers
+  second make scan|held|recording|writing|replay SEED COUNT > cases
+  second show scan|held|recording|writing|replay < cases
+exit status: 0; 1 if the replayed recording was refused; 2 on bad usage, a bad stream, or
+failing input or output";
 
-/// All of standard input; a read that fails is no end of data.
-fn input() -> Result<Vec<u8>, String> {
+/// At most `most` bytes of standard input; a read that fails is no end of data.
+fn input_up_to(most: usize) -> Result<Vec<u8>, String> {
     let mut bytes = Vec::new();
     io::stdin()
         .lock()
+        .take(most as u64)
         .read_to_end(&mut bytes)
         .map_err(|error| format!("reading standard input: {error}"))?;
     Ok(bytes)
+}
+
+fn input() -> Result<Vec<u8>, String> {
+    input_up_to(usize::MAX)
 }
 
 fn written(result: io::Result<()>) -> Result<(), String> {
@@ -57,14 +66,25 @@ fn kind_of(name: &str) -> Result<Kind, String> {
     Kind::named(name).ok_or_else(|| format!("no such kind: {name}\n{USAGE}"))
 }
 
-fn work(words: &[&str], out: &mut impl Write) -> Result<(), String> {
+/// Replays standard input; whether the recording was accepted.
+fn replay_input(out: &mut impl Write) -> Result<bool, String> {
+    let listing = replay(&input_up_to(ENOUGH_BYTES)?);
+    written(out.write_all(listing.text.as_bytes()))?;
+    Ok(listing.refusal.is_none())
+}
+
+/// Does what the words say; false if a recording was refused.
+fn work(words: &[&str], out: &mut impl Write) -> Result<bool, String> {
+    let mut accepted = true;
     match words {
+        ["replay"] => accepted = replay_input(out)?,
         ["answer", kind] => answer(kind_of(kind)?, out)?,
         ["show", kind] => show(kind_of(kind)?, out)?,
         ["make", kind, seed, count] => make(kind_of(kind)?, seed, count, out)?,
         _ => return Err(USAGE.to_string()),
     }
-    written(out.flush())
+    written(out.flush())?;
+    Ok(accepted)
 }
 
 fn main() -> ExitCode {
@@ -75,7 +95,8 @@ fn main() -> ExitCode {
     let words: Vec<&str> = words.iter().map(String::as_str).collect();
     let mut out = BufWriter::new(io::stdout().lock());
     match work(&words, &mut out) {
-        Ok(()) => ExitCode::SUCCESS,
+        Ok(true) => ExitCode::SUCCESS,
+        Ok(false) => ExitCode::FAILURE,
         Err(message) => {
             eprintln!("second: {message}");
             ExitCode::from(2)

@@ -3,6 +3,7 @@
 
 use crate::cases::{put_file, put_run_case, put_writing_case, Kind};
 use crate::make_files::{file_cases, writing_cases};
+use crate::make_replays::replay_cases;
 use crate::make_runs::run_cases;
 
 /// A case with its name and, if it was made on purpose, the refusals planted in it.
@@ -68,6 +69,11 @@ pub fn stream_of(kind: Kind, seed: u64, count: usize) -> Vec<u8> {
         }
         Kind::Recording => {
             for named in file_cases(seed, count) {
+                put_file(&named.case, &mut out);
+            }
+        }
+        Kind::Replay => {
+            for named in replay_cases(seed, count) {
                 put_file(&named.case, &mut out);
             }
         }

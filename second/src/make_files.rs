@@ -37,7 +37,7 @@ const EFFECT_BYTES: usize = 6;
 
 // ---- Files to start from ----
 
-fn plain_settings(causes: u8, effects: u8) -> Settings {
+pub fn plain_settings(causes: u8, effects: u8) -> Settings {
     let mut settings = Settings {
         causes,
         options: 0,
@@ -67,7 +67,7 @@ fn plain_row(settings: &Settings, hold: u32) -> Row {
 }
 
 /// A file of the settings and rows, right or not.
-fn file_of(settings: &Settings, rows: &[Row]) -> Vec<u8> {
+pub fn file_of(settings: &Settings, rows: &[Row]) -> Vec<u8> {
     let mut file = opening_bytes(settings, rows.len() as u16);
     for row in rows {
         file.extend_from_slice(&row_bytes(row));
@@ -85,7 +85,7 @@ fn put16(file: &mut [u8], place: usize, number: u16) {
     file[place..place + 2].copy_from_slice(&number.to_be_bytes());
 }
 
-fn put32(file: &mut [u8], place: usize, number: u32) {
+pub fn put32(file: &mut [u8], place: usize, number: u32) {
     file[place..place + 4].copy_from_slice(&number.to_be_bytes());
 }
 
@@ -95,16 +95,16 @@ fn row_count_place(effects: usize) -> usize {
 }
 
 /// The place of a row, counted from 0.
-fn row_place(effects: usize, row: usize) -> usize {
+pub fn row_place(effects: usize, row: usize) -> usize {
     row_count_place(effects) + 2 + ROW_BYTES * row
 }
 
 // ---- Named files ----
 
-type Files = Vec<Named<Vec<u8>>>;
+pub type Files = Vec<Named<Vec<u8>>>;
 
 /// A file with what the reader must say: the refusal in `planted`, or nothing at all.
-fn add(files: &mut Files, name: &str, planted: &[u8], file: Vec<u8>) {
+pub fn add(files: &mut Files, name: &str, planted: &[u8], file: Vec<u8>) {
     files.push(Named {
         name: name.to_string(),
         planted: Some(planted.to_vec()),
@@ -421,7 +421,7 @@ fn random_file(random: &mut Random) -> Vec<u8> {
     file_of(&settings, &rows)
 }
 
-fn damage_file(random: &mut Random, file: &mut Vec<u8>) {
+pub fn damage_file(random: &mut Random, file: &mut Vec<u8>) {
     let place = random.between(0, file.len() as u32 - 1) as usize;
     match random.between(0, 7) {
         0 => file.truncate(place.max(1)),

@@ -937,7 +937,7 @@ fn held_rooms(list: &mut List) {
 
 // ---- Random cases ----
 
-fn random_settings(random: &mut Random) -> Settings {
+pub fn random_settings(random: &mut Random) -> Settings {
     let causes = pick_count(random);
     let effects = pick_count(random);
     let mut settings = Settings {
@@ -1025,7 +1025,7 @@ fn random_state(random: &mut Random, settings: &Settings) -> State {
     state
 }
 
-fn random_words(random: &mut Random, settings: &Settings) -> Words {
+pub fn random_words(random: &mut Random, settings: &Settings) -> Words {
     let causes = existing(settings.causes);
     let effects = existing(settings.effects);
     let mut words = Words {
@@ -1051,7 +1051,7 @@ fn random_words(random: &mut Random, settings: &Settings) -> Words {
     words
 }
 
-fn random_forces(random: &mut Random, settings: &Settings, words: &mut Words) {
+pub fn random_forces(random: &mut Random, settings: &Settings, words: &mut Words) {
     let effects = existing(settings.effects);
     words.force_permit = random.between(0, 1) as u16;
     if settings.has_option(SEVERAL_FORCED) {
@@ -1067,7 +1067,7 @@ fn random_forces(random: &mut Random, settings: &Settings, words: &mut Words) {
     }
 }
 
-fn random_hold(random: &mut Random) -> u32 {
+pub fn random_hold(random: &mut Random) -> u32 {
     match random.between(0, 199) {
         0 => random.between(2_000, MAX_HOLD),
         1..=120 => random.between(1, 5),

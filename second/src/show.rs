@@ -3,6 +3,7 @@
 use crate::block::{Answer, Row, State, RECORD_BYTES};
 use crate::cases::{answer_writing, call_run, hex, Kind, RunCase, Stream, WritingCase};
 use crate::recording::{number16, number32, read};
+use crate::replay::replay;
 use crate::settings::Settings;
 
 fn show_settings(settings: &Settings) -> String {
@@ -108,6 +109,8 @@ fn show_run(kind: Kind, case: &RunCase) -> String {
 /// At most this many bytes and rows of a file are shown.
 const SHOWN_BYTES: usize = 600;
 const SHOWN_ROWS: usize = 20;
+/// At most this many lines of a listing are shown.
+const SHOWN_LINES: usize = 60;
 
 fn show_file(file: &[u8]) -> String {
     let shown = &file[..file.len().min(SHOWN_BYTES)];
@@ -130,6 +133,20 @@ fn show_file(file: &[u8]) -> String {
     text
 }
 
+/// The file, and the listing that it gives.
+fn show_replay(file: &[u8]) -> String {
+    let listing = replay(file);
+    let lines: Vec<&str> = listing.text.lines().collect();
+    let mut text = show_file(file) + "  listing:\n";
+    for line in lines.iter().take(SHOWN_LINES) {
+        text += &format!("    {line}\n");
+    }
+    if lines.len() > SHOWN_LINES {
+        text += &format!("    ... ({} lines)\n", lines.len());
+    }
+    text
+}
+
 fn show_writing(case: &WritingCase) -> String {
     show_settings(&case.settings)
         + &format!("  row count {}\n", case.row_count)
@@ -145,5 +162,6 @@ pub fn show_next(kind: Kind, stream: &mut Stream) -> Result<String, String> {
         Kind::Scan | Kind::Held => show_run(kind, &stream.run_case(kind)?),
         Kind::Recording => show_file(stream.file()?),
         Kind::Writing => show_writing(&stream.writing_case()?),
+        Kind::Replay => show_replay(stream.file()?),
     })
 }

@@ -126,6 +126,41 @@ fn writing_line() {
     assert_eq!(answer("writing", &case), line(&expected));
 }
 
+#[test]
+fn replay_lines() {
+    let cases = format!("00000046 {SESSION} 00000000");
+    let listing = "seq scan effect from to first\n\
+        0 1 1 tripped normal 0\n\
+        1 1 2 tripped normal 0\n\
+        2 4 1 normal tripped 1\n\
+        3 4 2 normal delayed 1\n\
+        4 7 2 delayed tripped 1\n\
+        rows 2 scans 8 live 3 exercised 5\n";
+    let expected = format!("{listing}\nrefused 1 at 0\n\n");
+    assert_eq!(answer("replay", &cases), expected);
+    let output = run(&["replay"], &bytes_of_hex(SESSION));
+    assert_eq!(output.status.code(), Some(0));
+    assert_eq!(output.stdout, listing.as_bytes());
+}
+
+#[test]
+fn a_refused_replay_ends_with_status_1() {
+    let output = run(&["replay"], &[]);
+    assert_eq!(output.status.code(), Some(1));
+    assert_eq!(output.stdout, b"refused 1 at 0\n");
+    assert!(output.stderr.is_empty());
+}
+
+/// The largest recording and a byte more decide; the rest is not read.
+#[test]
+fn endless_input_is_answered() {
+    let zero = File::open("/dev/zero").expect("the device of zeros");
+    let output = program(&["replay"]).stdin(zero).output();
+    let output = output.expect("the program ends");
+    assert_eq!(output.status.code(), Some(1));
+    assert_eq!(output.stdout, b"refused 2 at 0\n");
+}
+
 /// Exit status 2 and a message.
 fn fails(output: &Output) {
     assert_eq!(output.status.code(), Some(2));
@@ -144,6 +179,7 @@ fn bad_usage_fails() {
         &["make", "scan", "1", "-1"],
         &["show"],
         &["help", "scan"],
+        &["replay", "scan"],
     ] {
         let output = program(words).output().expect("the program ends");
         fails(&output);
@@ -153,7 +189,7 @@ fn bad_usage_fails() {
 
 #[test]
 fn truncated_streams_fail() {
-    for kind in ["scan", "held", "recording", "writing"] {
+    for kind in ["scan", "held", "recording", "writing", "replay"] {
         let made = run(&["make", kind, "1", "3"], &[]).stdout;
         assert_eq!(run(&["answer", kind], &made).status.code(), Some(0));
         let cut = &made[..made.len() - 1];
@@ -177,13 +213,19 @@ fn streams_outside_the_format_fail() {
     let mut file = 49_263_u32.to_be_bytes().to_vec();
     file.resize(4 + 49_263, 0);
     fails(&run(&["answer", "recording"], &file));
+    fails(&run(&["answer", "replay"], &file));
 }
 
 #[test]
 fn failing_input_and_output_are_not_taken_for_data() {
     let folder = File::open(env!("CARGO_MANIFEST_DIR")).expect("a folder");
-    let output = program(&["answer", "scan"]).stdin(folder).output();
-    fails(&output.expect("the program ends"));
+    for words in [&["answer", "scan"][..], &["replay"]] {
+        let folder = folder.try_clone().expect("a folder");
+        let output = program(words).stdin(folder).output();
+        let output = output.expect("the program ends");
+        fails(&output);
+        assert!(output.stdout.is_empty());
+    }
     let full = OpenOptions::new().write(true).open("/dev/full");
     let full = full.expect("the full device");
     let output = program(&["make", "scan", "1", "1"]).stdout(full).output();
@@ -197,6 +239,7 @@ fn seeds_repeat_and_differ() {
         ("held", "2000"),
         ("recording", "1000"),
         ("writing", "600"),
+        ("replay", "300"),
     ] {
         let made = |seed| run(&["make", kind, seed, count], &[]).stdout;
         let one = made("1");
