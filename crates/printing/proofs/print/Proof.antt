@@ -1,0 +1,53 @@
+-- `printing::print` meets its contract: the rows of a recording that the reader accepts begin at the place that it answers.
+use mathlib.Core.Path.{sym, ap, _∙_}
+use native.Mathlib.Omega.{arith}
+use denote.Ref.{now}
+use borrow.Author.Needs.{needs}
+use Rattle.recording.specs.declared.Reading.{Reading}
+use Rattle.recording.specs.Answers.{rowCount}
+use Rattle.rerun.proofs.Turns.{begins}
+use Rattle.printing.specs.Status.{status}
+use Rattle.printing.proofs.Refused.{refused-number}
+use Rattle.printing.proofs.print.Statement.{statement}
+use Rattle.printing.proofs.print.Tie as tie
+
+print-rows-requires : tie.Need-print-rows-requires
+print-rows-requires c κs =
+    let start = c .before .before .before .before .before .before .before .before .before .before .before .before .before in
+    let is = c .before .before .before .before .before .before .before .before .before .before .read .ensures in
+    let answer = sym (ap (λ (r : Reading). r .answer) is) ∙ c .before .before .before .answer .given .1 in
+    let within = c .before .before .before .before .before .before .before .before .opening .ensures .1 .1 (omega arith) in (
+      (begins (now (start .args .s)) _ _ _ _ _ answer (ap (λ (r : Reading). r .settings) is) (c .before .start .ensures), sym (ap rowCount answer)),
+      (omega (arith, within), omega (arith, start .pre)),
+    )
+
+flush-requires : tie.Need-flush-requires
+flush-requires c κs = let within = c .before .before .before .before .before .before .before .opening .ensures .1 .1 (omega arith) in omega (arith, within)
+
+returns : tie.Need-returns
+returns c = c .before .before .print-rows .ensures
+
+-- a refused file
+returns-2 : tie.Need-returns-2
+returns-2 c =
+    let start = c .before .before .before .before .before .before .before .before .before .before .before .before .before .before in
+    let is = c .before .before .before .before .before .before .before .before .before .before .before .read .ensures in
+    let answer = sym (ap (λ (r : Reading). r .answer) is) ∙ c .before .before .before .before .answer2 .given .1 in
+    record { good = c .before .flush .result; is = c .status .ensures ∙ ap (status (c .before .flush .result)) (sym (refused-number (now (start .args .s)) _ _ answer)) }
+
+pub print-spec : {M : Type 1} → statement M
+print-spec =
+    tie.close
+    (tie.spec
+    (λ c κs. search needs)
+    (λ c κs. search needs)
+    (λ c. search needs)
+    (λ c κs. search needs)
+    print-rows-requires
+    (λ c. search needs)
+    flush-requires
+    (λ c κs. search needs)
+    (λ c. search needs)
+    returns
+    (λ c. search needs)
+    returns-2)
