@@ -1,0 +1,4 @@
+pub mod Lent
+pub mod Asked
+pub mod Rows
+pub mod Theorems

@@ -1,0 +1,150 @@
+-- A walk at a row's place gives that row and goes on to the next row's place; past the last row it has ended and stays.
+-- So n steps from the start give the first n rows: by induction on n, a step being one of these two.
+use mathlib.Core.Path.{_≡_, refl, sym, ap, _∙_}
+use mathlib.Core.Bool.{Bool, true, false}
+use mathlib.Core.List.{List, [], _∷_}
+use Prim.Native.Nat.{ℕ, zero, suc, _+_, _*_, min, _≤_, _<_}
+use native.Mathlib.Nat.{mul-zero, add-zero, zero-min}
+use native.Mathlib.Omega.{arith}
+use borrow.Author.Tests.{leb-true, leb-false}
+use lib.Dec.{leb}
+use lib.ListN.{take, drop, getD, drop-of-length-le, List·getD-eq-default}
+use lib.Seq.{take-nil, drop-cons}
+use denote.Ref.{RefT, now}
+use Rattle.settings.specs.declared.Row.{Row}
+use Rattle.recording.specs.declared.Step.{Step}
+use Rattle.recording.specs.declared.Step.the-variants as T
+use Rattle.recording.specs.Reader.{reading}
+use Rattle.recording.specs.Answers.{rowCount, firstRow, rowWidth, ended, noRow, stepRow, nextPlace}
+use Rattle.recording.specs.Steps.{stepAt, rowsOf}
+use Rattle.recording.proofs.Cases.{reading-cases}
+use Rattle.recording.proofs.Theorems.{row-at-its-place, ended-elsewhere}
+use Rattle.recording.proofs.Trips.{length-rowsOf}
+use Rattle.walk.specs.declared.Walk.{Walk}
+use Rattle.walk.specs.Walks.{startOf, nextOf, movedOn, nthOf, walked, withRow, given}
+
+-- ## A step by its answers
+
+has-row : (x : Step) → ended x ≡ false → x ≡ T.Row (stepRow x) (nextPlace x)
+has-row (T.Row row next) e = refl
+has-row T.Ended e = cc
+
+pub has-ended : (x : Step) → ended x ≡ true → x ≡ T.Ended
+has-ended (T.Row row next) e = cc
+has-ended T.Ended e = refl
+
+module _ (s : RefT (List ℕ)) where
+  abbrev pub rows : List Row
+  rows = rowsOf (now s)
+
+  abbrev pub count : ℕ
+  count = rowCount (reading (now s) .answer)
+
+  -- the place of row i, and the walk there
+  abbrev placeOf : ℕ → ℕ
+  placeOf i = firstRow (reading (now s) .answer) + rowWidth (reading (now s) .answer) * i
+
+  abbrev pub atRow : ℕ → Walk
+  atRow i = record { bytes = s; place = placeOf i }
+
+  -- ## One step
+
+  -- where there is a row, rows have a width
+  wide : (i : ℕ) → i < count → rowWidth (reading (now s) .answer) ≡ 24
+  wide i =
+      reading-cases (now s) (λ x. i < rowCount (x .answer) → rowWidth (x .answer) ≡ 24)
+      (λ k p b l. absurd (omega (arith, l)))
+      (λ e k p b f l. absurd (omega (arith, l)))
+      (λ e r k p t g l. absurd (omega (arith, l)))
+      (λ e r end t d l. absurd (omega (arith, l)))
+      (λ e r t l. refl)
+
+  -- so no row stands past the last
+  past-all : (n : ℕ) → count ≤ n → (i : ℕ) → i < count → placeOf n ≡ placeOf i → ⊥
+  past-all n h i l e =
+      let first = firstRow (reading (now s) .answer) in
+      let same : first + 24 * n ≡ first + 24 * i = rw (wide i l) at e in
+      omega (arith, same, h, l)
+
+  ended-past : (n : ℕ) → count ≤ n → nextOf (atRow n) ≡ T.Ended
+  ended-past n h = has-ended (stepAt (now s) (placeOf n)) (ended-elsewhere (now s) (placeOf n) (past-all n h))
+
+  row-there : (i : ℕ) → i < count → nextOf (atRow i) ≡ T.Row (getD rows i noRow) (placeOf (suc i))
+  row-there i l =
+      let h = row-at-its-place (now s) i l in
+      has-row (stepAt (now s) (placeOf i)) (h .0) ∙ rw (h .1, h .2)
+
+  -- ## The step after n others, by whether a row is left
+
+  -- the walk then
+  abbrev after : ℕ → Walk
+  after n = atRow (min n count)
+
+  step-ended : (n : ℕ) → leb count n ≡ true → nextOf (after n) ≡ T.Ended
+  step-ended n q =
+      let l = leb-true count n q in
+      let m : min n count ≡ count = omega (arith, l) in
+      rw m (ended-past count (omega arith))
+
+  step-row : (n : ℕ) → leb count n ≡ false → nextOf (after n) ≡ T.Row (getD rows n noRow) (placeOf (suc n))
+  step-row n q =
+      let l = leb-false count n q in
+      let m : min n count ≡ n = omega (arith, l) in
+      rw m (row-there n l)
+
+  moves : (n : ℕ) (b : Bool) → leb count n ≡ b → movedOn (after n) ≡ after (suc n)
+  moves n true q =
+      let l = leb-true count n q in
+      let m : min n count ≡ min (suc n) count = omega (arith, l) in
+      rw (step-ended n q, m)
+  moves n false q =
+      let l = leb-false count n q in
+      let m : min (suc n) count ≡ suc n = omega (arith, l) in
+      rw (step-row n q, m)
+
+  pub ends : (n : ℕ) (b : Bool) → leb count n ≡ b → ended (nextOf (after n)) ≡ leb count n
+  ends n true q = rw (step-ended n q, q)
+  ends n false q = rw (step-row n q, q)
+
+  pub row-of : (n : ℕ) (b : Bool) → leb count n ≡ b → stepRow (nextOf (after n)) ≡ getD rows n noRow
+  row-of n true q = rw (step-ended n q) (sym (List·getD-eq-default rows noRow {n = n} (rw length-rowsOf (leb-true count n q))))
+  row-of n false q = rw (step-row n q)
+
+  -- it is what stands at the place of row n
+  same-step : (n : ℕ) (b : Bool) → leb count n ≡ b → nextOf (after n) ≡ nthOf (now s) n
+  same-step n true q = step-ended n q ∙ sym (ended-past n (leb-true count n q))
+  same-step n false q =
+      let l = leb-false count n q in
+      let m : min n count ≡ n = omega (arith, l) in
+      rw m
+
+  -- ## Several steps
+
+  from-first : startOf s .walk ≡ after 0
+  from-first = rw (zero-min, mul-zero, add-zero)
+
+  pub place-by : (n : ℕ) → walked n (startOf s .walk) ≡ after n
+  place-by zero = from-first
+  place-by (suc n) = ap movedOn (place-by n) ∙ moves n (leb count n) refl
+
+  pub nth-step : (n : ℕ) → nextOf (walked n (startOf s .walk)) ≡ nthOf (now s) n
+  nth-step n = ap nextOf (place-by n) ∙ same-step n (leb count n) refl
+
+  one-more : (n i : ℕ) (b : Bool) → leb count i ≡ b → given n (movedOn (after i)) ≡ take n (drop (suc i) rows) → given (suc n) (after i) ≡ take (suc n) (drop i rows)
+  one-more n i true q h =
+      let l = leb-true count i q in
+      let none : drop i rows ≡ [] = drop-of-length-le rows {i = i} (rw length-rowsOf l) in
+      let none′ : drop (suc i) rows ≡ [] = drop-of-length-le rows {i = suc i} (rw length-rowsOf (omega (arith, l))) in
+      ap (λ (x : Step). withRow x (given n (movedOn (after i)))) (step-ended i q) ∙ h ∙ rw (none, none′) (take-nil n)
+  one-more n i false q h =
+      let l = leb-false count i q in
+      ap (λ (x : Step). withRow x (given n (movedOn (after i)))) (step-row i q)
+      ∙ ap {B = List Row} (λ (xs : List Row). getD rows i noRow ∷ xs) h
+      ∙ ap (take (suc n)) (sym (drop-cons rows i noRow (rw length-rowsOf l)))
+
+  rows-from : (n i : ℕ) → given n (after i) ≡ take n (drop i rows)
+  rows-from zero i = refl
+  rows-from (suc n) i = one-more n i (leb count i) refl (ap (given n) (moves i (leb count i) refl) ∙ rows-from n (suc i))
+
+  pub rows-given : (n : ℕ) → given n (startOf s .walk) ≡ take n rows
+  rows-given n = ap (given n) from-first ∙ rows-from n 0

@@ -1,0 +1,72 @@
+-- What is promised of a walk, beside its contracts. Document 01, "Recordings".
+-- `startOf` is what `start` returns, `nextOf` and `movedOn` what `next` returns and leaves, `nthOf` what `nth` returns, by the
+-- contracts in src/.
+use mathlib.Core.Path.{_≡_, refl, sym, ap, _∙_}
+use mathlib.Core.Bool.{true}
+use mathlib.Core.List.{List}
+use Prim.Native.Nat.{ℕ, _+_, _*_, min, _<_}
+use native.Mathlib.Omega.{arith}
+use lib.Dec.{leb}
+use lib.ListN.{take, getD}
+use lib.Seq.{take-all}
+use denote.Ref.{RefT, now}
+use Rattle.recording.specs.declared.Reading.{Reading}
+use Rattle.recording.specs.Reader.{reading}
+use Rattle.recording.specs.Answers.{number, place, rowCount, firstRow, rowWidth, ended, noRow, stepRow}
+use Rattle.recording.specs.Steps.{rowsOf}
+use Rattle.recording.specs.Refused.{Refused}
+use Rattle.recording.proofs.Theorems.{Accepted, ended-elsewhere, refused-as-said}
+use Rattle.recording.proofs.Trips.{length-rowsOf}
+use Rattle.walk.specs.declared.Walk.{Walk}
+use Rattle.walk.specs.Walks.{startOf, nextOf, movedOn, nthOf, walked, given}
+use Rattle.walk.proofs.Rows.{has-ended, count, ends, row-of, place-by, nth-step, rows-given}
+
+-- ## From the start
+
+-- n steps give the first n of the recording's rows, in order. The one after them has ended exactly if as many were given as the
+-- recording has, and gives row n else; the walk then stands past the rows that were given. It holds in any bytes: where the
+-- reader refuses, the row count and the place are 0.
+pub walk-gives-the-rows : (s : RefT (List ℕ)) (n : ℕ) → let w = startOf s .walk in let a = reading (now s) .answer in
+    (given n w ≡ take n (rowsOf (now s)))
+    × (ended (nextOf (walked n w)) ≡ leb (rowCount a) n)
+    × (stepRow (nextOf (walked n w)) ≡ getD (rowsOf (now s)) n noRow)
+    × (walked n w ≡ record { bytes = s; place = firstRow a + rowWidth a * min n (rowCount a) })
+walk-gives-the-rows s n = (
+  rows-given s n,
+  ap (λ (w : Walk). ended (nextOf w)) (place-by s n) ∙ ends s n (leb (count s) n) refl,
+  ap (λ (w : Walk). stepRow (nextOf w)) (place-by s n) ∙ row-of s n (leb (count s) n) refl,
+  place-by s n,
+)
+
+-- so as many steps as it has rows give them all
+pub walk-gives-all-rows : (s : RefT (List ℕ)) → given (rowCount (reading (now s) .answer)) (startOf s .walk) ≡ rowsOf (now s)
+walk-gives-all-rows s = rows-given s (count s) ∙ take-all (count s) (rowsOf (now s)) (omega (arith, length-rowsOf (now s)))
+
+-- `nth` gives what the walk gives after n others
+pub nth-of-the-walk : (s : RefT (List ℕ)) (n : ℕ) → nthOf (now s) n ≡ nextOf (walked n (startOf s .walk))
+nth-of-the-walk s n = sym (nth-step s n)
+
+-- ## Ended
+
+-- an ended walk keeps its place, so it has ended for ever
+pub ended-stays : (w : Walk) → ended (nextOf w) ≡ true → movedOn w ≡ w
+ended-stays w e = rw (has-ended (nextOf w) e)
+
+-- any walk has ended whose place is no row's first byte
+pub walk-elsewhere-has-ended : (w : Walk) → let a = reading (now (w .bytes)) .answer in
+    ((i : ℕ) → i < rowCount a → w .place ≡ firstRow a + rowWidth a * i → ⊥) → ended (nextOf w) ≡ true
+walk-elsewhere-has-ended w none = ended-elsewhere (now (w .bytes)) (w .place) none
+
+-- or whose bytes the reader refuses
+pub walk-on-refused-has-ended : (w : Walk) → (Accepted (now (w .bytes)) → ⊥) → ended (nextOf w) ≡ true
+walk-on-refused-has-ended w h =
+    let e = refused-as-said (now (w .bytes)) h .0 in
+    let none : rowCount (reading (now (w .bytes)) .answer) ≡ 0 = ap (λ (x : Reading). rowCount (x .answer)) e in
+    walk-elsewhere-has-ended w (λ i l _. absurd (omega (arith, none, l)))
+
+-- on those, `start` gives the reader's refusal, and a walk at 0
+pub start-on-refused : (s : RefT (List ℕ)) → (Accepted (now s) → ⊥) → let z = startOf s in let a = reading (now s) .answer in
+    (z .answer ≡ a) × Refused (now s) (number a) (place a) × (z .walk ≡ record { bytes = s; place = 0 })
+start-on-refused s h =
+    let e = refused-as-said (now s) h in
+    (refl, e .1, ap {B = Walk} (λ (x : Reading). record { bytes = s; place = firstRow (x .answer) }) (e .0))
