@@ -380,8 +380,8 @@ fn recordings_reach_their_sizes() {
     assert!(many(500) >= 2, "{}", many(500));
 }
 
-/// An effect changes its state at most three times in two rows, and the first row takes it
-/// out of Tripped by one change: 3 x 1,024 x 16 records are the most.
+/// The longest that we can make: an effect changes three times in two rows, over and over,
+/// 3 x 1,024 x 16 records.
 #[test]
 fn the_longest_listing_has_no_number_twice() {
     let named = cases().iter().find(|named| named.name == "longest listing");
@@ -393,7 +393,7 @@ fn the_longest_listing_has_no_number_twice() {
     assert_eq!(longest.max(), Some(text.len()));
 }
 
-/// No recording gives more: over all rows that one effect can meet, the most changes after
+/// Nothing tried gives more: over all rows that one effect can meet, the most changes after
 /// each row, by the state that it ends in. Delays of one scan and of more are enough, since
 /// only whether a timer ends inside its row matters.
 #[test]
