@@ -1,2 +1,3 @@
 pub mod Turn
-pub mod Refused
+pub mod Ended
+pub mod Theorems

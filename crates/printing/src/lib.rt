@@ -9,7 +9,7 @@ ghost use Rattle.recording.specs.Reader.{reading};
 ghost use Rattle.rerun.specs.Turn.{Going};
 ghost use Rattle.printing.specs.Filled.{Filled};
 ghost use Rattle.rerun.specs.Replay.{replay};
-ghost use Rattle.printing.specs.Status.{status as statusOf, Ended};
+ghost use Rattle.printing.specs.Status.{status as statusOf, Told};
 use listing::Printed;
 use recording::Answer;
 use rerun::Totals;
@@ -94,7 +94,7 @@ fn make_room(out: &[u8], at: usize) -> Room
 
 fn print_closing(p: Printed, out: &mut [u8]) -> u8
     requires { ⌜ (p .at ≤ length (now out)) × (mostPiece ≤ length (now out)) ⌝ }
-    ensures { λ r. ⌜ Ended (p .number) r ⌝ }
+    ensures { λ r. ⌜ Told (p .number) r ⌝ }
 {
     let room = make_room(out, p.at);
     if !room.good {
@@ -116,7 +116,7 @@ fn print_rows(
 ) -> u8
     requires { ⌜ Going (now s) st width start × (rows ≡ rowCount (reading (now s) .answer)) ⌝ }
     requires { ⌜ (at ≤ length (now out)) × (mostPiece ≤ length (now out)) ⌝ }
-    ensures { λ r. ⌜ Ended (replay (now (s .entry)) .number) r ⌝ }
+    ensures { λ r. ⌜ Told (replay (now (s .entry)) .number) r ⌝ }
 {
     let mut p = fill(s, st, width, rows, start, out, at);
     while p.full {
@@ -133,7 +133,7 @@ fn print_rows(
 // took no more.
 pub fn print(s: &[u8], out: &mut [u8]) -> u8
     requires { ⌜ mostPiece ≤ length (now out) ⌝ }
-    ensures { λ r. ⌜ Ended (replay (now (s .entry)) .number) r ⌝ }
+    ensures { λ r. ⌜ Told (replay (now (s .entry)) .number) r ⌝ }
 {
     let reading = recording::read(s);
     let opened = listing::opening(reading, out, 0);

@@ -6,8 +6,8 @@ use borrow.Author.Needs.{needs}
 use Rattle.recording.specs.declared.Reading.{Reading}
 use Rattle.recording.specs.Answers.{rowCount}
 use Rattle.rerun.proofs.Turns.{begins}
-use Rattle.printing.specs.Status.{status}
-use Rattle.printing.proofs.Refused.{refused-number}
+use Rattle.rerun.specs.Replay.{replay}
+use Rattle.printing.proofs.Ended.{told, told-of, number-of-refused}
 use Rattle.printing.proofs.print.Statement.{statement}
 use Rattle.printing.proofs.print.Tie as tie
 
@@ -27,13 +27,13 @@ flush-requires c κs = let within = c .before .before .before .before .before .b
 returns : tie.Need-returns
 returns c = c .before .before .print-rows .ensures
 
--- a refused file
 returns-2 : tie.Need-returns-2
 returns-2 c =
-    let start = c .before .before .before .before .before .before .before .before .before .before .before .before .before .before in
+    let s = now (c .before .before .before .before .before .before .before .before .before .before .before .before .before .before .args .s) in
     let is = c .before .before .before .before .before .before .before .before .before .before .before .read .ensures in
-    let answer = sym (ap (λ (r : Reading). r .answer) is) ∙ c .before .before .before .before .answer2 .given .1 in
-    record { good = c .before .flush .result; is = c .status .ensures ∙ ap (status (c .before .flush .result)) (sym (refused-number (now (start .args .s)) _ _ answer)) }
+    let told-us = c .before .before .before .before .answer2 .given in
+    let answer = sym (ap (λ (r : Reading). r .answer) is) ∙ told-us .1 in
+    told-of (told-us .0 .0) (replay s .number) _ (sym (number-of-refused s _ _ answer)) (told (c .before .flush .result) (told-us .0 .0) _ (c .status .ensures))
 
 pub print-spec : {M : Type 1} → statement M
 print-spec =

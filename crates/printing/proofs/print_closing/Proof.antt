@@ -1,7 +1,8 @@
 -- `printing::print_closing` meets its contract: there is room for the closing, and it lies within the buffer.
-use mathlib.Core.Bool.{false}
+use mathlib.Core.Logic.{inl}
 use native.Mathlib.Omega.{arith}
 use borrow.Author.Needs.{needs}
+use Rattle.printing.proofs.Ended.{told}
 use Rattle.printing.proofs.print_closing.Statement.{statement}
 use Rattle.printing.proofs.print_closing.Tie as tie
 
@@ -11,10 +12,10 @@ flush-requires c κs =
     omega (arith, within)
 
 returns : tie.Need-returns
-returns c = record { good = false; is = c .status .ensures }
+returns c = inl (c .status .ensures)
 
 returns-2 : tie.Need-returns-2
-returns-2 c = record { good = c .before .flush .result; is = c .status2 .ensures }
+returns-2 c = told (c .before .flush .result) (c .before .before .before .before .before .before .before .before .before .before .before .before .before .args .p .number) _ (c .status2 .ensures)
 
 pub print-closing-spec : {M : Type 1} → statement M
 print-closing-spec =

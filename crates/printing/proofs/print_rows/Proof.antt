@@ -1,15 +1,16 @@
 -- `printing::print_rows` meets its contract: buffer after buffer, the loop goes on from the row that did not fit.
-use mathlib.Core.Path.{_≡_, ap, _∙_}
+use mathlib.Core.Path.{_≡_}
+use mathlib.Core.Logic.{inl}
 use mathlib.Core.Bool.{true, false}
 use Prim.Native.Nat.{_≤_}
 use native.Mathlib.Omega.{arith}
 use denote.Ref.{now}
 use lib.ListN.{length}
 use borrow.Author.Needs.{needs}
-use Rattle.rerun.specs.Replay.{replay}
 use Rattle.rerun.specs.Turn.{Going}
-use Rattle.printing.specs.Status.{status}
+use Rattle.rerun.specs.Replay.{replay}
 use Rattle.printing.proofs.Turn.{left, falls}
+use Rattle.printing.proofs.Ended.{told-of}
 use Rattle.printing.proofs.print_rows.Statement.{statement}
 use Rattle.printing.proofs.print_rows.Tie as tie
 
@@ -50,15 +51,13 @@ print-closing-requires c κs =
     let l = c .before .before .loop in
     (omega (arith, l .inv .0, l .inv .1), omega (arith, l .inv .0, c .before .before .before .before .before .before .before .before .before .pre .1 .1))
 
--- the output took no more
 returns : tie.Need-returns Inv-loop μ-loop
-returns c = record { good = false; is = c .status .ensures }
+returns c = inl (c .status .ensures)
 
 returns-2 : tie.Need-returns-2 Inv-loop μ-loop
 returns-2 c =
-    let e = c .before .before .print-closing .ensures in
-    let number = c .before .before .before .before .before .loop .inv .3 (c .before .before .before .before .loop-test .left) in
-    record { good = e .good; is = e .is ∙ ap (status (e .good)) number }
+    let l = c .before .before .before .before .before .loop in
+    told-of (l .p .number) (replay (now (c .before .before .before .before .before .before .before .before .before .before .before .before .args .s)) .number) _ (l .inv .3 (c .before .before .before .before .loop-test .left)) (c .before .before .print-closing .ensures)
 
 pub print-rows-spec : {M : Type 1} → statement M
 print-rows-spec =

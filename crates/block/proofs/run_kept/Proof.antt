@@ -1,0 +1,23 @@
+-- `block::run_kept` meets its contract: the stroke is the run of single scans from the state that the words show.
+use mathlib.Core.Path.{_≡_, refl}
+use borrow.Author.Needs.{needs}
+use denote.Ref.{now}
+use Rattle.block.specs.Run.{reachedBy}
+use Rattle.block.proofs.Answers.{settings-right, row-right, countable}
+use Rattle.block.proofs.Runs.{kept-laid, kept-run}
+use Rattle.block.proofs.run_kept.Statement.{statement}
+use Rattle.block.proofs.run_kept.Tie as tie
+
+stroke-requires : tie.Need-stroke-requires
+stroke-requires c κs =
+    let s = c .before .before in
+    let a = s .args in
+    let x = reachedBy (a .st .count) (a .from) in
+    let input = s .pre .1 .0 in
+    (settings-right (a .st) (a .row) x _ refl input, s .pre .0 .0, row-right (a .st) (a .row) x _ refl input, countable (a .st) (a .row) x _ refl input, s .pre .0 .1, s .pre .1 .1)
+
+returns : tie.Need-returns
+returns c = ?
+
+pub run-kept-spec : {M : Type 1} → statement M
+run-kept-spec = tie.close (tie.spec stroke-requires (λ c κs. search needs) (λ c κs. search needs) (λ c. search needs) returns)
