@@ -104,6 +104,10 @@ module _ (st : Settings) (row : Row) (x : State) (settings : settingsNumber st �
       let ready : Ready st settings (row .words) (row .hold + 0) x = record { words = row-words (limitsOf st) row right-row; state = state; scans = omega arith } in
       ready-at st settings (row .hold) 0 (row .words) (start x) ready .state
 
+  -- and as many slots as it had
+  pub a-held-run-keeps-its-slots : length (run st row x .state .slots) ≡ length (x .slots)
+  a-held-run-keeps-its-slots = runs.slots-stay st row x right-input-is-accepted
+
 -- each effect changes state at most twice in a held run
 pub each-effect-moves-at-most-twice : (st : Settings) (row : Row) (i : ℕ) (x : Slot) → moves (signalsOf st (row .words) i) (row .hold) x ≤ 2
 each-effect-moves-at-most-twice st row i x = moves-at-most-two (signalsOf st (row .words) i) (row .hold) x

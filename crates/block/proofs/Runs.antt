@@ -14,7 +14,8 @@ use Rattle.effects.specs.Scan.{effectWord, latentWord, anyExercised}
 use Rattle.rounds.specs.Steps.{Run, start as startRun, held}
 use Rattle.rounds.proofs.Held.{live-at-most, due-at-most, length-slots}
 use Rattle.planes.specs.Table.{tableOf, slotsOf}
-use Rattle.planes.specs.Board.{runOf as runFrom, boardOf}
+use Rattle.planes.specs.declared.Board.{Board}
+use Rattle.planes.specs.Board.{runOf as runFrom, boardOf, begun}
 use Rattle.wiring.specs.declared.Stroked.{Stroked}
 use Rattle.wiring.specs.Wiring.{strokedBy}
 use Rattle.settings.specs.declared.Settings.{Settings}
@@ -24,10 +25,11 @@ use Rattle.settings.specs.Signals.{signals, signalsOf}
 use Rattle.settings.proofs.Right.{row-words}
 use Rattle.block.specs.declared.State.{State}
 use Rattle.block.specs.declared.Ran.{Ran}
+use Rattle.block.specs.declared.Kept.{Kept}
 use Rattle.block.specs.Scan.{inputNumber}
 use Rattle.block.specs.Held.{start, run}
 use Rattle.block.specs.State.{stateNumber}
-use Rattle.block.specs.Run.{startOf, reachedBy, ranOf}
+use Rattle.block.specs.Run.{startOf, reachedBy, ranOf, keptOf}
 use Rattle.block.proofs.Answers.{settings-right, state-right, row-right, few, countable, hold-some}
 use Rattle.block.proofs.Boards.{shows}
 use Rattle.block.proofs.Stepping.{Ready, ready-at, runOf, stepped-runs, stepped-done, stepped-effect, stepped-latent, stepped-exercised}
@@ -95,6 +97,10 @@ module _ (st : Settings) (row : Row) (x : State) (input : inputNumber st x row �
       let r : Ready st right (row .words) (row .hold + 0) x = record { words = ready .words; state = ready .state; scans = omega (arith, ready .scans) } in
       ready-at st right (row .hold) 0 (row .words) (start x) r .state
 
+  -- there are as many slots as before
+  pub slots-stay : length (run st row x .state .slots) ≡ length (x .slots)
+  slots-stay = ap (λ (r : Run). length (r .slots)) run-is ∙ length-slots (signals st (row .words)) (row .hold) (startRun (x .done) (x .next) (x .slots))
+
   -- ## What the code holds
 
   module _ (long : length (x .slots) ≡ 16) where
@@ -115,7 +121,7 @@ module _ (st : Settings) (row : Row) (x : State) (input : inputNumber st x row �
     laid space space′ e = e ∙ ap (λ (r : Run). sets space 0 (bytes (r .events))) stroke-is
 
     long-after : length (run st row x .state .slots) ≡ 16
-    long-after = ap (λ (r : Run). length (r .slots)) run-is ∙ length-slots (signals st (row .words)) (row .hold) (startRun (x .done) (x .next) (x .slots)) ∙ long
+    long-after = slots-stay ∙ long
 
     module _ (s : Stroked) (e : s ≡ strokedBy st (row .words) stroke) where
       comes-to : s ≡ strokedBy st (row .words) (runOf (run st row x))
@@ -133,3 +139,29 @@ module _ (st : Settings) (row : Row) (x : State) (input : inputNumber st x row �
           let gi = ap (λ (q : Stroked). q .board .live) comes-to in
           let gv = ev ∙ ap (λ (q : Stroked). row .hold * one (q .exercised)) comes-to ∙ sym exercised-is in
           λ i. record { state = gr i; effect = gf i; latent = gl i; records = gn i; live = gi i; exercised = gv i }
+
+-- ## Where the words are kept
+
+module _ (st : Settings) (row : Row) (from : Board) (input : inputNumber st (reachedBy (st .count) from) row ≡ 0) where
+  abbrev at : State
+  at = reachedBy (st .count) from
+
+  abbrev kept-stroke : Run
+  kept-stroke = held (signals st (row .words)) (row .hold) (runFrom (st .count) from)
+
+  -- it starts at the state that the words show
+  kept-is : kept-stroke ≡ runOf (run st row at)
+  kept-is = sym (run-is st row at input)
+
+  pub kept-laid : (space space′ : List ℕ) → space′ ≡ sets space 0 (bytes (kept-stroke .events)) → space′ ≡ sets space 0 (bytes (run st row at .events))
+  kept-laid space space′ e = e ∙ ap (λ (r : Run). sets space 0 (bytes (r .events))) kept-is
+
+  pub kept-run : (s : Stroked) → s ≡ strokedBy st (row .words) kept-stroke → (b : Board) (v : ℕ) → b ≡ begun (s .board) → v ≡ row .hold * one (s .exercised)
+      → _≡_ {A = Kept} (record { board = b; records = s .board .at / 12; live = s .board .live; exercised = v }) (keptOf (st .count) (run st row at))
+  kept-run s e b v eb ev =
+      let comes = e ∙ ap (strokedBy st (row .words)) kept-is in
+      let gb = eb ∙ ap (λ (q : Stroked). begun (q .board)) comes in
+      let gn : s .board .at / 12 ≡ length (run st row at .events) = omega (arith, ap (λ (q : Stroked). q .board .at) comes) in
+      let gi = ap (λ (q : Stroked). q .board .live) comes in
+      let gv = ev ∙ ap (λ (q : Stroked). row .hold * one (q .exercised)) comes ∙ sym (exercised-is st row at input) in
+      λ i. record { board = gb i; records = gn i; live = gi i; exercised = gv i }

@@ -5,10 +5,12 @@ use lib.ListN.{length}
 use Rattle.effects.specs.declared.Progress.{Progress}
 use Rattle.planes.specs.declared.Board.{Board}
 use Rattle.planes.specs.Table.{slotsOf}
+use Rattle.planes.specs.Board.{boardOf}
 use Rattle.block.specs.declared.State.{State}
 use Rattle.block.specs.declared.Scanned.{Scanned}
 use Rattle.block.specs.declared.Held.{Held}
 use Rattle.block.specs.declared.Ran.{Ran}
+use Rattle.block.specs.declared.Kept.{Kept}
 use Rattle.block.specs.Held.{Stepped}
 
 abbrev pub startOf : State → Progress
@@ -24,6 +26,16 @@ ranOf r =
       state = r .state;
       effect = r .effect;
       latent = r .latent;
+      records = length (r .events);
+      live = r .live;
+      exercised = r .exercised;
+    }
+
+-- the same where the words of n effects are kept
+abbrev pub keptOf : ℕ → Stepped → Kept
+keptOf n r =
+    record {
+      board = boardOf n (startOf (r .state));
       records = length (r .events);
       live = r .live;
       exercised = r .exercised;

@@ -12,7 +12,9 @@ ghost use Rattle.block.specs.State.{timerRight, firstRight, slotRight, s
 ghost use Rattle.block.specs.Scan.{scansNumber, inputNumber, refusedScan, scanOf, scanInto};
 ghost use Rattle.block.specs.Held.{run, refusedHeld, heldOf, heldInto};
 ghost use Rattle.planes.specs.Board.{boardOf};
-ghost use Rattle.block.specs.Run.{startOf, reachedBy, ranOf, scannedBy, heldBy};
+ghost use Rattle.planes.specs.Table.{tableOf, slotsOf};
+ghost use Rattle.wiring.specs.Wiring.{wiringOf};
+ghost use Rattle.block.specs.Run.{startOf, reachedBy, ranOf, keptOf, scannedBy, heldBy};
 use planes::Board;
 use rules::EffectState;
 use rules::Slot;
@@ -20,6 +22,7 @@ use settings::Effect;
 use settings::Row;
 use settings::Settings;
 use settings::Words;
+use wiring::Wiring;
 
 // The state of the block: scans done, the next sequence number, and sixteen slots, one for each effect.
 pub struct State {
@@ -56,6 +59,15 @@ pub struct Ran {
     pub state: State,
     pub effect: u16,
     pub latent: u16,
+    pub records: usize,
+    pub live: u32,
+    pub exercised: u32,
+}
+
+// What a held run gives that keeps the words of the effects: the words that the next row starts with, the number of records,
+// and the live and exercised scans.
+pub struct Kept {
+    pub board: Board,
     pub records: usize,
     pub live: u32,
     pub exercised: u32,
@@ -234,6 +246,31 @@ fn reached(count: usize, b: Board) -> State
         done: b.done,
         next: b.next,
         slots: planes::slots_of(count, table),
+    }
+}
+
+// A fresh state by the words of its effects.
+pub fn fresh_board(count: usize) -> Board
+    requires { ⌜ count ≤ 16 ⌝ }
+    ensures { λ r. ⌜ r ≡ boardOf count (startOf freshState) ⌝ }
+{
+    board_of(count, State::fresh())
+}
+
+// A held run as `run_right` gives it, where the words of the effects are kept from row to row.
+pub fn run_kept(buf: &mut [u8], st: Settings, x: Wiring, row: Row, from: Board) -> Kept
+    requires { ⌜ (x ≡ wiringOf st) × (from .table ≡ tableOf (st .count) (slotsOf (st .count) (from .table))) ⌝ }
+    requires { ⌜ (inputNumber st (reachedBy (st .count) from) row ≡ 0) × (24 * st .count ≤ length (now buf)) ⌝ }
+    ensures { λ r. ⌜ r ≡ keptOf (st .count) (run st row (reachedBy (st .count) from)) ⌝ }
+    ensures { λ _. ⌜ now (buf .exit) ≡ sets (now (buf .entry)) 0 (bytes (run st row (reachedBy (st .count) from) .events)) ⌝ }
+{
+    let r = wiring::stroke(buf, st, x, row, from);
+    let board = r.board;
+    Kept {
+        board: planes::begin(board),
+        records: board.at / 12,
+        live: board.live,
+        exercised: exercised_scans(row.hold, r.exercised),
     }
 }
 

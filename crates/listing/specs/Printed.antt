@@ -32,7 +32,7 @@ rowLines s i = granted (firstRows s (i + 1) .number) (lines (rowRun s i .events)
 -- by the number of the row that came last, and the totals: the last line, or the refusal's line with the place of that row
 unfoldable pub closing : (number : ℕ) → Totals → List ℕ
 closing number t =
-    granted number (lastLine (t .rows) (t .state .done) (t .live) (t .exercised)) (λ n. refusalLine n (t .place))
+    granted number (lastLine (t .rows) (t .board .done) (t .live) (t .exercised)) (λ n. refusalLine n (t .place))
 
 -- the lines of the first n rows, joined
 abbrev pub rowsLines : List ℕ → (n : ℕ) → List ℕ

@@ -10,12 +10,14 @@ ghost use lib.Seq.{sets};
 ghost use Rattle.recording.specs.Answers.{rowCount};
 ghost use Rattle.recording.specs.Reader.{reading as readingOf};
 ghost use Rattle.rerun.specs.Turn.{Going};
+ghost use Rattle.wiring.specs.Wiring.{wiringOf};
 ghost use Rattle.listing.specs.Room.{mostPiece};
 ghost use Rattle.listing.specs.Printed.{opening as openingOf, closing as closingOf, rowLines, hasRoom, placed, written, printed};
 use recording::Answer;
 use recording::Reading;
 use rerun::Totals;
 use settings::Settings;
+use wiring::Wiring;
 
 // Whether the buffer was full, and the place after the piece.
 pub struct Piece {
@@ -83,8 +85,16 @@ pub fn opening(reading: Reading, out: &mut [u8], at: usize) -> Piece
 }
 
 // The lines of the row after those that the totals count.
-pub fn row(s: &[u8], st: Settings, width: usize, t: Totals, out: &mut [u8], at: usize) -> Printed
-    requires { ⌜ Going (now s) st width t × (t .rows < rowCount (readingOf (now s) .answer)) ⌝ }
+pub fn row(
+    s: &[u8],
+    st: Settings,
+    x: Wiring,
+    width: usize,
+    t: Totals,
+    out: &mut [u8],
+    at: usize,
+) -> Printed
+    requires { ⌜ Going (now s) st width t × (t .rows < rowCount (readingOf (now s) .answer)) × (x ≡ wiringOf st) ⌝ }
     ensures { λ r. ⌜ r ≡ printed (now (s .entry)) t (length (now (out .entry))) at ⌝ }
     ensures { λ _. ⌜ now (out .exit) ≡ placed (now (out .entry)) at (rowLines (now (s .entry)) (t .rows)) ⌝ }
     ensures { λ r. ⌜ (at ≤ length (now (out .entry)) → r .at ≤ length (now (out .entry))) ⌝ }
@@ -98,7 +108,7 @@ pub fn row(s: &[u8], st: Settings, width: usize, t: Totals, out: &mut [u8], at: 
         };
     }
     let mut records = [0u8; 384];
-    let turn = rerun::row(s, st, width, t, &mut records);
+    let turn = rerun::row(s, st, x, width, t, &mut records);
     let next = text::put_lines(out, at, &records, turn.records);
     let totals = turn.totals;
     Printed {
@@ -115,8 +125,8 @@ fn put_closing(out: &mut [u8], at: usize, number: u8, t: Totals) -> usize
     ensures { λ r. ⌜ r ≤ length (now (out .entry)) ⌝ }
 {
     if number == 0 {
-        let state = t.state;
-        text::put_last(out, at, t.rows, state.done, t.live, t.exercised)
+        let board = t.board;
+        text::put_last(out, at, t.rows, board.done, t.live, t.exercised)
     } else {
         text::put_refusal(out, at, number, t.place)
     }

@@ -432,7 +432,7 @@ fn unset(w: Asked) -> Asked
 }
 
 // The run that starts where another has come to.
-fn begin(x: Board) -> Board
+pub fn begin(x: Board) -> Board
     ensures { λ r. ⌜ r ≡ begun x ⌝ }
 {
     let table = x.table;

@@ -16,8 +16,8 @@ use Rattle.listing.proofs.Theorems.{pieces-are-the-listing}
 use Rattle.printing.specs.Filled.{soFar, Filled}
 
 -- before the first row the listing so far is the opening
-pub opening-so-far : (s : List ℕ) (first : ℕ) → soFar s (totalsAt first) ≡ opening (reading s .answer)
-opening-so-far s first = append-nil (opening (reading s .answer))
+pub opening-so-far : (s : List ℕ) (n first : ℕ) → soFar s (totalsAt n first) ≡ opening (reading s .answer)
+opening-so-far s n first = append-nil (opening (reading s .answer))
 
 -- with the last buffer, what was given before it and the closing it is the whole
 pub last-buffer-ends-the-listing : (s : List ℕ) (rows first width : ℕ) → reading s .answer ≡ Accepted rows first width

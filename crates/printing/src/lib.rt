@@ -7,6 +7,7 @@ ghost use Rattle.listing.specs.Room.{mostPiece};
 ghost use Rattle.recording.specs.Answers.{rowCount};
 ghost use Rattle.recording.specs.Reader.{reading};
 ghost use Rattle.rerun.specs.Turn.{Going};
+ghost use Rattle.wiring.specs.Wiring.{wiringOf};
 ghost use Rattle.printing.specs.Filled.{Filled};
 ghost use Rattle.rerun.specs.Replay.{replay};
 ghost use Rattle.printing.specs.Status.{status as statusOf, Told};
@@ -14,6 +15,7 @@ use listing::Printed;
 use recording::Answer;
 use rerun::Totals;
 use settings::Settings;
+use wiring::Wiring;
 
 // ---- the text
 
@@ -22,19 +24,20 @@ use settings::Settings;
 fn fill(
     s: &[u8],
     st: Settings,
+    x: Wiring,
     width: usize,
     rows: u16,
     start: Totals,
     out: &mut [u8],
     from: usize,
 ) -> Printed
-    requires { ⌜ Going (now s) st width start × (rows ≡ rowCount (reading (now s) .answer)) ⌝ }
+    requires { ⌜ Going (now s) st width start × (rows ≡ rowCount (reading (now s) .answer)) × (x ≡ wiringOf st) ⌝ }
     ensures { λ r. ⌜ Filled (now (s .entry)) st width start from (now (out .entry)) r (now (out .exit)) ⌝ }
 {
     let mut t = start;
     let mut at = from;
     while t.rows < rows as u32 {
-        let p = listing::row(s, st, width, t, out, at);
+        let p = listing::row(s, st, x, width, t, out, at);
         if p.full {
             return p;
         }
@@ -108,23 +111,24 @@ fn print_closing(p: Printed, out: &mut [u8]) -> u8
 fn print_rows(
     s: &[u8],
     st: Settings,
+    x: Wiring,
     width: usize,
     rows: u16,
     start: Totals,
     out: &mut [u8],
     at: usize,
 ) -> u8
-    requires { ⌜ Going (now s) st width start × (rows ≡ rowCount (reading (now s) .answer)) ⌝ }
+    requires { ⌜ Going (now s) st width start × (rows ≡ rowCount (reading (now s) .answer)) × (x ≡ wiringOf st) ⌝ }
     requires { ⌜ (at ≤ length (now out)) × (mostPiece ≤ length (now out)) ⌝ }
     ensures { λ r. ⌜ Told (replay (now (s .entry)) .number) r ⌝ }
 {
-    let mut p = fill(s, st, width, rows, start, out, at);
+    let mut p = fill(s, st, x, width, rows, start, out, at);
     while p.full {
         if !flush(out, p.at) {
             return status(false, p.number);
         }
         let t = p.totals;
-        p = fill(s, st, width, rows, t, out, 0);
+        p = fill(s, st, x, width, rows, t, out, 0);
     }
     print_closing(p, out)
 }
@@ -141,7 +145,17 @@ pub fn print(s: &[u8], out: &mut [u8]) -> u8
     let answer = reading.answer;
     match answer {
         Answer::Accepted { rows, first, width } => {
-            print_rows(s, st, width, rows, rerun::start(first), out, opened.at)
+            let x = wiring::wiring_of(st);
+            print_rows(
+                s,
+                st,
+                x,
+                width,
+                rows,
+                rerun::start(x.count, first),
+                out,
+                opened.at,
+            )
         }
         Answer::Refused { number, place: _ } => status(flush(out, opened.at), number),
     }

@@ -166,7 +166,7 @@ module _ (s : List ℕ) where
     few-rows = omega (arith, length-rowsOf s, right .rows-most)
 
     started-sound : Sound st started
-    started-sound = record { state = a-fresh-state-is-right st; live = omega arith; exercised = omega arith }
+    started-sound = record { state = a-fresh-state-is-right st; slots = refl; live = omega arith; exercised = omega arith }
 
     -- the state that any of the first rows leave is right
     pub sound : (i : ℕ) → Sound st (firstRows s i .replay)

@@ -22,7 +22,7 @@ use Rattle.settings.proofs.Right.{count-few}
 use Rattle.block.specs.State.{stateNumber}
 use Rattle.block.specs.Scan.{scansNumber, granted}
 use Rattle.block.specs.Held.{run}
-use Rattle.block.proofs.Demands.{a-held-run-keeps-right, live-at-most-twice-the-effects, exercised-is-the-hold-or-nothing, scans-done-grow-by-the-hold}
+use Rattle.block.proofs.Demands.{a-held-run-keeps-right, a-held-run-keeps-its-slots, live-at-most-twice-the-effects, exercised-is-the-hold-or-nothing, scans-done-grow-by-the-hold}
 use Rattle.recording.specs.Encode.{All}
 use Rattle.rerun.specs.Replay.{Replay, Outcome, whole, afterRow, refusedAt, rowsFrom, sumOfHolds}
 
@@ -108,6 +108,7 @@ module _ (st : Settings) (w : ℕ) where
 
 pub record Sound (st : Settings) (r : Replay) : Type 0 where
   pub state : stateNumber st (r .state) ≡ 0
+  pub slots : length (r .state .slots) ≡ 16
   pub live : r .live ≤ 32 * r .rows
   pub exercised : r .exercised ≤ r .state .done
 
@@ -134,6 +135,7 @@ module _ (st : Settings) (right : settingsNumber st ≡ 0) where
     sound-after =
         record {
           state = a-held-run-keeps-right st row (r .state) right (sound .state) right-row scans;
+          slots = a-held-run-keeps-its-slots st row (r .state) right (sound .state) right-row scans ∙ sound .slots;
           live = omega (arith, live-few, sound .live);
           exercised = omega (arith, exercised-few, done-after, sound .exercised);
         }

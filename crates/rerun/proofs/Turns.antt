@@ -17,11 +17,18 @@ use Rattle.settings.specs.Limits.{mostScans}
 use Rattle.settings.specs.Right.{limitsOf, settingsNumber, rowNumber}
 use Rattle.settings.proofs.Refusals.{unless-none}
 use Rattle.settings.proofs.Right.{count-few}
-use Rattle.block.specs.declared.Ran.{Ran}
+use Rattle.planes.specs.Board.{boardOf}
+use Rattle.planes.specs.Table.{tableOf, slotsOf}
+use Rattle.wiring.specs.declared.Wiring.{Wiring}
+use Rattle.wiring.specs.Wiring.{wiringOf}
+use Rattle.wiring.proofs.Held.{count-of}
+use Rattle.block.specs.declared.Kept.{Kept}
+use Rattle.block.specs.declared.State.{State}
 use Rattle.block.specs.State.{stateNumber, fresh}
 use Rattle.block.specs.Scan.{inputNumber, scansNumber, granted}
 use Rattle.block.specs.Held.{Stepped, run}
-use Rattle.block.specs.Run.{ranOf}
+use Rattle.block.specs.Run.{startOf, reachedBy, keptOf}
+use Rattle.block.proofs.Boards.{shows}
 use Rattle.block.proofs.Demands.{right-input-is-accepted}
 use Rattle.recording.specs.declared.Answer.{Answer}
 use Rattle.recording.specs.declared.Answer.the-variants as A
@@ -52,14 +59,17 @@ length-turn s i buf =
 
 -- ## The beginning: what the reader answers
 
-at-first : (s : List ℕ) (first : ℕ) → firstRow (reading s .answer) ≡ first → totalsAt first ≡ totalsOf s started
+at-first : (s : List ℕ) (first : ℕ) → firstRow (reading s .answer) ≡ first → totalsAt (reading s .settings .count) first ≡ totalsOf s started
 at-first s first e =
     let p : first ≡ firstRow (reading s .answer) + rowWidth (reading s .answer) * 0 = omega (arith, e, mul-zero (rowWidth (reading s .answer))) in
-    λ j. record { state = fresh; place = p j; rows = 0; live = 0; exercised = 0 }
+    λ j. record { board = boardOf (reading s .settings .count) (startOf fresh); place = p j; rows = 0; live = 0; exercised = 0 }
 
-pub begins : (s : List ℕ) (st : Settings) (rows first width : ℕ) (t : Totals) → reading s .answer ≡ A.Accepted rows first width → st ≡ reading s .settings
-    → t ≡ totalsAt first → Going s st width t
-begins s st rows first width t a e f =
+pub few-effects : (s : List ℕ) (st : Settings) (rows first width : ℕ) → reading s .answer ≡ A.Accepted rows first width → st ≡ reading s .settings → st .count ≤ 16
+few-effects s st rows first width a e = rw e (count-few (reading s .settings) (settings-right s (ap number a)))
+
+pub begins : (s : List ℕ) (st : Settings) (x : Wiring) (rows first width : ℕ) (t : Totals) → reading s .answer ≡ A.Accepted rows first width → st ≡ reading s .settings
+    → x ≡ wiringOf st → t ≡ totalsAt (x .count) first → Going s st width t
+begins s st x rows first width t a e w f =
     let none : t .rows ≡ 0 = ap (λ (u : Totals). u .rows) f in
     let o = ap (firstRows s) none ∙ no-rows s in
     record {
@@ -68,7 +78,7 @@ begins s st rows first width t a e f =
       wide = sym (ap rowWidth a);
       counted = omega (arith, none);
       none-refused = ap (λ (v : Outcome). v .number) o;
-      totals = f ∙ at-first s first (ap firstRow a) ∙ sym (ap (λ (v : Outcome). totalsOf s (v .replay)) o);
+      totals = f ∙ ap (λ (n : ℕ). totalsAt n first) (count-of st x w) ∙ ap (λ (z : Settings). totalsAt (z .count) first) e ∙ at-first s first (ap firstRow a) ∙ sym (ap (λ (v : Outcome). totalsOf s (v .replay)) o);
     }
 
 module _ (s : List ℕ) (st : Settings) (width : ℕ) (t : Totals) (g : Going s st width t) where
@@ -85,14 +95,37 @@ module _ (s : List ℕ) (st : Settings) (width : ℕ) (t : Totals) (g : Going s 
   place-is : t .place ≡ rowPlace s (t .rows)
   place-is = ap (λ (u : Totals). u .place) (g .totals) ∙ ap (λ (n : ℕ). rowPlace s n) rows-are
 
-  state-is : t .state ≡ so-far .state
-  state-is = ap (λ (u : Totals). u .state) (g .totals)
+  abbrev n : ℕ
+  n = reading s .settings .count
+
+  board-is : t .board ≡ boardOf n (startOf (so-far .state))
+  board-is = ap (λ (u : Totals). u .board) (g .totals)
+
+  -- the words show the slots of the state
+  slots-shown : slotsOf n (tableOf n (so-far .state .slots)) ≡ so-far .state .slots
+  slots-shown =
+      let z = sound s (g .accepted) (t .rows) in
+      shows (reading s .settings) (so-far .state) (z .state) (z .slots) (settings-right s (g .accepted))
+
+  count-is : st .count ≡ n
+  count-is = ap (λ (z : Settings). z .count) (g .settings)
+
+  -- so they show the state
+  abbrev shown : State
+  shown = reachedBy (st .count) (t .board)
+
+  state-is : shown ≡ so-far .state
+  state-is = rw (count-is, board-is) (λ j. record { done = so-far .state .done; next = so-far .state .next; slots = slots-shown j })
+
+  -- and are those of what they show
+  pub words-right : t .board .table ≡ tableOf (st .count) (slotsOf (st .count) (t .board .table))
+  words-right = rw (count-is, board-is) (ap (tableOf n) (sym slots-shown))
 
   -- one row more in the totals is one row more in the replay
-  after-is : (ran : Stepped) → totalsAfter (totalsOf s so-far) (rowWidth answer) (ranOf ran) ≡ totalsOf s (joined so-far ran)
+  after-is : (ran : Stepped) → totalsAfter (totalsOf s so-far) (rowWidth answer) (keptOf n ran) ≡ totalsOf s (joined so-far ran)
   after-is ran =
       let p : rowPlace s (so-far .rows) + rowWidth answer ≡ rowPlace s (so-far .rows + 1) = rw add-one (omega (arith, mul-suc (rowWidth answer) (so-far .rows))) in
-      λ j. record { state = ran .state; place = p j; rows = so-far .rows + 1; live = so-far .live + ran .live; exercised = so-far .exercised + ran .exercised }
+      λ j. record { board = boardOf n (startOf (ran .state)); place = p j; rows = so-far .rows + 1; live = so-far .live + ran .live; exercised = so-far .exercised + ran .exercised }
 
   -- ## The end: no row is left
 
@@ -199,20 +232,20 @@ module _ (s : List ℕ) (st : Settings) (width : ℕ) (t : Totals) (g : Going s 
 
     -- ## What the code reads and computes of it
 
-    module _ (row : Row) (is : row ≡ rowAt s (t .place)) (n : ℕ) (number-is : n ≡ scansNumber (t .state .done) (row .hold)) where
+    module _ (row : Row) (is : row ≡ rowAt s (t .place)) (v : ℕ) (number-is : v ≡ scansNumber (t .board .done) (row .hold)) where
       row-is : row ≡ rowOf s (t .rows)
       row-is = is ∙ row-read
 
-      same-number : n ≡ next-number
-      same-number = number-is ∙ (λ j. scansNumber (state-is j .done) (row-is j .hold))
+      same-number : v ≡ next-number
+      same-number = number-is ∙ (λ j. scansNumber (board-is j .done) (row-is j .hold))
 
       -- a refused row
-      module _ (h : n ≡ 0 → ⊥) where
-        refused-is : firstRows s (t .rows + 1) ≡ refusedAt (rowPlace s (t .rows)) so-far n
+      module _ (h : v ≡ 0 → ⊥) where
+        refused-is : firstRows s (t .rows + 1) ≡ refusedAt (rowPlace s (t .rows)) so-far v
         refused-is =
             next-refused (λ z. h (same-number ∙ z)) ∙ ap (refusedAt (rowPlace s (t .rows)) so-far) (sym same-number)
 
-        pub refused-turn : (buf : List ℕ) → (_≡_ {A = Turn} (record { number = n; records = 0; totals = t }) (turnOf s (t .rows))) × (buf ≡ turnInto s (t .rows) buf)
+        pub refused-turn : (buf : List ℕ) → (_≡_ {A = Turn} (record { number = v; records = 0; totals = t }) (turnOf s (t .rows))) × (buf ≡ turnInto s (t .rows) buf)
         refused-turn buf =
             let en = ap (λ (o : Outcome). o .number) refused-is in
             let not-none : firstRows s (t .rows + 1) .number ≡ 0 → ⊥ = λ z. h (sym en ∙ z) in
@@ -223,35 +256,35 @@ module _ (s : List ℕ) (st : Settings) (width : ℕ) (t : Totals) (g : Going s 
             )
 
       -- a row that runs
-      module _ (z : n ≡ 0) where
-        scans : t .state .done + row .hold ≤ mostScans
-        scans = leb-true (t .state .done + row .hold) mostScans (unless-none _ 8 (sym number-is ∙ z))
+      module _ (z : v ≡ 0) where
+        scans : t .board .done + row .hold ≤ mostScans
+        scans = leb-true (t .board .done + row .hold) mostScans (unless-none _ 8 (sym number-is ∙ z))
 
         right-settings : settingsNumber st ≡ 0
         right-settings = rw (g .settings) (settings-right s (g .accepted))
 
-        right-state : stateNumber st (t .state) ≡ 0
-        right-state = rw (g .settings, state-is) (sound s (g .accepted) (t .rows) .state)
+        right-state : stateNumber st shown ≡ 0
+        right-state = rw (state-is, g .settings) (sound s (g .accepted) (t .rows) .state)
 
         right-row : rowNumber (limitsOf st) row ≡ 0
         right-row = rw (g .settings, row-is) (row-right s (g .accepted) (t .rows) more)
 
-        pub right-input : inputNumber st (t .state) row ≡ 0
-        right-input = right-input-is-accepted st row (t .state) right-settings right-state right-row scans
+        pub right-input : inputNumber st shown row ≡ 0
+        right-input = right-input-is-accepted st row shown right-settings right-state right-row scans
 
         pub room : 24 * st .count ≤ 384
         room = omega (arith, count-few st right-settings)
 
-        run-is : run st row (t .state) ≡ rowRun s (t .rows)
+        run-is : run st row shown ≡ rowRun s (t .rows)
         unfolding rowRun
         run-is = λ j. run (g .settings j) (row-is j) (state-is j)
 
         granted-is : firstRows s (t .rows + 1) ≡ whole (joined so-far (rowRun s (t .rows)))
         granted-is = next-granted (sym same-number ∙ z)
 
-        module _ (ran : Ran) (ran-is : ran ≡ ranOf (run st row (t .state))) where
-          ran-row : ran ≡ ranOf (rowRun s (t .rows))
-          ran-row = ran-is ∙ ap ranOf run-is
+        module _ (ran : Kept) (ran-is : ran ≡ keptOf (st .count) (run st row shown)) where
+          ran-row : ran ≡ keptOf n (rowRun s (t .rows))
+          ran-row = ran-is ∙ (λ j. keptOf (count-is j) (run-is j))
 
           -- the counts stay small
           pub sums : (t .place + width ≤ 1000000) × (t .rows ≤ 2048) × (t .live + ran .live ≤ 1000000) × (t .exercised + ran .exercised ≤ 1000000000)
@@ -267,11 +300,11 @@ module _ (s : List ℕ) (st : Settings) (width : ℕ) (t : Totals) (g : Going s 
               let place : rowPlace s (t .rows) ≡ 10 + 6 * reading s .settings .count + 24 * t .rows = λ j. first j + wide j * t .rows in
               (omega (arith, more, rows, place-is, place, few, g .wide, wide), omega (arith, more, rows), omega (arith, more, rows, l, kept .live, rows-are), omega (arith, x, kept .exercised, most))
 
-          pub granted-turn : (u : Totals) → u ≡ totalsAfter t width ran → (buf buf′ : List ℕ) → buf′ ≡ sets buf 0 (bytes (run st row (t .state) .events))
+          pub granted-turn : (u : Totals) → u ≡ totalsAfter t width ran → (buf buf′ : List ℕ) → buf′ ≡ sets buf 0 (bytes (run st row shown .events))
               → (_≡_ {A = Turn} (record { number = 0; records = ran .records; totals = u }) (turnOf s (t .rows))) × (buf′ ≡ turnInto s (t .rows) buf)
           granted-turn u e buf buf′ f =
               let en = ap (λ (o : Outcome). o .number) granted-is in
-              let er = ap (λ (q : Ran). q .records) ran-row ∙ sym (granted-none (length (rowRun s (t .rows) .events)) (λ k. 0) (firstRows s (t .rows + 1) .number) en) in
+              let er = ap (λ (q : Kept). q .records) ran-row ∙ sym (granted-none (length (rowRun s (t .rows) .events)) (λ k. 0) (firstRows s (t .rows + 1) .number) en) in
               let et = e ∙ (λ j. totalsAfter (g .totals j) (g .wide j) (ran-row j)) ∙ after-is (rowRun s (t .rows)) ∙ sym (ap (λ (o : Outcome). totalsOf s (o .replay)) granted-is) in
               let eb = f ∙ ap (λ (q : Stepped). sets buf 0 (bytes (q .events))) run-is in (
                 (λ j. record { number = sym en j; records = er j; totals = et j }),

@@ -73,8 +73,8 @@ answered o =
     record {
       number = o .number;
       place = o .place;
-      state = o .replay .state;
       rows = o .replay .rows;
+      scans = o .replay .state .done;
       live = o .replay .live;
       exercised = o .replay .exercised;
     }

@@ -7,7 +7,9 @@ use lib.ListN.{length}
 use lib.Seq.{sets}
 use Rattle.effects.specs.Records.{bytes}
 use Rattle.settings.specs.declared.Settings.{Settings}
-use Rattle.block.specs.declared.Ran.{Ran}
+use Rattle.planes.specs.Board.{boardOf}
+use Rattle.block.specs.declared.Kept.{Kept}
+use Rattle.block.specs.Run.{startOf}
 use Rattle.block.specs.State.{fresh}
 use Rattle.block.specs.Scan.{granted}
 use Rattle.recording.specs.Answers.{number, rowCount, rowWidth}
@@ -17,14 +19,15 @@ use Rattle.rerun.specs.declared.Turn.{Turn}
 use Rattle.rerun.specs.declared.Replayed.{Replayed}
 use Rattle.rerun.specs.Replay.{Replay, firstRows, rowPlace, rowRun}
 
-abbrev pub totalsAt : (first : ℕ) → Totals
-totalsAt first = record { state = fresh; place = first; rows = 0; live = 0; exercised = 0 }
+-- a fresh state of n effects, by their words
+abbrev pub totalsAt : (n first : ℕ) → Totals
+totalsAt n first = record { board = boardOf n (startOf fresh); place = first; rows = 0; live = 0; exercised = 0 }
 
 -- the place is that of the row after the rows so far
 abbrev pub totalsOf : List ℕ → Replay → Totals
 totalsOf s r =
     record {
-      state = r .state;
+      board = boardOf (reading s .settings .count) (startOf (r .state));
       place = rowPlace s (r .rows);
       rows = r .rows;
       live = r .live;
@@ -32,10 +35,10 @@ totalsOf s r =
     }
 
 -- one row more, which ran so
-abbrev pub totalsAfter : Totals → (width : ℕ) → Ran → Totals
+abbrev pub totalsAfter : Totals → (width : ℕ) → Kept → Totals
 totalsAfter t width ran =
     record {
-      state = ran .state;
+      board = ran .board;
       place = t .place + width;
       rows = t .rows + 1;
       live = t .live + ran .live;
@@ -44,7 +47,7 @@ totalsAfter t width ran =
 
 abbrev pub answerBy : (number place : ℕ) → Totals → Replayed
 answerBy number place t =
-    record { number = number; place = place; state = t .state; rows = t .rows; live = t .live; exercised = t .exercised }
+    record { number = number; place = place; rows = t .rows; scans = t .board .done; live = t .live; exercised = t .exercised }
 
 -- in an accepted file with these settings and rows of this width: the totals are those of as many first rows as they count,
 -- none of which was refused

@@ -6,16 +6,18 @@ ghost use lib.ListN.{length};
 ghost use Rattle.recording.specs.declared.Answer.the-variants.{Accepted};
 ghost use Rattle.recording.specs.Answers.{rowCount};
 ghost use Rattle.recording.specs.Reader.{reading};
+ghost use Rattle.wiring.specs.Wiring.{wiringOf};
 ghost use Rattle.rerun.specs.Replay.{started, refusedAt, replay as wholeReplay, answered};
 ghost use Rattle.rerun.specs.Turn.{answerBy, totalsAt, totalsAfter, Going, turnOf, turnInto};
-use block::Ran;
-use block::State;
+use block::Kept;
+use planes::Board;
 use recording::Answer;
 use settings::Settings;
+use wiring::Wiring;
 
-// What the rows so far have given, and the place of the row after them.
+// What the rows so far have given, by the words of the effects, and the place of the row after them.
 pub struct Totals {
-    pub state: State,
+    pub board: Board,
     pub place: usize,
     pub rows: u32,
     pub live: u32,
@@ -34,20 +36,21 @@ pub struct Turn {
 pub struct Replayed {
     pub number: u8,
     pub place: usize,
-    pub state: State,
     pub rows: u32,
+    pub scans: u32,
     pub live: u32,
     pub exercised: u32,
 }
 
 // ---- row by row
 
-// Before the first row, which stands at `first`.
-pub fn start(first: usize) -> Totals
-    ensures { λ r. ⌜ r ≡ totalsAt first ⌝ }
+// Before the first row, which stands at `first`, with so many effects.
+pub fn start(count: usize, first: usize) -> Totals
+    requires { ⌜ count ≤ 16 ⌝ }
+    ensures { λ r. ⌜ r ≡ totalsAt count first ⌝ }
 {
     Totals {
-        state: State::fresh(),
+        board: block::fresh_board(count),
         place: first,
         rows: 0,
         live: 0,
@@ -56,13 +59,13 @@ pub fn start(first: usize) -> Totals
 }
 
 // The totals after a row that ran so.
-fn after_row(t: Totals, width: usize, ran: Ran) -> Totals
+fn after_row(t: Totals, width: usize, ran: Kept) -> Totals
     requires { ⌜ (t .place + width ≤ 1000000) × (t .rows ≤ 2048) × (t .live + ran .live ≤ 1000000) × (t .exercised + ran .exercised ≤ 1000000000) ⌝ }
     ensures { λ r. ⌜ r ≡ totalsAfter t width ran ⌝ }
 {
-    let state = ran.state;
+    let board = ran.board;
     Totals {
-        state: state,
+        board,
         place: t.place + width,
         rows: t.rows + 1,
         live: t.live + ran.live,
@@ -70,15 +73,15 @@ fn after_row(t: Totals, width: usize, ran: Ran) -> Totals
     }
 }
 
-// One row more: the one at the totals' place. Its records go to the front of `buf`.
-pub fn row(s: &[u8], st: Settings, width: usize, t: Totals, buf: &mut [u8]) -> Turn
-    requires { ⌜ Going (now s) st width t × (t .rows < rowCount (reading (now s) .answer)) × (384 ≤ length (now buf)) ⌝ }
+// One row more: the one at the totals' place. Its records go to the front of `buf`. What the settings give is made once.
+pub fn row(s: &[u8], st: Settings, x: Wiring, width: usize, t: Totals, buf: &mut [u8]) -> Turn
+    requires { ⌜ Going (now s) st width t × (t .rows < rowCount (reading (now s) .answer)) × (384 ≤ length (now buf)) × (x ≡ wiringOf st) ⌝ }
     ensures { λ r. ⌜ r ≡ turnOf (now (s .entry)) (t .rows) ⌝ }
     ensures { λ _. ⌜ now (buf .exit) ≡ turnInto (now (s .entry)) (t .rows) (now (buf .entry)) ⌝ }
 {
     let row = recording::row_at(s, t.place);
-    let state = t.state;
-    let number = block::scans_number(state.done, row.hold);
+    let board = t.board;
+    let number = block::scans_number(board.done, row.hold);
     if number != 0 {
         return Turn {
             number: number,
@@ -86,7 +89,7 @@ pub fn row(s: &[u8], st: Settings, width: usize, t: Totals, buf: &mut [u8]) -> T
             totals: t,
         };
     }
-    let ran = block::run_right(buf, st, row, state);
+    let ran = block::run_kept(buf, st, x, row, board);
     Turn {
         number: 0,
         records: ran.records,
@@ -100,12 +103,12 @@ pub fn row(s: &[u8], st: Settings, width: usize, t: Totals, buf: &mut [u8]) -> T
 fn answer_by(number: u8, place: usize, t: Totals) -> Replayed
     ensures { λ r. ⌜ r ≡ answerBy number place t ⌝ }
 {
-    let state = t.state;
+    let board = t.board;
     Replayed {
         number: number,
         place: place,
-        state: state,
         rows: t.rows,
+        scans: board.done,
         live: t.live,
         exercised: t.exercised,
     }
@@ -115,7 +118,7 @@ fn answer_by(number: u8, place: usize, t: Totals) -> Replayed
 fn not_run(number: u8, place: usize) -> Replayed
     ensures { λ r. ⌜ r ≡ answered (refusedAt place started number) ⌝ }
 {
-    answer_by(number, place, start(0))
+    answer_by(number, place, start(0, 0))
 }
 
 // A file that the reader accepted: its rows, up to one that is refused.
@@ -123,11 +126,12 @@ fn replay_rows(s: &[u8], st: Settings, rows: u16, first: usize, width: usize) ->
     requires { ⌜ (reading (now s) .answer ≡ Accepted rows first width) × (st ≡ reading (now s) .settings) ⌝ }
     ensures { λ r. ⌜ r ≡ answered (wholeReplay (now (s .entry))) ⌝ }
 {
+    let x = wiring::wiring_of(st);
     let mut buf = [0u8; 384];
-    let mut t = start(first);
+    let mut t = start(x.count, first);
     let mut i = 0;
     while i < rows {
-        let u = row(s, st, width, t, &mut buf);
+        let u = row(s, st, x, width, t, &mut buf);
         let next = u.totals;
         if u.number != 0 {
             return answer_by(u.number, next.place, next);

@@ -17,7 +17,14 @@ stroke-requires c κs =
     (settings-right (a .st) (a .row) x _ refl input, s .pre .0 .0, row-right (a .st) (a .row) x _ refl input, countable (a .st) (a .row) x _ refl input, s .pre .0 .1, s .pre .1 .1)
 
 returns : tie.Need-returns
-returns c = ?
+returns c =
+    let k = c .before .before .before .before .before .before in
+    let s = k .before .before .before in
+    let a = s .args in
+    let input = s .pre .1 .0 in (
+      kept-run (a .st) (a .row) (a .from) input _ (k .stroke .ensures .0) _ _ (c .before .before .begin .ensures) (c .exercised-scans .ensures),
+      kept-laid (a .st) (a .row) (a .from) input (now (a .buf)) _ (k .stroke .ensures .1),
+    )
 
 pub run-kept-spec : {M : Type 1} → statement M
 run-kept-spec = tie.close (tie.spec stroke-requires (λ c κs. search needs) (λ c κs. search needs) (λ c. search needs) returns)

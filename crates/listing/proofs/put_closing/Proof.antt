@@ -14,7 +14,7 @@ returns-2 : tie.Need-returns-2
 unfolding closing
 returns-2 c =
     let a = c .before .before .before .before .before .before .args in
-    rw (granted-refused (lastLine (a .t .rows) (a .t .state .done) (a .t .live) (a .t .exercised)) (λ n. refusalLine n (a .t .place)) (a .number) (c .before .before .before .before .if1 .left))
+    rw (granted-refused (lastLine (a .t .rows) (a .t .board .done) (a .t .live) (a .t .exercised)) (λ n. refusalLine n (a .t .place)) (a .number) (c .before .before .before .before .if1 .left))
     (c .before .before .put-refusal .ensures)
 
 pub put-closing-spec : {M : Type 1} → statement M

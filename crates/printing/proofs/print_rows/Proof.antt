@@ -15,10 +15,10 @@ use Rattle.printing.proofs.print_rows.Statement.{statement}
 use Rattle.printing.proofs.print_rows.Tie as tie
 
 abbrev Inv-loop : tie.InvT-loop
-Inv-loop s st width rows out₀ at p₀ out p = (length out ≡ length out₀) × (p .at ≤ length out₀) × (p .full ≡ true → Going s st width (p .totals)) × (p .full ≡ false → p .number ≡ replay s .number)
+Inv-loop s st x width rows out₀ at p₀ out p = (length out ≡ length out₀) × (p .at ≤ length out₀) × (p .full ≡ true → Going s st width (p .totals)) × (p .full ≡ false → p .number ≡ replay s .number)
 
 abbrev μ-loop : tie.MeasureT-loop
-μ-loop s st width rows out₀ at p₀ out p = left s p
+μ-loop s st x width rows out₀ at p₀ out p = left s p
 
 fill-requires : tie.Need-fill-requires Inv-loop μ-loop
 fill-requires c κs = c .before .before .before .pre .0
@@ -32,7 +32,7 @@ flush-requires : tie.Need-flush-requires Inv-loop μ-loop
 flush-requires c κs = omega (arith, c .before .before .loop .inv .0, c .before .before .loop .inv .1)
 
 fill-requires-2 : tie.Need-fill-requires-2 Inv-loop μ-loop
-fill-requires-2 c κs = (c .before .before .before .before .before .before .loop .inv .2 (c .before .before .before .before .before .loop-test .taken), c .before .before .before .before .before .before .before .before .before .before .before .before .before .pre .0 .1)
+fill-requires-2 c κs = (c .before .before .before .before .before .before .loop .inv .2 (c .before .before .before .before .before .loop-test .taken), c .before .before .before .before .before .before .before .before .before .before .before .before .before .pre .0 .1, c .before .before .before .before .before .before .before .before .before .before .before .before .before .pre .0 .2)
 
 loop-less : tie.Need-loop-less Inv-loop μ-loop
 loop-less c =
