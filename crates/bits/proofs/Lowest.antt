@@ -22,7 +22,7 @@ bit-suc w i = ap (λ (x : ℕ). eqb (x % 2) 1) (sym (shr-shr w 1 i ∙ ap (λ (k
 -- the lowest set bit of w, of k bits, is bit n
 pub record Lowest (k w n : ℕ) : Type 0 where
   pub inside : n < k
-  pub set : bitOf w n ≡ true
+  pub is-set : bitOf w n ≡ true
   pub under-it : (i : ℕ) → i < n → bitOf w i ≡ false
   pub cleared : (i : ℕ) → bitOf (bitAnd w (w - 1)) i ≡ (bitOf w i && not (eqb i n))
 
@@ -38,7 +38,7 @@ and-same false = refl
 odd : (k w : ℕ) → w % 2 ≡ 1 → Lowest (suc k) w 0
 odd k w e = record {
   inside = omega arith;
-  set = bit-zero w ∙ ap (λ (x : ℕ). eqb x 1) e;
+  is-set = bit-zero w ∙ ap (λ (x : ℕ). eqb x 1) e;
   under-it = λ i h. absurd (not-suc-le-zero h);
   cleared = at;
 }
@@ -63,7 +63,7 @@ odd k w e = record {
 even : (k w n : ℕ) → w % 2 ≡ 0 → 0 < w / 2 → Lowest k (w / 2) n → Lowest (suc k) w (suc n)
 even k w n e h r = record {
   inside = omega (arith, r .inside);
-  set = bit-suc w n ∙ r .set;
+  is-set = bit-suc w n ∙ r .is-set;
   under-it = lower;
   cleared = at;
 }

@@ -1,14 +1,15 @@
 -- Laws of numbers of w bytes, of entries of fixed layout, and of runs of stores.
 use mathlib.Core.Path.{_≡_, refl, sym, ap, ap₂, _∙_}
 use mathlib.Core.List.{List, [], _∷_, _++_, append-assoc}
-use Prim.Native.Nat.{ℕ, zero, suc, _+_, _/_, _%_, _^_, _≤_, _<_}
-use native.Mathlib.Nat.{add-assoc, add-zero, div-add-mod', mod-lt, add-suc, suc-add, pow-suc, mul-comm}
+use Prim.Native.Nat.{ℕ, zero, suc, _+_, _*_, _/_, _%_, _^_, _≤_, _<_}
+use native.Mathlib.Nat.{add-assoc, add-zero, zero-add, one-mul, div-one, div-add-mod', div-div-eq-div-mul, mod-lt, add-suc, suc-add, add-mul, mul-assoc, pow-suc, mul-comm, mul-right-comm}
 use native.Mathlib.Numerals.{add-one}
 use native.Mathlib.Omega.{arith}
 use lib.ListN.{length, getD, take, drop, set, length-append}
 use lib.Seq.{sets, drop-cons, getD-at, take-add, drop-drop}
-use lib.Arith.{digits-div, digits-mod, digits-lt}
-use Rattle.bits.specs.Numbers.{numAt, digits}
+use lib.Pow.{pow-add}
+use lib.Arith.{digits-div, digits-mod, digits-lt, mod-mul}
+use Rattle.bits.specs.Numbers.{numAt, lowAt, turned, digits}
 use Rattle.bits.specs.Layout.{total, fieldsAt, pack}
 
 -- every element is a byte: what owning a slice of bytes tells
@@ -45,21 +46,6 @@ pub sets-turn : {A : Type 0} (l vs : List A) (at i : ℕ) (d : A) → i < length
     → sets (set l (at + i) (getD vs i d)) (at + (i + 1)) (drop (i + 1) vs) ≡ sets l (at + i) (drop i vs)
 sets-turn l vs at i d h = rw (drop-cons vs i d h, add-one, add-suc)
 
-pub digits-4 : (v : ℕ) → digits 4 v ≡ digits 2 (v / 65536) ++ digits 2 (v % 65536)
-digits-4 v =
-    let e₀ : v / 16777216 ≡ v / 65536 / 256 = omega arith in
-    let e₁ : v % 16777216 / 65536 ≡ v / 65536 % 256 / 1 = omega arith in
-    let e₂ : v % 16777216 % 65536 / 256 ≡ v % 65536 / 256 = omega arith in
-    let e₃ : v % 16777216 % 65536 % 256 / 1 ≡ v % 65536 % 256 / 1 = omega arith in
-    cc
-
--- the two halves of a 32-bit number, stored one after the other
-pub sets-4 : (l l′ : List ℕ) (at v : ℕ) → l′ ≡ sets l at (digits 2 (v / 65536)) → sets l′ (at + 2) (digits 2 (v % 65536)) ≡ sets l at (digits 4 v)
-sets-4 l l′ at v e =
-    ap (λ (x : List ℕ). sets x (at + 2) (digits 2 (v % 65536))) e
-    ∙ sym (sets-append l at (digits 2 (v / 65536)) (digits 2 (v % 65536)))
-    ∙ ap (sets l at) (sym (digits-4 v))
-
 -- ---- a number of w bytes
 
 pow-pos : (w : ℕ) → 0 < 256 ^ w
@@ -76,6 +62,33 @@ length-digits (suc w) v = ap suc (length-digits w (v % 256 ^ w))
 pub num-lt : (w : ℕ) (s : List ℕ) (at : ℕ) → Bytes s → numAt w s at < 256 ^ w
 num-lt zero s at b = omega arith
 num-lt (suc w) s at b = rw (pow-suc 256 w, mul-comm (256 ^ w) 256) (digits-lt (b at) (num-lt w s (at + 1) b))
+
+-- the bytes of a number are those of its upper part and those of its lower part
+pow-join : (a b : ℕ) → 256 ^ (a + b) ≡ 256 ^ a * 256 ^ b
+pow-join zero b = rw zero-add (sym (one-mul (256 ^ b)))
+pow-join (suc a) b = rw (suc-add, pow-suc 256 (a + b), pow-suc 256 a, pow-join a b) (mul-right-comm (256 ^ a) (256 ^ b) 256)
+
+pub digits-parts : (a b v : ℕ) → digits (suc (a + b)) v ≡ digits (suc a) (v / 256 ^ b) ++ digits b (v % 256 ^ b)
+digits-parts zero b v = rw (zero-add, div-one)
+digits-parts (suc a) b v =
+    let c = 256 ^ b in
+    let m = 256 ^ suc a in
+    let e : 256 ^ suc (a + b) ≡ m * c = ap (λ (n : ℕ). 256 ^ n) (sym (suc-add a b)) ∙ pow-join (suc a) b in
+    let w : v % 256 ^ suc (a + b) ≡ v / c % m * c + v % c = ap (λ (n : ℕ). v % n) e ∙ mod-mul v (pow-pos (suc a)) (pow-pos b) in
+    let high : v / 256 ^ suc (a + b) ≡ v / c / m = ap (λ (n : ℕ). v / n) (e ∙ mul-comm m c) ∙ sym (div-div-eq-div-mul v c m) in
+    let low = mod-lt v (pow-pos b) in
+    rw suc-add
+    (ap₂ (λ (x : ℕ) (l : List ℕ). x ∷ l) high
+    (digits-parts a b (v % 256 ^ suc (a + b)) ∙ rw (w, digits-div (v / c % m) low, digits-mod (v / c % m) low)))
+
+-- so a number is stored in two parts, one after the other
+pub sets-parts : (l l′ : List ℕ) (at a b v : ℕ) → l′ ≡ sets l at (digits (suc a) (v / 256 ^ b)) → sets l′ (at + suc a) (digits b (v % 256 ^ b)) ≡ sets l at (digits (suc (a + b)) v)
+sets-parts l l′ at a b v e =
+    let upper = digits (suc a) (v / 256 ^ b) in
+    ap (λ (x : List ℕ). sets x (at + suc a) (digits b (v % 256 ^ b))) e
+    ∙ ap (λ (n : ℕ). sets (sets l at upper) (at + n) (digits b (v % 256 ^ b))) (sym (length-digits (suc a) (v / 256 ^ b)))
+    ∙ sym (sets-append l at upper (digits b (v % 256 ^ b)))
+    ∙ ap (sets l at) (sym (digits-parts a b v))
 
 -- a number that is read is written back as the bytes that it was read from
 pub digits-num : (w : ℕ) (s : List ℕ) (at : ℕ) → Bytes s → at + w ≤ length s → digits w (numAt w s at) ≡ take w (drop at s)
@@ -101,6 +114,37 @@ num-spelled (suc w) v p q at e z =
 
 pub num-digits : (w v : ℕ) (p q : List ℕ) (at : ℕ) → at ≡ length p → v < 256 ^ w → numAt w (p ++ (digits w v ++ q)) at ≡ v
 num-digits w v p q at e h = num-spelled w v p q at e (below-one w v h)
+
+-- a number of bytes in two parts
+pub num-parts : (v w : ℕ) (s : List ℕ) (at : ℕ) → numAt (v + w) s at ≡ numAt v s at * 256 ^ w + numAt w s (at + v)
+num-parts zero w s at = rw (zero-add, add-zero) (omega arith)
+num-parts (suc v) w s at =
+    let next : at + 1 + v ≡ at + suc v = omega arith in
+    rw (suc-add, num-parts v w s (at + 1), pow-add 256 v w, next, add-mul, mul-assoc, add-assoc)
+
+-- a number of which the lowest byte comes first, turned, is that of which the highest does
+pub turned-low : (w : ℕ) (s : List ℕ) (at : ℕ) → Bytes s → turned w (lowAt w s at) ≡ numAt w s at
+turned-low zero s at b = refl
+turned-low (suc w) s at b =
+    let first : lowAt (suc w) s at % 256 ≡ getD s at 0 = omega (arith, b at) in
+    let rest : lowAt (suc w) s at / 256 ≡ lowAt w s (at + 1) = omega (arith, b at) in
+    rw (first, rest, turned-low w s (at + 1) b)
+
+low-lt : (w : ℕ) (s : List ℕ) (at : ℕ) → Bytes s → lowAt w s at < 256 ^ w
+low-lt zero s at b = omega arith
+low-lt (suc w) s at b = rw (pow-suc 256 w) (omega (arith, b at, low-lt w s (at + 1) b))
+
+halves : (l h x : ℕ) → l < 2 ^ 32 → x ≡ l + h * 2 ^ 32 → (x % 2 ^ 32 ≡ l) × (x / 2 ^ 32 ≡ h)
+halves l h x lt e = (omega arith, omega arith)
+
+-- eight bytes by halves, the lowest first, each half turned and the halves exchanged
+pub turned-halves : (s : List ℕ) (at : ℕ) → Bytes s → (x r : ℕ) → x ≡ lowAt 4 s at + lowAt 4 s (at + 4) * 2 ^ 32
+    → r ≡ turned 4 (x % 2 ^ 32) * 2 ^ 32 + turned 4 (x / 2 ^ 32) → r ≡ numAt 8 s at
+turned-halves s at b x r e f =
+    let h = halves (lowAt 4 s at) (lowAt 4 s (at + 4)) x (low-lt 4 s at b) e in
+    f ∙ ap₂ (λ (l m : ℕ). turned 4 l * 2 ^ 32 + turned 4 m) (h .0) (h .1)
+    ∙ ap₂ (λ (l m : ℕ). l * 2 ^ 32 + m) (turned-low 4 s at b) (turned-low 4 s (at + 4) b)
+    ∙ sym (num-parts 4 4 s at)
 
 -- ---- entries of fixed layout
 

@@ -1,4 +1,4 @@
--- An entry of fixed layout: numbers of given widths in bytes, one after the other.
+-- An entry of fixed layout: numbers of given widths in bytes, one after the other. Document 01, "Recordings".
 use Prim.Native.Nat.{ℕ, _+_}
 use mathlib.Core.List.{List, [], _∷_, _++_}
 use Rattle.bits.specs.Numbers.{numAt, digits}

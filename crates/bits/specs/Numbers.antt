@@ -1,4 +1,5 @@
--- A number of w bytes, the highest first: read at a place of a list of bytes, and written as a list.
+-- A number of w bytes, the highest first: read at a place of a list of bytes, and written as a list. Document 01, "Recordings"
+-- and "The rules of one scan": big-endian.
 use Prim.Native.Nat.{ℕ, zero, suc, _+_, _*_, _/_, _%_, _^_}
 use mathlib.Core.List.{List, [], _∷_}
 use lib.ListN.{getD}
@@ -12,3 +13,12 @@ numAt (suc w) s at = getD s at 0 * 256 ^ w + numAt w s (at + 1)
 abbrev pub digits : ℕ → ℕ → List ℕ
 digits zero v = []
 digits (suc w) v = v / 256 ^ w ∷ digits w (v % 256 ^ w)
+
+-- the number that the w bytes from `at` spell, the lowest first, and the w bytes of v in the other order
+abbrev pub lowAt : ℕ → List ℕ → ℕ → ℕ
+lowAt zero s at = 0
+lowAt (suc w) s at = getD s at 0 + 256 * lowAt w s (at + 1)
+
+abbrev pub turned : ℕ → ℕ → ℕ
+turned zero v = 0
+turned (suc w) v = v % 256 * 256 ^ w + turned w (v / 256)

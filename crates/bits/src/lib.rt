@@ -1,14 +1,16 @@
-// What every other crate counts on: bits of a word, big-endian numbers in a slice of bytes, and text.
+// What every other crate counts on: bits of a word, big-endian numbers in a slice of bytes, and text. It rests on the kit alone.
+// How a function comes to its answer may change without moving a contract; what the answer is stands in specs/, and the laws in
+// proofs/ are cited by name.
 ghost use mathlib.Core.Path.{_≡_};
 ghost use mathlib.Core.Bool.{cond};
-ghost use Prim.Native.Nat.{_+_, _^_, _≤_, _<_};
+ghost use Prim.Native.Nat.{_+_, _*_, _/_, _%_, _^_, _≤_, _<_};
 ghost use lib.Count.{ones};
 ghost use lib.Dec.{ltb};
 ghost use lib.ListN.{length, take, drop};
 ghost use mathlib.Core.List.{_++_};
 ghost use lib.Seq.{sets};
 ghost use Rattle.bits.specs.Words.{bitOf};
-ghost use Rattle.bits.specs.Numbers.{numAt, digits};
+ghost use Rattle.bits.specs.Numbers.{numAt, lowAt, turned, digits};
 ghost use Rattle.bits.specs.Decimal.{decimal};
 
 // ---- words of bits
@@ -62,6 +64,13 @@ fn wide(x: u8) -> u16
     x as u16
 }
 
+// A byte as 32 bits, in the same way.
+fn wide32(x: u8) -> u32
+    ensures { λ r. ⌜ (r ≡ x) × (r < 256) ⌝ }
+{
+    x as u32
+}
+
 // The byte at `at`.
 pub fn get8(s: &[u8], at: usize) -> u8
     requires { ⌜ at + 1 ≤ length (now s) ⌝ }
@@ -84,6 +93,48 @@ pub fn get32(s: &[u8], at: usize) -> u32
     ensures { λ r. ⌜ r ≡ numAt 4 (now (s .entry)) at ⌝ }
 {
     (get16(s, at) as u32) * 65536 + (get16(s, at + 2) as u32)
+}
+
+// The four bytes at `at` as a number, the lowest first.
+fn low32(s: &[u8], at: usize) -> u32
+    requires { ⌜ at + 4 ≤ length (now s) ⌝ }
+    ensures { λ r. ⌜ r ≡ lowAt 4 (now (s .entry)) at ⌝ }
+{
+    wide32(s[at])
+        + wide32(s[at + 1]) * 256
+        + wide32(s[at + 2]) * 65536
+        + wide32(s[at + 3]) * 16777216
+}
+
+// The eight bytes at `at`, the lowest first.
+fn low64(s: &[u8], at: usize) -> u64
+    requires { ⌜ at + 8 ≤ length (now s) ⌝ }
+    ensures { λ r. ⌜ r ≡ lowAt 4 (now (s .entry)) at + lowAt 4 (now (s .entry)) (at + 4) * 2 ^ 32 ⌝ }
+{
+    (low32(s, at) as u64) + (low32(s, at + 4) as u64) * 4294967296
+}
+
+// The four bytes of a number in the other order.
+fn turned32(x: u32) -> u32
+    ensures { λ r. ⌜ r ≡ turned 4 x ⌝ }
+{
+    x % 256 * 16777216 + x / 256 % 256 * 65536 + x / 65536 % 256 * 256 + x / 16777216
+}
+
+// The eight bytes of a number in the other order: each half's, and the halves exchanged.
+fn turned64(x: u64) -> u64
+    ensures { λ r. ⌜ r ≡ turned 4 (x % 2 ^ 32) * 2 ^ 32 + turned 4 (x / 2 ^ 32) ⌝ }
+{
+    (turned32((x % 4294967296) as u32) as u64) * 4294967296
+        + (turned32((x / 4294967296) as u32) as u64)
+}
+
+// The 64 bits at `at`. The bytes are read the lowest first and then turned: of that the compiler makes one load.
+pub fn get64(s: &[u8], at: usize) -> u64
+    requires { ⌜ at + 8 ≤ length (now s) ⌝ }
+    ensures { λ r. ⌜ r ≡ numAt 8 (now (s .entry)) at ⌝ }
+{
+    turned64(low64(s, at))
 }
 
 // Writes the byte `v` at `at`; all else stays.
@@ -110,6 +161,15 @@ pub fn put32(s: &mut [u8], at: usize, v: u32)
 {
     put16(s, at, (v / 65536) as u16);
     put16(s, at + 2, (v % 65536) as u16);
+}
+
+// Writes the eight bytes of `v` at `at`; all else stays.
+pub fn put64(s: &mut [u8], at: usize, v: u64)
+    requires { ⌜ at + 8 ≤ length (now s) ⌝ }
+    ensures { λ _. ⌜ now (s .exit) ≡ sets (now (s .entry)) at (digits 8 v) ⌝ }
+{
+    put32(s, at, (v / 4294967296) as u32);
+    put32(s, at + 4, (v % 4294967296) as u32);
 }
 
 // Copies the first n bytes of `src` to the front of `out`; what stands past them stays.

@@ -1,4 +1,4 @@
--- A run of scans, as the code of a scan and of a held run carries it. No promise cites this page but those of inner functions.
+-- A run of scans, as the proofs of a scan and of a held run carry it. No entry point's contract cites this page.
 use Prim.Native.Nat.{_+_, _*_}
 use mathlib.Core.List.{List}
 use lib.ListN.{length}

@@ -1,5 +1,6 @@
 // Answers a stream of recordings on standard input: for each the reader's answer, its rows, and the bytes that the writer
-// gives for what was read. second/README.md lays both streams out.
+// gives for what was read. second/README.md lays both streams out. It is a test program over `recording` and `cases`: all but the
+// streams may change.
 ghost use mathlib.Core.Path.{_≡_};
 ghost use Prim.Native.Nat.{_+_, _≤_};
 ghost use lib.ListN.{length};

@@ -1,5 +1,6 @@
 // Replays the recording on standard input and prints its listing on standard output. Document 01, "One session, whole".
-// docs/DECISIONS.md says what happens where input or output fails, and how the program tells how it ended.
+// docs/DECISIONS.md says what happens where input or output fails, and how the program tells how it ended. It rests on `printing` and
+// what that rests on, and on the kit's `os`, `io` and `libc`. All but what it prints, and the digit that it tells, may change.
 ghost use Prim.Native.Nat.{_≤_};
 ghost use lib.ListN.{length};
 

@@ -1,5 +1,5 @@
 // Answers a stream of recordings on standard input: for each its listing, and an empty line. second/README.md lays the stream
-// out.
+// out. It is a test program over `printing`: all but the stream may change.
 ghost use mathlib.Core.Path.{_≡_};
 ghost use Prim.Native.Nat.{_≤_};
 ghost use lib.ListN.{length};

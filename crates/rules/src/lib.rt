@@ -1,4 +1,6 @@
-// One effect in one scan: its state, what it sees, and the nine rules. Document 01, "The rules of one scan".
+// One effect in one scan: its state, what it sees, and the nine rules. Document 01, "The rules of one scan". It rests on `bits`.
+// How the code comes to a rule may change without moving a contract. A rule that changes in specs/ changes what every crate above
+// promises, but no proof of theirs: what they need of the rules is tested by computing.
 ghost use mathlib.Core.Path.{_≡_};
 ghost use Prim.Native.Nat.{_-_};
 ghost use Rattle.rules.specs.Rules.{code as codeOf, stateOf, same as sameAs, rule4, rule5, rule6, rule7, rule8, rule9, byState, rule as ruleOf, asks, after as afterOf, timerAt, firstOutWord, firstAt, enter as enterOf, next as nextOf, moved as movedOf, isOn, isLatent, isExercised};

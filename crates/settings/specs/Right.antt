@@ -16,7 +16,7 @@ use Rattle.settings.specs.Refusals.{unless, orElse}
 
 -- ## Settings: 2, then 3
 
--- cause count 1..16; options, bits 3 to 7 zero; scan period 1..1,000 ms
+-- cause count 1..16; options, bits 3 to 7 zero (as "Recordings" says of a file); scan period 1..1,000 ms
 abbrev pub blockOk : (causes options period : ℕ) → Bool
 blockOk causes options period = leb 1 causes && leb causes 16 && ltb options 8 && leb 1 period && leb period 1000
 

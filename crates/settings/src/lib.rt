@@ -1,5 +1,7 @@
 // Settings and rows: what they are, which number refuses them, and what an effect sees of them in a scan.
-// Document 01, "Settings, row, state", "Refusal numbers" and "The rules of one scan".
+// Document 01, "Settings, row, state", "Refusal numbers" and "The rules of one scan". It rests on `rules` and `bits`.
+// How a number is come to, and in which order the tests of one number are made, may change without moving a contract; the order of
+// the numbers may not.
 ghost use mathlib.Core.Path.{_≡_};
 ghost use mathlib.Core.Bool.{_&&_, _||_, not};
 ghost use Prim.Native.Nat.{_+_, _<_, _≤_};

@@ -1,6 +1,7 @@
 // A walk over a recording: it holds the lent bytes and its place, and gives one row at a time. Document 01, "Recordings".
 // The work is done by covered functions on a slice and a place; `start` and `next` take the walk apart and call one of them,
-// and `nth` stands above them with plain parameters.
+// and `nth` stands above them with plain parameters. It rests on `recording` and what that rests on. How a step finds its row may
+// change without moving a contract, as long as any bytes and any place get the reader's answer.
 ghost use mathlib.Core.Path.{_≡_};
 ghost use Rattle.recording.specs.Answers.{firstRow};
 ghost use Rattle.walk.specs.Walks.{placeAfter, strideAt, begunOf, startOf, nextOf, movedOn, nthOf};

@@ -2,7 +2,7 @@
 use borrow.Author.Needs.{needs}
 use mathlib.Core.Path.{_∙_}
 use denote.Ref.{now}
-use Rattle.bits.proofs.Numbers.{sets-4}
+use Rattle.bits.proofs.Numbers.{sets-parts}
 use Rattle.bits.proofs.put32.Statement.{statement}
 use Rattle.bits.proofs.put32.Tie as tie
 
@@ -10,7 +10,7 @@ returns : tie.Need-returns
 returns c =
     let k = c .before .before in
     let a = c .before .before .before .before .before .before .before .before .before .args in
-    k .put162 .ensures ∙ sets-4 (now (a .s)) _ (a .at) (a .v) (c .before .before .before .before .before .before .put16 .ensures)
+    k .put162 .ensures ∙ sets-parts (now (a .s)) _ (a .at) 1 2 (a .v) (c .before .before .before .before .before .before .put16 .ensures)
 
 pub put32-spec : {M : Type 1} → statement M
 put32-spec =
