@@ -1,4 +1,5 @@
 pub mod Lists
+pub mod Barred
 pub mod Sections
 pub mod Codec
 pub mod Entries

@@ -1,10 +1,10 @@
 -- What a section comes to, case by case, for any test of an entry, any width and any count: by recursion on the entries left.
-use mathlib.Core.Path.{_≡_, refl}
+use mathlib.Core.Path.{_≡_, refl, sym, _∙_}
 use mathlib.Core.Bool.{Bool, true, false, _&&_}
 use mathlib.Core.List.{List}
 use Prim.Native.Nat.{ℕ, zero, suc, _+_, _-_, _*_, _≤_, _<_}
 use native.Mathlib.Omega.{arith}
-use native.Mathlib.Numerals.{sub-one}
+use native.Mathlib.Numerals.{add-one, sub-one}
 use native.Mathlib.Nat.{mul-suc, mul-zero, add-zero}
 use borrow.Author.Tests.{le-leb, lt-leb, leb-true}
 use lib.Dec.{leb}
@@ -14,6 +14,7 @@ use Rattle.bits.proofs.Lists.{and-left, and-right}
 use Rattle.recording.specs.declared.Section.{Section}
 use Rattle.recording.specs.declared.Section.the-variants as S
 use Rattle.recording.specs.Sections.{passed, entries, section}
+use Rattle.recording.specs.Barred.{Skipped}
 
 passed-bad : (k at : ℕ) (next : Section) → (k ≡ 0 → ⊥) → passed k at next ≡ S.Refused k at
 passed-bad zero at next h = absurd (h refl)
@@ -35,6 +36,22 @@ module _ (test : ℕ → ℕ) (w len : ℕ) where
   pub entries-none : (n at : ℕ) → n ≤ 0 → entries test w len n at ≡ S.Next at
   entries-none zero at h = refl
   entries-none (suc n) at h = absurd (omega arith)
+
+  -- of n entries none is skipped, and then one more
+  pub none-skipped : (n at : ℕ) → at ≤ len → Skipped test w len n at 0
+  none-skipped n at h =
+      let all : n - 0 ≡ n = omega arith in
+      record { some = omega arith; inside = rw (mul-zero, add-zero) h; same = rw (mul-zero, add-zero, all) }
+
+  pub one-skipped : (n at i : ℕ) → i < n → at + w * i + w ≤ len → test (at + w * i) ≡ 0 → Skipped test w len n at i → Skipped test w len n at (i + 1)
+  one-skipped n at i h k z s =
+      let less : n - (i + 1) ≡ n - i - 1 = omega arith in
+      let place : at + w * (i + 1) ≡ at + w * i + w = rw add-one (omega (arith, mul-suc w i)) in
+      record {
+        some = omega arith;
+        inside = rw place k;
+        same = rw (less, place) (sym (entries-step (n - i) (at + w * i) 0 (omega arith) k (sym z) refl) ∙ s .same);
+      }
 
 module _ (test : ℕ → ℕ) (w lo hi number : ℕ) (s : List ℕ) (at : ℕ) where
   pub section-short : length s < at + 2 → section test w lo hi number s at ≡ S.Refused 1 (length s)

@@ -1,4 +1,5 @@
 -- Document 01's number, place and values of each case of the enums that answer; 0 where a case has none.
+-- "Refusal numbers" and "Where each form belongs".
 use Prim.Native.Nat.{ℕ}
 use mathlib.Core.Bool.{Bool, true, false}
 use Rattle.settings.specs.declared.Row.{Row}

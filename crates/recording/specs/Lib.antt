@@ -6,3 +6,4 @@ pub mod Steps
 pub mod Encode
 pub mod Writer
 pub mod Refused
+pub mod Barred

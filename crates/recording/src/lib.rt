@@ -1,4 +1,8 @@
-// Recordings: the reader, and the row at a place; writer.rt has the writer. Document 01, "Recordings" and "Refusal numbers".
+// Recordings: the reader, and the row at a place; quick.rt has the reader's quick test of rows, writer.rt the writer. Document
+// 01, "Recordings" and "Refusal numbers".
+// It rests on `settings` and `bits`. How the bytes are gone through may change without moving a contract, as long as the first refusal
+// is given; a caller takes the first row's place and the width of a row from the answer, and counts on neither.
+mod quick;
 mod writer;
 
 pub use writer::write_opening;
@@ -12,6 +16,7 @@ ghost use Rattle.settings.specs.Signals.{noEffect};
 ghost use Rattle.recording.specs.Entries.{effectAt, wordsAt, rowAt, listOf};
 ghost use Rattle.recording.specs.Sections.{widthOf, leastOf, mostOf, numberOf, countOk, testOf, sectionOf};
 ghost use Rattle.recording.specs.Reader.{noLimits, blockLimits, settingsAt, refusal, fromSection, reading};
+ghost use Rattle.recording.specs.Barred.{Skipped};
 ghost use Rattle.recording.specs.Steps.{rowIn, isPlace, stepAt};
 use settings::Effect;
 use settings::Limits;
@@ -202,6 +207,18 @@ fn entry_number(kind: Kind, known: Limits, s: &[u8], at: usize) -> u8
     }
 }
 
+// How many of the n entries from `at` a quick test passes before the first that it does not: rows alone have one.
+fn passed_quickly(kind: Kind, known: Limits, s: &[u8], n: u16, at: usize) -> u16
+    requires { ⌜ at ≤ length (now s) ⌝ }
+    ensures { λ r. ⌜ Skipped (testOf kind known (now (s .entry))) (widthOf kind) (length (now (s .entry))) n at r ⌝ }
+{
+    match kind {
+        Kind::Block => 0,
+        Kind::Effects => 0,
+        Kind::Rows => quick::right_rows(known, s, n, at),
+    }
+}
+
 // A section: its count's bytes, its count, then for each entry its bytes and its fields.
 fn read_section(kind: Kind, known: Limits, s: &[u8], at: usize) -> Section
     requires { ⌜ at ≤ length (now s) ⌝ }
@@ -221,8 +238,10 @@ fn read_section(kind: Kind, known: Limits, s: &[u8], at: usize) -> Section
         };
     }
     let w = width_of(kind);
-    let mut left = n;
-    let mut place = at + 2;
+    let first = at + 2;
+    let passed = passed_quickly(kind, known, s, n, first);
+    let mut left = n - passed;
+    let mut place = first + w * (passed as usize);
     while 0 < left {
         if s.len() - place < w {
             return Section::Refused {

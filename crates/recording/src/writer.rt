@@ -1,4 +1,5 @@
-// The writer: the opening piece and a row, each into a lent buffer. Document 01, "Recordings" and "Refusal numbers".
+// The writer: the opening piece and a row, each into a lent buffer. Document 01, "Recordings" and "Refusal numbers". How a piece
+// is put may change without moving a contract, as long as nothing is put before it is known to fit.
 ghost use mathlib.Core.Path.{_≡_};
 ghost use mathlib.Core.List.{_∷_, []};
 ghost use Prim.Native.Nat.{_+_, _*_, _≤_};

@@ -11,11 +11,11 @@ use Rattle.recording.proofs.read_section.Statement.{statement}
 use Rattle.recording.proofs.read_section.Tie as tie
 
 abbrev Inv-loop : tie.InvT-loop
-Inv-loop kind known s at n w left₀ place₀ left place =
+Inv-loop kind known s at n w first passed left₀ place₀ left place =
     (place ≤ length s) × (w ≡ widthOf kind) × (entries (testOf kind known s) (widthOf kind) (length s) left place ≡ sectionOf kind known s at)
 
 abbrev μ-loop : tie.MeasureT-loop
-μ-loop kind known s at n w left₀ place₀ left place = left
+μ-loop kind known s at n w first passed left₀ place₀ left place = left
 
 returns : tie.Need-returns Inv-loop μ-loop
 returns c = sym (section-short _ _ _ _ _ _ _ (omega arith))
@@ -26,11 +26,20 @@ returns-2 c =
     let k = c .before .before .count-ok in
     rw (c .number-of .ensures) (sym (section-count _ _ _ _ _ _ _ (n .result) (omega arith) (n .ensures) (sym (k .ensures) ∙ not-true (k .result) (c .before .if2 .taken))))
 
+-- the bytes of the entries that passed, as the code and as the definition has them
+mul-place : tie.Need-mul-place Inv-loop μ-loop
+mul-place c = rw (c .before .width-of .ensures) (omega (arith, c .passed-quickly .ensures .inside))
+
+add-place : tie.Need-add-place Inv-loop μ-loop
+add-place c = rw (c .before .width-of .ensures) (omega (arith, c .passed-quickly .ensures .inside))
+
 loop-holds : tie.Need-loop-holds Inv-loop μ-loop
 loop-holds c =
-    let n = c .before .before .before .get16 in
-    let k = c .before .before .count-ok in
-    (search needs, c .width-of .ensures, sym (section-entries _ _ _ _ _ _ _ (n .result) (omega arith) (n .ensures) (sym (k .ensures) ∙ not-false (k .result) (c .before .if2 .left))))
+    let p = c .passed-quickly in
+    let w = c .before .width-of in
+    let k = c .before .before .before .count-ok in
+    let n = c .before .before .before .before .get16 in
+    (rw (w .ensures) (p .ensures .inside), w .ensures, rw (w .ensures) (p .ensures .same ∙ sym (section-entries _ _ _ _ _ _ _ (n .result) (omega arith) (n .ensures) (sym (k .ensures) ∙ not-false (k .result) (c .before .before .if2 .left)))))
 
 returns-3 : tie.Need-returns-3 Inv-loop μ-loop
 returns-3 c =
@@ -68,6 +77,11 @@ read-section-spec =
     returns-2
     (λ c κs. search needs)
     (λ c. search needs)
+    (λ c κs. search needs)
+    (λ c. search needs)
+    (λ c. search needs)
+    mul-place
+    add-place
     loop-holds
     (λ c. search needs)
     returns-3
