@@ -1,28 +1,33 @@
 -- A right state by the words of its effects, and back: slots past the effects are those of no effect.
 use mathlib.Core.Path.{_≡_, refl, ap, sym, _∙_}
-use mathlib.Core.Bool.{Bool, true, cond, _&&_}
+use mathlib.Core.Bool.{Bool, true, false, cond, _&&_}
 use mathlib.Core.List.{List}
 use Prim.Native.Nat.{ℕ, _+_, _-_, _≤_, _<_}
 use native.Mathlib.Nat.{zero-add}
 use native.Mathlib.Omega.{arith}
-use borrow.Author.Tests.{eqb-true, le-ltb}
+use borrow.Author.Tests.{eqb-true, le-ltb, lt-ltb}
 use lib.Dec.{eqb, ltb}
 use lib.ListN.{drop, getD, length, replicate, length-drop, length-replicate, getD-replicate}
 use lib.Seq.{ext-getD, getD-drop}
 use Rattle.bits.specs.Lists.{allFrom}
 use Rattle.bits.proofs.Lists.{and-left, and-right, all-at}
+use Rattle.bits.proofs.Words.{bit-wordOf}
 use Rattle.rules.specs.declared.EffectState.{EffectState}
-use Rattle.rules.specs.declared.EffectState.the-variants.{Tripped}
+use Rattle.rules.specs.declared.EffectState.the-variants.{Tripped, Normal, Delayed}
 use Rattle.rules.specs.declared.Slot.{Slot}
 use Rattle.rules.specs.Rules.{noSlot, same}
 use Rattle.rules.proofs.States.{same-eq}
-use Rattle.planes.specs.Table.{tableOf, slotsOf}
+use Rattle.planes.specs.Planes.{planesOf}
+use Rattle.planes.specs.Table.{Settled, tableOf, slotsOf}
+use Rattle.planes.proofs.Rest.{filled-long}
 use Rattle.planes.proofs.Slots.{Padded, back}
+use Rattle.planes.proofs.Step.{padded-at}
 use Rattle.settings.specs.declared.Settings.{Settings}
 use Rattle.settings.specs.Right.{settingsNumber}
+use Rattle.settings.specs.Signals.{noEffect}
 use Rattle.settings.proofs.Right.{count-few}
 use Rattle.block.specs.declared.State.{State}
-use Rattle.block.specs.State.{slotUnused, slotOk, stateNumber}
+use Rattle.block.specs.State.{timerRight, firstRight, slotRight, slotUnused, slotOk, stateNumber}
 use Rattle.block.proofs.RightStates.{slots-right}
 
 -- an unused slot is that of no effect
@@ -33,6 +38,13 @@ unused x e =
     let t = eqb-true (x .timer) 0 (and-right (same (x .state) Tripped) (eqb (x .timer) 0) both) in
     let f = eqb-true (x .first) 0 (and-right (same (x .state) Tripped && eqb (x .timer) 0) (eqb (x .first) 0) e) in
     λ i. record { state = p i; timer = t i; first = f i }
+
+-- a right slot rests where it should
+timer-none : (delay : ℕ) (z : Slot) → timerRight delay z ≡ true → same (z .state) Delayed ≡ false → z .timer ≡ 0
+timer-none delay z t e = eqb-true (z .timer) 0 (rw e at t)
+
+first-none : (association : ℕ) (z : Slot) → firstRight association z ≡ true → same (z .state) Normal ≡ true → z .first ≡ 0
+first-none association z t e = eqb-true (z .first) 0 (rw e at t)
 
 module _ (st : Settings) (x : State) (right : stateNumber st x ≡ 0) (long : length (x .slots) ≡ 16) where
   past : (i : ℕ) → st .count ≤ i → i < 16 → getD (x .slots) i noSlot ≡ noSlot
@@ -49,6 +61,31 @@ module _ (st : Settings) (x : State) (right : stateNumber st x ≡ 0) (long : le
         getD-drop (st .count) (x .slots) i noSlot ∙ past (st .count + i) (omega arith) (omega arith)
         ∙ sym (getD-drop (st .count) (replicate 16 noSlot) i noSlot ∙ getD-replicate 16 (st .count + i) noSlot noSlot (omega arith))),
   )
+
+  -- they rest where they should
+  slot-right : settingsNumber st ≡ 0 → (i : ℕ) → i < st .count → slotRight (getD (st .effects) i noEffect) (getD (x .slots) i noSlot) ≡ true
+  slot-right settings i k =
+      rw (zero-add, lt-ltb i (st .count) k) at (all-at (slotOk st) 0 (x .slots) noSlot (slots-right st x right) i (rw long (omega (arith, k, count-few st settings))))
+
+  pub settled : settingsNumber st ≡ 0 → Settled (st .count) (tableOf (st .count) (x .slots))
+  unfolding tableOf planesOf
+  settled settings =
+      let n = st .count in
+      let z : ℕ → Slot = λ i. getD (x .slots) i noSlot in
+      record {
+        still = record {
+          long = filled-long (λ i. z i .timer) n (replicate 16 0);
+          none = λ i k e. padded-at n (λ j. z j .timer) i k
+              ∙ timer-none (getD (st .effects) i noEffect .delay) (z i) (and-left (timerRight (getD (st .effects) i noEffect .delay) (z i)) _ (slot-right settings i k))
+              (sym (bit-wordOf (λ j. same (z j .state) Delayed) n i k) ∙ e);
+        };
+        blank = record {
+          long = filled-long (λ i. z i .first) n (replicate 16 0);
+          none = λ i k e. padded-at n (λ j. z j .first) i k
+              ∙ first-none (getD (st .effects) i noEffect .association) (z i) (and-right (timerRight (getD (st .effects) i noEffect .delay) (z i)) _ (slot-right settings i k))
+              (sym (bit-wordOf (λ j. same (z j .state) Normal) n i k) ∙ e);
+        };
+      }
 
   -- the words show the state's slots
   pub shows : settingsNumber st ≡ 0 → slotsOf (st .count) (tableOf (st .count) (x .slots)) ≡ x .slots

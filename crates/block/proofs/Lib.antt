@@ -6,4 +6,4 @@ pub mod Later
 pub mod Stepping
 pub mod Scans
 pub mod Runs
-pub mod Demands
+pub mod Theorems

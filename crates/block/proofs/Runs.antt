@@ -15,9 +15,11 @@ use Rattle.rounds.specs.Steps.{Run, start as startRun, held}
 use Rattle.rounds.proofs.Held.{live-at-most, due-at-most, length-slots}
 use Rattle.planes.specs.Table.{tableOf, slotsOf}
 use Rattle.planes.specs.declared.Board.{Board}
-use Rattle.planes.specs.Board.{runOf as runFrom, boardOf, begun}
-use Rattle.wiring.specs.declared.Stroked.{Stroked}
-use Rattle.wiring.specs.Wiring.{strokedBy}
+use Rattle.planes.specs.declared.Mark.{Mark}
+use Rattle.planes.specs.Board.{runOf as runFrom, Shown, boardAt, boardOf, begun}
+use Rattle.wiring.specs.declared.Struck.{Struck}
+use Rattle.planes.proofs.Turn.{fresh}
+use Rattle.wiring.specs.Wiring.{Stroked, strokedAt, strokedBy}
 use Rattle.settings.specs.declared.Settings.{Settings}
 use Rattle.settings.specs.declared.Row.{Row}
 use Rattle.settings.specs.Right.{limitsOf, settingsNumber}
@@ -25,13 +27,12 @@ use Rattle.settings.specs.Signals.{signals, signalsOf}
 use Rattle.settings.proofs.Right.{row-words}
 use Rattle.block.specs.declared.State.{State}
 use Rattle.block.specs.declared.Ran.{Ran}
-use Rattle.block.specs.declared.Kept.{Kept}
 use Rattle.block.specs.Scan.{inputNumber}
 use Rattle.block.specs.Held.{start, run}
 use Rattle.block.specs.State.{stateNumber}
-use Rattle.block.specs.Run.{startOf, reachedBy, ranOf, keptOf}
+use Rattle.block.specs.Run.{startOf, reachedBy, ranOf, keptAt, keptOf}
 use Rattle.block.proofs.Answers.{settings-right, state-right, row-right, few, countable, hold-some}
-use Rattle.block.proofs.Boards.{shows}
+use Rattle.block.proofs.Boards.{shows, settled}
 use Rattle.block.proofs.Stepping.{Ready, ready-at, runOf, stepped-runs, stepped-done, stepped-effect, stepped-latent, stepped-exercised}
 
 abbrev state : ℕ → ℕ → List Slot → State
@@ -114,8 +115,8 @@ module _ (st : Settings) (row : Row) (x : State) (input : inputNumber st x row �
         ∙ sym run-is
 
     -- the words that it starts with are those of what they show
-    pub starts-right : boardOf (st .count) (startOf x) .table ≡ tableOf (st .count) (slotsOf (st .count) (boardOf (st .count) (startOf x) .table))
-    starts-right = ap (tableOf (st .count)) (sym (shows st x (ready .state) long right))
+    pub starts-right : Shown (st .count) (boardOf (st .count) (startOf x) .table)
+    starts-right = record { slots = ap (tableOf (st .count)) (sym (shows st x (ready .state) long right)); settled = settled st x (ready .state) long right }
 
     pub laid : (space space′ : List ℕ) → space′ ≡ sets space 0 (bytes (stroke .events)) → space′ ≡ sets space 0 (bytes (run st row x .events))
     laid space space′ e = e ∙ ap (λ (r : Run). sets space 0 (bytes (r .events))) stroke-is
@@ -156,12 +157,13 @@ module _ (st : Settings) (row : Row) (from : Board) (input : inputNumber st (rea
   pub kept-laid : (space space′ : List ℕ) → space′ ≡ sets space 0 (bytes (kept-stroke .events)) → space′ ≡ sets space 0 (bytes (run st row at .events))
   kept-laid space space′ e = e ∙ ap (λ (r : Run). sets space 0 (bytes (r .events))) kept-is
 
-  pub kept-run : (s : Stroked) → s ≡ strokedBy st (row .words) kept-stroke → (b : Board) (v : ℕ) → b ≡ begun (s .board) → v ≡ row .hold * one (s .exercised)
-      → _≡_ {A = Kept} (record { board = b; records = s .board .at / 12; live = s .board .live; exercised = v }) (keptOf (st .count) (run st row at))
-  kept-run s e b v eb ev =
+  pub kept-run : (r : Struck) (timers firsts : List ℕ) → strokedAt r timers firsts ≡ strokedBy st (row .words) kept-stroke
+      → (m : Mark) (v : ℕ) → m ≡ begun (r .mark) → v ≡ row .hold * one (r .exercised)
+      → keptAt (record { mark = m; records = r .mark .at / 12; live = r .mark .live; exercised = v }) timers firsts ≡ keptOf (st .count) (run st row at)
+  kept-run r timers firsts e m v em ev =
       let comes = e ∙ ap (strokedBy st (row .words)) kept-is in
-      let gb = eb ∙ ap (λ (q : Stroked). begun (q .board)) comes in
-      let gn : s .board .at / 12 ≡ length (run st row at .events) = omega (arith, ap (λ (q : Stroked). q .board .at) comes) in
+      let gb = ap (λ (q : Mark). boardAt q timers firsts) em ∙ ap (λ (q : Stroked). fresh (q .board)) comes in
+      let gn : r .mark .at / 12 ≡ length (run st row at .events) = omega (arith, ap (λ (q : Stroked). q .board .at) comes) in
       let gi = ap (λ (q : Stroked). q .board .live) comes in
       let gv = ev ∙ ap (λ (q : Stroked). row .hold * one (q .exercised)) comes ∙ sym (exercised-is st row at input) in
       λ i. record { board = gb i; records = gn i; live = gi i; exercised = gv i }

@@ -1,11 +1,12 @@
--- A state as the code of a run carries it, and what a held run gives as the code returns it. No promise cites this page but
--- those of inner functions.
+-- A state as the code of a run carries it, and what a held run gives as the code returns it. No entry point's
+-- contract cites this page.
 use Prim.Native.Nat.{ℕ}
+use mathlib.Core.List.{List}
 use lib.ListN.{length}
 use Rattle.effects.specs.declared.Progress.{Progress}
 use Rattle.planes.specs.declared.Board.{Board}
 use Rattle.planes.specs.Table.{slotsOf}
-use Rattle.planes.specs.Board.{boardOf}
+use Rattle.planes.specs.Board.{boardAt, boardOf}
 use Rattle.block.specs.declared.State.{State}
 use Rattle.block.specs.declared.Scanned.{Scanned}
 use Rattle.block.specs.declared.Held.{Held}
@@ -31,8 +32,20 @@ ranOf r =
       exercised = r .exercised;
     }
 
--- the same where the words of n effects are kept
-abbrev pub keptOf : ℕ → Stepped → Kept
+-- the same where the words of the effects are kept
+pub record KeptWords : Type 0 where
+  pub board : Board
+  pub records : ℕ
+  pub live : ℕ
+  pub exercised : ℕ
+
+-- as the code gives it
+abbrev pub keptAt : Kept → (timers firsts : List ℕ) → KeptWords
+keptAt r timers firsts =
+    record { board = boardAt (r .mark) timers firsts; records = r .records; live = r .live; exercised = r .exercised }
+
+-- of n effects
+abbrev pub keptOf : ℕ → Stepped → KeptWords
 keptOf n r =
     record {
       board = boardOf n (startOf (r .state));

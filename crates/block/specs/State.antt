@@ -34,7 +34,8 @@ slotUnused x = same (x .state) Tripped && eqb (x .timer) 0 && eqb (x .first) 0
 abbrev pub slotOk : Settings → ℕ → Slot → Bool
 slotOk st i x = cond (ltb i (st .count)) (slotRight (getD (st .effects) i noEffect) x) (slotUnused x)
 
--- 0..1,000,000,000 scans done, and all sixteen slots are right
+-- 0..1,000,000,000 scans done, and all slots are right; that there are sixteen, and that the next sequence number has 16 bits,
+-- is said by the struct's types
 abbrev pub stateOk : Settings → State → Bool
 stateOk st x = leb (x .done) mostScans && allFrom (slotOk st) 0 (x .slots)
 

@@ -1,5 +1,7 @@
-// The block: its state, what is right of it, and one scan of it. Document 01, "Settings, row, state", "The rules of one
-// scan" and "Refusal numbers".
+// The block: its state, what is right of it, one scan and a held run. Document 01, "Settings, row, state", "The rules of one
+// scan", "Held runs and their two counts" and "Refusal numbers".
+// It rests on `settings` for what is right and on `wiring` for the run. How a run is made (`run_right`, `run_kept` and all below
+// them) may change without moving a contract; the order of the numbers and what a state keeps may not.
 ghost use mathlib.Core.Path.{_≡_};
 ghost use Prim.Native.Nat.{_*_, _≤_, _<_};
 ghost use lib.ListN.{length};
@@ -11,11 +13,12 @@ ghost use Rattle.settings.specs.Limits.{mostScans};
 ghost use Rattle.block.specs.State.{timerRight, firstRight, slotRight, slotUnused, slotOk, stateNumber, fresh as freshState};
 ghost use Rattle.block.specs.Scan.{scansNumber, inputNumber, refusedScan, scanOf, scanInto};
 ghost use Rattle.block.specs.Held.{run, refusedHeld, heldOf, heldInto};
-ghost use Rattle.planes.specs.Board.{boardOf};
+ghost use Rattle.planes.specs.Board.{boardAt, boardOf};
 ghost use Rattle.planes.specs.Table.{tableOf, slotsOf};
-ghost use Rattle.wiring.specs.Wiring.{wiringOf};
-ghost use Rattle.block.specs.Run.{startOf, reachedBy, ranOf, keptOf, scannedBy, heldBy};
+ghost use Rattle.wiring.specs.Wiring.{Wired};
+ghost use Rattle.block.specs.Run.{startOf, reachedBy, ranOf, keptAt, keptOf, scannedBy, heldBy};
 use planes::Board;
+use planes::Mark;
 use rules::EffectState;
 use rules::Slot;
 use settings::Effect;
@@ -64,10 +67,10 @@ pub struct Ran {
     pub exercised: u32,
 }
 
-// What a held run gives that keeps the words of the effects: the words that the next row starts with, the number of records,
+// What a held run gives where the words of the effects are kept: the mark that the next row starts with, the number of records,
 // and the live and exercised scans.
 pub struct Kept {
-    pub board: Board,
+    pub mark: Mark,
     pub records: usize,
     pub live: u32,
     pub exercised: u32,
@@ -257,19 +260,30 @@ pub fn fresh_board(count: usize) -> Board
     board_of(count, State::fresh())
 }
 
-// A held run as `run_right` gives it, where the words of the effects are kept from row to row.
-pub fn run_kept(buf: &mut [u8], st: Settings, x: Wiring, row: Row, from: Board) -> Kept
-    requires { ⌜ (x ≡ wiringOf st) × (from .table ≡ tableOf (st .count) (slotsOf (st .count) (from .table))) ⌝ }
-    requires { ⌜ (inputNumber st (reachedBy (st .count) from) row ≡ 0) × (24 * st .count ≤ length (now buf)) ⌝ }
-    ensures { λ r. ⌜ r ≡ keptOf (st .count) (run st row (reachedBy (st .count) from)) ⌝ }
-    ensures { λ _. ⌜ now (buf .exit) ≡ sets (now (buf .entry)) 0 (bytes (run st row (reachedBy (st .count) from) .events)) ⌝ }
+// A held run as `run_right` gives it, where the words of the effects are kept from row to row; their timers and first-outs are
+// lent, and changed in place.
+pub fn run_kept(
+    buf: &mut [u8],
+    st: Settings,
+    x: Wiring,
+    causes: &[u16; 16],
+    times: &[u32; 16],
+    row: Row,
+    from: Mark,
+    timers: &mut [u32; 16],
+    firsts: &mut [u16; 16],
+) -> Kept
+    requires { ⌜ Wired st x (now causes) (now times) × (boardAt from (now timers) (now firsts) .table ≡ tableOf (st .count) (slotsOf (st .count) (boardAt from (now timers) (now firsts) .table))) ⌝ }
+    requires { ⌜ (inputNumber st (reachedBy (st .count) (boardAt from (now timers) (now firsts))) row ≡ 0) × (24 * st .count ≤ length (now buf)) ⌝ }
+    ensures { λ r. ⌜ keptAt r (now (timers .exit)) (now (firsts .exit)) ≡ keptOf (st .count) (run st row (reachedBy (st .count) (boardAt from (now (timers .entry)) (now (firsts .entry))))) ⌝ }
+    ensures { λ _. ⌜ now (buf .exit) ≡ sets (now (buf .entry)) 0 (bytes (run st row (reachedBy (st .count) (boardAt from (now (timers .entry)) (now (firsts .entry)))) .events)) ⌝ }
 {
-    let r = wiring::stroke(buf, st, x, row, from);
-    let board = r.board;
+    let r = wiring::stroke(buf, st, x, causes, times, row, from, timers, firsts);
+    let mark = r.mark;
     Kept {
-        board: planes::begin(board),
-        records: board.at / 12,
-        live: board.live,
+        mark: planes::begin(mark),
+        records: mark.at / 12,
+        live: mark.live,
         exercised: exercised_scans(row.hold, r.exercised),
     }
 }
@@ -282,14 +296,33 @@ pub fn run_right(buf: &mut [u8], st: Settings, row: Row, x: State) -> Ran
     ensures { λ _. ⌜ now (buf .exit) ≡ sets (now (buf .entry)) 0 (bytes (run st row x .events)) ⌝ }
 {
     let count = st.count as usize;
-    let r = wiring::stroke(buf, st, wiring::wiring_of(st), row, board_of(count, x));
-    let board = r.board;
+    let causes = wiring::associations(st);
+    let times = wiring::delays(st);
+    let wired = wiring::wiring_of(st, &times);
+    let start = board_of(count, x);
+    let table = start.table;
+    let mut timers = table.timers;
+    let mut firsts = table.firsts;
+    let from = planes::mark_of(start);
+    let r = wiring::stroke(
+        buf,
+        st,
+        wired,
+        &causes,
+        &times,
+        row,
+        from,
+        &mut timers,
+        &mut firsts,
+    );
+    let mark = r.mark;
+    let end = planes::board_at(mark, timers, firsts);
     Ran {
-        state: reached(count, board),
+        state: reached(count, end),
         effect: r.effect,
         latent: r.latent,
-        records: board.at / 12,
-        live: board.live,
+        records: mark.at / 12,
+        live: mark.live,
         exercised: exercised_scans(row.hold, r.exercised),
     }
 }

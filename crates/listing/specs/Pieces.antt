@@ -1,4 +1,4 @@
--- Pieces of lines, as the code writes them. No promise cites this page but those of inner functions.
+-- Pieces of lines, as the code writes them. No entry point's contract cites this page.
 use Prim.Native.Nat.{ℕ}
 use mathlib.Core.List.{List, [], _∷_, _++_}
 use Rattle.bits.specs.Decimal.{ascii, decimal}

@@ -1,6 +1,6 @@
 -- A listing piece by piece, as the code gives it: the opening, the lines of each row, and the closing, each at a place of a
 -- lent buffer. Where fewer bytes are left than a piece may take, the buffer is full: nothing is written, and the caller goes
--- on with more room.
+-- on with more room. The pieces together are the listing of document 01, "One session, whole".
 use Prim.Native.Nat.{ℕ, zero, suc, _+_}
 use mathlib.Core.Bool.{Bool, true, false, cond}
 use mathlib.Core.List.{List, [], _++_}

@@ -1,4 +1,4 @@
--- How much room a piece of a listing can take.
+-- How much room a piece of a listing can take; a listing is that of document 01, "One session, whole".
 use Prim.Native.Nat.{ℕ, _+_, _*_}
 
 -- the most bytes of a record's line: numbers of 2, 4, 1 and 2 bytes have at most 5, 10, 3 and 5 digits, the name of a state

@@ -1,4 +1,5 @@
--- The lines of a listing, as bytes. Document 01, "One session, whole": fields with a space between, LF after every line.
+-- The lines of a listing, as bytes. Document 01, "One session, whole": fields with a space between; that LF ends every
+-- line, the last too, is ours.
 use Prim.Native.Nat.{ℕ}
 use mathlib.Core.List.{List, [], _∷_, _++_}
 use Rattle.bits.specs.Decimal.{ascii, decimal}

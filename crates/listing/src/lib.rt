@@ -1,6 +1,8 @@
 // The listing of a replay, piece by piece: the opening, the lines of each row, and the closing. Document 01, "One session,
 // whole". Each piece goes to a place of a lent buffer. A buffer with fewer than MOST_PIECE bytes left is full: then nothing is
 // written, and the caller goes on with more room. A place within the buffer stays within it, so that a caller need not show it.
+// It rests on `rerun` and what that rests on. How lines are put, and the records that a row leaves on the way, may change without
+// moving a contract; the text is specs/Text, and when a buffer is full is part of every contract.
 mod text;
 
 ghost use mathlib.Core.Path.{_≡_};
@@ -10,7 +12,7 @@ ghost use lib.Seq.{sets};
 ghost use Rattle.recording.specs.Answers.{rowCount};
 ghost use Rattle.recording.specs.Reader.{reading as readingOf};
 ghost use Rattle.rerun.specs.Turn.{Going};
-ghost use Rattle.wiring.specs.Wiring.{wiringOf};
+ghost use Rattle.wiring.specs.Wiring.{Wired};
 ghost use Rattle.listing.specs.Room.{mostPiece};
 ghost use Rattle.listing.specs.Printed.{opening as openingOf, closing as closingOf, rowLines, hasRoom, placed, written, printed};
 use recording::Answer;
@@ -89,12 +91,14 @@ pub fn row(
     s: &[u8],
     st: Settings,
     x: Wiring,
+    causes: &[u16; 16],
+    times: &[u32; 16],
     width: usize,
     t: Totals,
     out: &mut [u8],
     at: usize,
 ) -> Printed
-    requires { ⌜ Going (now s) st width t × (t .rows < rowCount (readingOf (now s) .answer)) × (x ≡ wiringOf st) ⌝ }
+    requires { ⌜ Going (now s) st width t × (t .rows < rowCount (readingOf (now s) .answer)) × Wired st x (now causes) (now times) ⌝ }
     ensures { λ r. ⌜ r ≡ printed (now (s .entry)) t (length (now (out .entry))) at ⌝ }
     ensures { λ _. ⌜ now (out .exit) ≡ placed (now (out .entry)) at (rowLines (now (s .entry)) (t .rows)) ⌝ }
     ensures { λ r. ⌜ (at ≤ length (now (out .entry)) → r .at ≤ length (now (out .entry))) ⌝ }
@@ -108,7 +112,7 @@ pub fn row(
         };
     }
     let mut records = [0u8; 384];
-    let turn = rerun::row(s, st, x, width, t, &mut records);
+    let turn = rerun::row(s, st, x, causes, times, width, t, &mut records);
     let next = text::put_lines(out, at, &records, turn.records);
     let totals = turn.totals;
     Printed {

@@ -3,6 +3,8 @@ pub mod Low
 pub mod Picked
 pub mod Records
 pub mod Step
+pub mod Rest
+pub mod Marks
 pub mod Quiet
 pub mod Scanned
 pub mod Slots

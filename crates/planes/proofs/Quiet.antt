@@ -20,7 +20,7 @@ use Rattle.rules.specs.Rules.{noSlot, same, asks, next, moved}
 use Rattle.effects.specs.Scan.{anyMoved}
 use Rattle.rounds.specs.Stroke.{quiet, advance, quiets, advances}
 use Rattle.planes.specs.declared.Asked.{Asked}
-use Rattle.planes.specs.declared.Table.{Table}
+use Rattle.planes.specs.declared.Planes.{Planes}
 use Rattle.planes.specs.Planes.{planesOf, planesAfter, changedOf}
 use Rattle.planes.specs.Table.{tableOf, askedOf, dueAt, lowTo, quietsBy, tableLater, padded}
 use Rattle.planes.proofs.ByWord.{changed-word, planesOf-ext}
@@ -104,15 +104,18 @@ turn m p l t h false false true = min-div m l t p h
 turn m p l t h false false false = refl
 
 -- the scans that are skipped are at most those left
-pub quiets-by-le : (m n period : ℕ) (w : Asked) (b : Table) → quietsBy m n period w b ≤ m
+pub quiets-by-le : (m n period : ℕ) (w : Asked) (p : Planes) (timers : List ℕ) → quietsBy m n period w p timers ≤ m
 unfolding quietsBy
-quiets-by-le m n period w b =
-    least (eqb (changedOf (b .planes) (planesAfter w (wordOf (dueAt (b .timers) period) n) (b .planes))) 0) m
-    ((lowTo (bitOf (b .planes .delayed)) (λ i. getD (b .timers) i 0) n - 1) / period)
+quiets-by-le m n period w p timers =
+    least (eqb (changedOf p (planesAfter w (wordOf (dueAt timers period) n) p)) 0) m
+    ((lowTo (bitOf (p .delayed)) (λ i. getD timers i 0) n - 1) / period)
   where
     least : (c : Bool) (m l : ℕ) → cond c (min m l) 0 ≤ m
     least true m l = omega arith
     least false m l = omega arith
+
+pub quiets-few : (q m n period : ℕ) (w : Asked) (p : Planes) (timers : List ℕ) → q ≡ quietsBy m n period w p timers → q ≤ m
+quiets-few q m n period w p timers e = omega (arith, e, quiets-by-le m n period w p timers)
 
 module _ (n : ℕ) (few : n ≤ 16) (s : ℕ → Signals) (xs : List Slot) (long : length xs ≡ 16) where
   abbrev x : ℕ → Slot
@@ -162,7 +165,7 @@ module _ (n : ℕ) (few : n ≤ 16) (s : ℕ → Signals) (xs : List Slot) (long
       low-word =
           lowTo-ext _ _ _ _ n (λ i w. bit-wordOf (λ j. same (x j .state) Delayed) n i w) (λ i w. padded-at n (λ j. x j .timer) i w)
 
-      pub quiets-word : quietsBy m n period (askedOf n (λ i. asks (s i))) (tableOf n xs) ≡ quiets m (tabulate s n) xs
+      pub quiets-word : quietsBy m n period (askedOf n (λ i. asks (s i))) (tableOf n xs .planes) (tableOf n xs .timers) ≡ quiets m (tabulate s n) xs
       unfolding quietsBy tableOf planesOf
       quiets-word =
           rw (planes-step n few causes delays period tripped s sees xs long, changed-word n few, none-set, low-word)

@@ -117,7 +117,7 @@ module _ (buf₀ : List ℕ) (at0 q0 number ch : ℕ) (was is : Planes) (firsts 
       inside = low .inside
 
       hit : (bitOf ch n ≡ true) × (leb (p .m) n ≡ true)
-      hit = and-both (bitOf ch n) (leb (p .m) n) (sym (p .left n) ∙ low .set)
+      hit = and-both (bitOf ch n) (leb (p .m) n) (sym (p .left n) ∙ low .is-set)
 
       passed : entries n ≡ entries (p .m)
       passed =

@@ -49,14 +49,6 @@ table p t f = record { planes = p; timers = t; firsts = f }
 pub table-path : {p p′ : Planes} {t t′ f f′ : List ℕ} → p ≡ p′ → t ≡ t′ → f ≡ f′ → table p t f ≡ table p′ t′ f′
 table-path a b c = λ i. table (a i) (b i) (c i)
 
--- skipping no scan changes nothing
-pub later-none : (n period : ℕ) (b : Table) → n ≤ length (b .timers) → b ≡ tableLater 0 n period b
-unfolding tableLater
-later-none n period b h =
-    table-path refl
-    (sym (ap (λ (l : List ℕ). l ++ drop n (b .timers)) (tabulate-ext _ _ n (λ i k. omega arith) ∙ tabulate-take (b .timers) 0 n h) ∙ take-append-drop n (b .timers)))
-    refl
-
 -- ## What the signals of the effects have to be
 
 -- the signals s i see these causes, delays and this period

@@ -26,10 +26,11 @@ use Rattle.planes.specs.declared.Asked.{Asked}
 use Rattle.planes.specs.declared.Board.{Board}
 use Rattle.planes.specs.declared.Table.{Table}
 use Rattle.planes.specs.Planes.{planesOf, changedOf}
-use Rattle.planes.specs.Table.{tableOf, tableAfter, tableLater, askedOf, quietsBy, slotsOf, padded, joined, entriesTo}
-use Rattle.planes.specs.Board.{entriesOf, scanned, later, unset, begun, signalsBy, signalsIn, runOf, Right, boardOf}
+use Rattle.planes.specs.Table.{Settled, tableOf, tableAfter, tableLater, askedOf, quietsBy, slotsOf, padded, joined, entriesTo}
+use Rattle.planes.specs.Board.{entriesOf, scanned, later, unset, signalsBy, signalsIn, runOf, Right, boardOf}
 use Rattle.planes.proofs.ByWord.{changed-word}
 use Rattle.planes.proofs.Step.{Sees, table-step, table-middle}
+use Rattle.planes.proofs.Rest.{settled-after, settled-later}
 use Rattle.planes.proofs.Quiet.{live-word, quiets-word, later-word}
 use Rattle.planes.proofs.Scanned.{records-word}
 use Rattle.planes.proofs.Slots.{length-slots}
@@ -150,6 +151,7 @@ module _ (n : ℕ) (causes delays : List ℕ) (period tripped : ℕ) (hold : ℕ
     pub small : p .next < 65536
     pub asked : w ≡ askedOf n (λ i. asks (s i))
     pub shown : x ≡ boardOf n p
+    pub settled : Settled n (x .table)
     pub going : Going-here (tabulate s n) p buf left fuel
 
 module _ (n : ℕ) (few : n ≤ 16) (causes delays : List ℕ) (period tripped : ℕ) (pos : 0 < period) (short : period ≤ 1000) (hold : ℕ) (w₀ : Asked) (x₀ : Board) (buf₀ : List ℕ) where
@@ -182,17 +184,28 @@ module _ (n : ℕ) (few : n ≤ 16) (causes delays : List ℕ) (period tripped :
     abbrev j : ℕ
     j = quiets (left - 1) C (q .slots)
 
-    quiet-here : quietsBy (left - 1) n period (askedOf n (λ i. asks (clear (s i)))) (tableOf n (q .slots)) ≡ j
+    quiet-here : quietsBy (left - 1) n period (askedOf n (λ i. asks (clear (s i)))) (tableOf n (q .slots) .planes) (tableOf n (q .slots) .timers) ≡ j
     quiet-here = quiets-word n few (λ i. clear (s i)) (q .slots) long-q causes delays period tripped (sees-clear causes delays period tripped s sees) (left - 1) pos short (omega (arith, g .few))
 
     going-then : Going-now C (skipped j C q) (sets buf (p .at) (bytes (records (p .next) (p .done + 1) 1 S (p .slots)))) (left - 1 - j) (fuel - 1)
     going-then = rw (map-tabulate clear s n) at (turn hold first (x₀ .done) (x₀ .next) (slotsOf n (x₀ .table)) buf₀ g more)
 
-    kept-then : Kept-now (unset W) (later (quietsBy (left - 1) n period (unset W) (scanned n causes delays period tripped W (boardOf n p) .table)) n period (scanned n causes delays period tripped W (boardOf n p)))
-        (sets buf (p .at) (joined (entriesOf n causes delays period tripped W (boardOf n p)))) (left - 1 - quietsBy (left - 1) n period (unset W) (scanned n causes delays period tripped W (boardOf n p) .table)) (fuel - 1)
+    -- the board after the scan, and the scans that it skips
+    abbrev then : Board
+    then = scanned n causes delays period tripped W (boardOf n p)
+
+    abbrev skips : ℕ
+    skips = quietsBy (left - 1) n period (unset W) (then .table .planes) (then .table .timers)
+
+    settled-then : Settled n (later skips n period then .table)
+    unfolding later scanned
+    settled-then = settled-later skips n period (then .table) (settled-after n causes delays period tripped W (tableOf n (p .slots)))
+
+    kept-then : Kept-now (unset W) (later skips n period then) (sets buf (p .at) (joined (entriesOf n causes delays period tripped W (boardOf n p)))) (left - 1 - skips) (fuel - 1)
     kept-then =
         rw (laid-word n few causes delays period tripped s sees p long small, scan-word n few causes delays period tripped s sees p long small, unset-word n s, quiet-here)
         (record {
+          settled = rw (scan-word n few causes delays period tripped s sees p long small, unset-word n s, quiet-here) at settled-then;
           s = λ i. clear (s i);
           p = skipped j C q;
           sees = sees-clear causes delays period tripped s sees;
@@ -225,7 +238,7 @@ module _ (n : ℕ) (few : n ≤ 16) (causes delays : List ℕ) (period tripped :
       -- a turn of the loop, by what the calls in it ensure
       pub turned : {y z : Board} {buf′ : List ℕ} {v : Asked} {k : ℕ}
           → y ≡ scanned n causes delays period tripped w x → buf′ ≡ sets buf (x .at) (joined (entriesOf n causes delays period tripped w x)) → v ≡ unset w
-          → k ≡ quietsBy (left - 1) n period v (y .table) → z ≡ later k n period y
+          → k ≡ quietsBy (left - 1) n period v (y .table .planes) (y .table .timers) → z ≡ later k n period y
           → Kept-now v z buf′ (left - 1 - k) (fuel - 1)
       turned ey eb ev ek ez = rw (ez, ek, ev, eb, ey, h .shown, h .asked) (kept-then (h .s) (h .sees) (h .p) (h .long) (h .small) (h .going) more)
 
@@ -234,10 +247,14 @@ module _ (n : ℕ) (few : n ≤ 16) (causes delays : List ℕ) (period tripped :
         let f = ends hold first (x₀ .done) (x₀ .next) (slotsOf n (x₀ .table)) buf₀ (h .going) e in
         (h .shown ∙ ap (boardOf n) (f .0), f .1)
 
+-- the run that starts at a board
+abbrev pub fresh : Board → Board
+fresh x = board (x .done) (x .next) 0 0 (x .table)
+
 -- the first turn
 pub starts : (n : ℕ) (few : n ≤ 16) (causes delays : List ℕ) (period tripped : ℕ) (pos : 0 < period) (short : period ≤ 1000) (hold : ℕ) (w : Asked) (x : Board) (buf : List ℕ) (fuel : ℕ)
     → Right n causes delays period tripped w x → x .next < 65536 → hold ≤ 1000000 → x .done + hold ≤ 1000000000 → 2 * n < fuel
-    → Kept n causes delays period tripped hold w (begun x) buf w (begun x) buf hold fuel
+    → Kept n causes delays period tripped hold w (fresh x) buf w (fresh x) buf hold fuel
 unfolding signalsBy
 starts n few causes delays period tripped pos short hold w x buf fuel r small h room f =
     record {
@@ -247,7 +264,8 @@ starts n few causes delays period tripped pos short hold w x buf fuel r small h 
       long = length-slots n few (x .table);
       small = small;
       asked = r .asked;
-      shown = board-path refl refl refl (r .table);
+      shown = board-path refl refl refl (r .table .slots);
+      settled = r .table .settled;
       going =
           begins hold (signalsIn n causes delays period tripped w) (x .done) (x .next) (slotsOf n (x .table)) buf fuel
           (timed-all period pos short (signalsBy causes delays period tripped w) (λ i. refl) n) h room (rw length-tabulate f);

@@ -1,4 +1,4 @@
--- A run by words: one scan more, scans that are not live, and the run of slots that it shows. No promise cites this page.
+-- A run by words: one scan more, scans that are not live, and the run of slots that it shows. No entry point's contract cites this page.
 use Prim.Native.Nat.{ℕ, _+_, _*_, _%_, _^_}
 use mathlib.Core.Path.{_≡_}
 use mathlib.Core.Bool.{not}
@@ -13,8 +13,10 @@ use Rattle.effects.specs.declared.Progress.{Progress}
 use Rattle.rounds.specs.Steps.{Run, start}
 use Rattle.planes.specs.declared.Asked.{Asked}
 use Rattle.planes.specs.declared.Board.{Board}
+use Rattle.planes.specs.declared.Mark.{Mark}
+use Rattle.planes.specs.declared.Table.{Table}
 use Rattle.planes.specs.Planes.{changedOf}
-use Rattle.planes.specs.Table.{activeIn, tableAfter, tableLater, tableOf, askedOf, slotsOf, entriesTo}
+use Rattle.planes.specs.Table.{activeIn, tableAfter, tableLater, Settled, tableOf, askedOf, slotsOf, entriesTo}
 
 -- the records of a scan
 abbrev pub entriesOf : (n : ℕ) (causes delays : List ℕ) (period tripped : ℕ) → Asked → Board → List (List ℕ)
@@ -55,8 +57,18 @@ unset w =
       delayed = w .delayed;
     }
 
-abbrev pub begun : Board → Board
-begun x = record { done = x .done; next = x .next; at = 0; live = 0; table = x .table }
+-- the run that starts where another has come to
+abbrev pub begun : Mark → Mark
+begun x = record { done = x .done; next = x .next; at = 0; live = 0; planes = x .planes }
+
+-- a mark, with the timers and first-outs that are lent beside it
+abbrev pub boardAt : Mark → (timers firsts : List ℕ) → Board
+boardAt x timers firsts =
+    record { done = x .done; next = x .next; at = x .at; live = x .live; table = record { planes = x .planes; timers = timers; firsts = firsts } }
+
+-- its mark
+abbrev pub markOf : Board → Mark
+markOf x = record { done = x .done; next = x .next; at = x .at; live = x .live; planes = x .table .planes }
 
 -- ## What the words show
 
@@ -84,10 +96,15 @@ signalsIn n causes delays period tripped w = tabulate (signalsBy causes delays p
 abbrev pub runOf : ℕ → Board → Run
 runOf n x = start (x .done) (x .next) (slotsOf n (x .table))
 
+-- what is kept is that of the slots it shows, and rests where it should
+pub record Shown (n : ℕ) (b : Table) : Type 0 where
+  pub slots : b ≡ tableOf n (slotsOf n b)
+  pub settled : Settled n b
+
 -- the words are those of what they show
 pub record Right (n : ℕ) (causes delays : List ℕ) (period tripped : ℕ) (w : Asked) (x : Board) : Type 0 where
   pub asked : w ≡ askedOf n (λ i. asks (signalsBy causes delays period tripped w i))
-  pub table : x .table ≡ tableOf n (slotsOf n (x .table))
+  pub table : Shown n (x .table)
 
 -- the board of a run
 abbrev pub boardOf : ℕ → Progress → Board

@@ -1,4 +1,4 @@
--- The states of all effects as six words, one bit an effect, and the rules on them. No promise cites this page.
+-- The states of all effects as six words, one bit an effect, and the rules on them. No entry point's contract cites this page.
 use Prim.Native.Nat.{ℕ, _+_, _-_, _*_, _/_, _%_, _^_}
 use mathlib.Core.Bool.{Bool, cond}
 use lib.Bits.{bitAnd, bitOr}

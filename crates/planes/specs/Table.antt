@@ -1,10 +1,11 @@
--- What is kept of all effects by words, and a scan of it. No promise cites this page.
-use Prim.Native.Nat.{ℕ, zero, suc, _+_, _-_, _*_, _/_, _%_, _^_, min}
-use mathlib.Core.Bool.{Bool, cond}
+-- What is kept of all effects by words, and a scan of it. No entry point's contract cites this page.
+use mathlib.Core.Path.{_≡_}
+use Prim.Native.Nat.{ℕ, zero, suc, _+_, _-_, _*_, _/_, _%_, _^_, _<_, _≤_, min}
+use mathlib.Core.Bool.{Bool, true, false, cond}
 use mathlib.Core.List.{List, [], _∷_, _++_}
 use lib.Bits.{bitAnd}
 use lib.Dec.{leb, ltb, eqb}
-use lib.ListN.{drop, getD, replicate}
+use lib.ListN.{drop, getD, length, replicate}
 use Rattle.bits.specs.Layout.{pack}
 use Rattle.bits.specs.Lists.{tabulate}
 use Rattle.bits.specs.Words.{bitOf, wordOf}
@@ -45,6 +46,22 @@ tableAfter n causes delays period tripped w b =
       timers = tabulate (timerBy (b .timers) delays period (b .planes .delayed) (after .delayed)) n ++ drop n (b .timers);
       firsts = tabulate (firstBy (b .firsts) causes tripped (b .planes .normal) (after .normal)) n ++ drop n (b .firsts);
     }
+
+-- ## What rests
+
+-- there is a timer for each of n effects, and that of an effect that is not in Delayed is 0
+pub record Still (n delayed : ℕ) (timers : List ℕ) : Type 0 where
+  pub long : n ≤ length timers
+  pub none : (i : ℕ) → i < n → bitOf delayed i ≡ false → getD timers i 0 ≡ 0
+
+-- there is a first-out for each of n effects, and that of an effect in Normal is 0
+pub record Blank (n normal : ℕ) (firsts : List ℕ) : Type 0 where
+  pub long : n ≤ length firsts
+  pub none : (i : ℕ) → i < n → bitOf normal i ≡ true → getD firsts i 0 ≡ 0
+
+pub record Settled (n : ℕ) (b : Table) : Type 0 where
+  pub still : Still n (b .planes .delayed) (b .timers)
+  pub blank : Blank n (b .planes .normal) (b .firsts)
 
 -- ## The slots and what is asked, as words
 
@@ -89,10 +106,10 @@ lowTo f t zero = 4294967295
 lowTo f t (suc n) = cond (f n) (min (lowTo f t n) (t n)) (lowTo f t n)
 
 -- how many of the next m scans leave every state as it is
-unfoldable pub quietsBy : (m n period : ℕ) → Asked → Table → ℕ
-quietsBy m n period w b =
-    cond (eqb (changedOf (b .planes) (planesAfter w (wordOf (dueAt (b .timers) period) n) (b .planes))) 0)
-    (min m ((lowTo (bitOf (b .planes .delayed)) (λ i. getD (b .timers) i 0) n - 1) / period)) 0
+unfoldable pub quietsBy : (m n period : ℕ) → Asked → Planes → (timers : List ℕ) → ℕ
+quietsBy m n period w p timers =
+    cond (eqb (changedOf p (planesAfter w (wordOf (dueAt timers period) n) p)) 0)
+    (min m ((lowTo (bitOf (p .delayed)) (λ i. getD timers i 0) n - 1) / period)) 0
 
 -- what is kept after k such scans
 unfoldable pub tableLater : (k n period : ℕ) → Table → Table

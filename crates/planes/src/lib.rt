@@ -1,12 +1,14 @@
 // The stroke by words of effects: six plane words say which effects are in which state, one bit an effect, so a scan of all
 // effects is a few operations on words. Document 01, "Held runs and their two counts".
-// This crate is an algorithm alone: no promise cites it. What a scan and a held run mean stands in the specs of effects and
-// rounds, over lists of signals and slots; here stands that the words come to the same.
+// This crate is an algorithm alone. What a scan and a held run mean stands in the specs of effects and rounds, over lists of
+// signals and slots; here stands that the words come to the same. It rests on `rounds`, `effects`, `rules` and `bits`. All of it
+// may change without moving a contract of an entry point: inner functions alone cite it.
 ghost use mathlib.Core.Path.{_≡_};
 ghost use mathlib.Core.Bool.{cond};
 ghost use mathlib.Core.List.{[], _∷_, _++_};
 ghost use Prim.Native.Nat.{_+_, _-_, _*_, _/_, _%_, _^_, _<_, _≤_, min};
 ghost use lib.Count.{trailingZeros};
+ghost use lib.Dec.{eqb};
 ghost use lib.ListN.{drop, getD, length, replicate};
 ghost use lib.Seq.{sets};
 ghost use Rattle.bits.specs.Lists.{tabulate};
@@ -16,8 +18,8 @@ ghost use Rattle.rules.specs.Rules.{noSlot, same};
 ghost use Rattle.effects.specs.Records.{bytes};
 ghost use Rattle.rounds.specs.Steps.{held, progressOf};
 ghost use Rattle.planes.specs.Planes.{planesAfter, changedOf, oneOf, codeAt, stateAt};
-ghost use Rattle.planes.specs.Table.{activeAt, dueAt, timerBy, firstBy, tableAfter, lowTo, quietsBy, tableLater, entriesTo, joined, tableOf, slotAt, slotsOf};
-ghost use Rattle.planes.specs.Board.{entriesOf, scanned, later as laterOf, unset as unsetOf, begun, Right, signalsIn, runOf, boardOf};
+ghost use Rattle.planes.specs.Table.{activeAt, dueAt, timerBy, firstBy, Still, Blank, Settled, lowTo, quietsBy, entriesTo, joined, tableOf, slotAt, slotsOf};
+ghost use Rattle.planes.specs.Board.{boardAt, markOf, entriesOf, scanned, unset as unsetOf, begun, Right, signalsIn, runOf, boardOf};
 use rules::EffectState;
 use rules::Slot;
 
@@ -52,7 +54,17 @@ pub struct Table {
 }
 
 // How far a run of scans has come: the scans done, the next sequence number, the place after the records in the buffer, the
-// live scans so far, and what is kept of the effects.
+// live scans so far, and the effects' states. Their timers and first-outs are lent beside it and changed in place: copied
+// from scan to scan they would cost more than all the rest.
+pub struct Mark {
+    pub done: u32,
+    pub next: u16,
+    pub at: usize,
+    pub live: u32,
+    pub planes: Planes,
+}
+
+// The same with all that is kept of the effects.
 pub struct Board {
     pub done: u32,
     pub next: u16,
@@ -125,6 +137,17 @@ fn due_word(count: usize, timers: &[u32; 16], period: u32) -> u16
     word
 }
 
+// The same where some effect is in Delayed: nothing asks for it elsewhere.
+fn due_of(count: usize, timers: &[u32; 16], period: u32, delayed: u16) -> u16
+    requires { ⌜ count ≤ 16 ⌝ }
+    ensures { λ r. ⌜ r ≡ cond (eqb delayed 0) 0 (wordOf (dueAt (now (timers .entry)) period) count) ⌝ }
+{
+    if delayed == 0 {
+        return 0;
+    }
+    due_word(count, timers, period)
+}
+
 // ---- timers and first-outs
 
 fn pick32(b: bool, x: u32, y: u32) -> u32
@@ -139,82 +162,59 @@ fn pick16(b: bool, x: u16, y: u16) -> u16
     if b { x } else { y }
 }
 
-// The timers after a scan. was, is: the effects in Delayed before it and after it.
-fn timers_after(
+// The timers after a scan, in place. was, is: the effects in Delayed before it and after it.
+fn set_timers(
     count: usize,
-    timers: [u32; 16],
+    timers: &mut [u32; 16],
     delays: &[u32; 16],
     period: u32,
     was: u16,
     is: u16,
-) -> [u32; 16]
-    requires { ⌜ count ≤ 16 ⌝ }
-    ensures { λ r. ⌜ r ≡ tabulate (timerBy timers (now (delays .entry)) period was is) count ++ drop count timers ⌝ }
+)
+    requires { ⌜ (count ≤ 16) × Still count was (now timers) ⌝ }
+    ensures { λ _. ⌜ now (timers .exit) ≡ tabulate (timerBy (now (timers .entry)) (now (delays .entry)) period was is) count ++ drop count (now (timers .entry)) ⌝ }
 {
-    let mut after = timers;
+    if (was == 0) & (is == 0) {
+        return;
+    }
     let mut i: usize = 0;
     while i < count {
         let t = timers[i];
         let d = delays[i];
-        after[i] = pick32(
+        timers[i] = pick32(
             bits::bit(is, i),
             pick32(bits::bit(was, i), rules::less(t, period), d),
             0,
         );
         i += 1;
     }
-    after
 }
 
-// The first-outs after a scan. was, is: the effects in Normal before it and after it.
-fn firsts_after(
+// The first-outs after a scan, in place. was, is: the effects in Normal before it and after it.
+fn set_firsts(
     count: usize,
-    firsts: [u16; 16],
+    firsts: &mut [u16; 16],
     causes: &[u16; 16],
     tripped: u16,
     was: u16,
     is: u16,
-) -> [u16; 16]
-    requires { ⌜ count ≤ 16 ⌝ }
-    ensures { λ r. ⌜ r ≡ tabulate (firstBy firsts (now (causes .entry)) tripped was is) count ++ drop count firsts ⌝ }
+)
+    requires { ⌜ (count ≤ 16) × Blank count was (now firsts) ⌝ }
+    ensures { λ _. ⌜ now (firsts .exit) ≡ tabulate (firstBy (now (firsts .entry)) (now (causes .entry)) tripped was is) count ++ drop count (now (firsts .entry)) ⌝ }
 {
-    let mut after = firsts;
+    if was == is {
+        return;
+    }
     let mut i: usize = 0;
     while i < count {
         let f = firsts[i];
         let c = causes[i];
-        after[i] = pick16(
+        firsts[i] = pick16(
             bits::bit(is, i),
             0,
             pick16(bits::bit(was, i), c & tripped, f),
         );
         i += 1;
-    }
-    after
-}
-
-// What is kept of all effects after a scan.
-fn table_after(
-    count: usize,
-    causes: &[u16; 16],
-    delays: &[u32; 16],
-    period: u32,
-    tripped: u16,
-    w: Asked,
-    b: Table,
-) -> Table
-    requires { ⌜ count ≤ 16 ⌝ }
-    ensures { λ r. ⌜ r ≡ tableAfter count (now (causes .entry)) (now (delays .entry)) period tripped w b ⌝ }
-{
-    let planes = b.planes;
-    let timers = b.timers;
-    let firsts = b.firsts;
-    let due = due_word(count, &timers, period);
-    let after = planes_after(w, due, planes);
-    Table {
-        planes: after,
-        timers: timers_after(count, timers, delays, period, planes.delayed, after.delayed),
-        firsts: firsts_after(count, firsts, causes, tripped, planes.normal, after.normal),
     }
 }
 
@@ -241,57 +241,44 @@ fn low_timer(count: usize, timers: &[u32; 16], delayed: u16) -> u32
 }
 
 // How many of the next n scans leave every state as it is.
-fn quiets(n: u32, count: usize, period: u32, w: Asked, b: Table) -> u32
-    requires { ⌜ (count ≤ 16) × (0 < period) ⌝ }
-    ensures { λ r. ⌜ r ≡ quietsBy n count period w b ⌝ }
+fn quiets(n: u32, count: usize, period: u32, w: Asked, p: Planes, timers: &[u32; 16]) -> u32
+    requires { ⌜ (count ≤ 16) × (n ≤ 1000000) × (0 < period) × (period ≤ 1000) ⌝ }
+    ensures { λ r. ⌜ r ≡ quietsBy n count period w p (now (timers .entry)) ⌝ }
 {
     if n == 0 {
         return 0;
     }
-    let planes = b.planes;
-    let timers = b.timers;
-    let due = due_word(count, &timers, period);
-    let next = planes_after(w, due, planes);
-    if changed(planes, next) == 0 {
-        least(
-            n,
-            rules::less(low_timer(count, &timers, planes.delayed), 1) / period,
-        )
-    } else {
-        0
+    let due = due_of(count, timers, period, p.delayed);
+    let next = planes_after(w, due, p);
+    if changed(p, next) != 0 {
+        return 0;
     }
+    if p.delayed == 0 {
+        return n;
+    }
+    least(
+        n,
+        rules::less(low_timer(count, timers, p.delayed), 1) / period,
+    )
 }
 
-fn timers_later(count: usize, timers: [u32; 16], by: u32) -> [u32; 16]
-    requires { ⌜ count ≤ 16 ⌝ }
-    ensures { λ r. ⌜ r ≡ tabulate (λ i. getD timers i 0 - by) count ++ drop count timers ⌝ }
+// The timers after k such scans, in place.
+fn timers_later(k: u32, count: usize, period: u32, timers: &mut [u32; 16], delayed: u16)
+    requires { ⌜ (count ≤ 16) × (k ≤ 1000000) × (period ≤ 1000) × Still count delayed (now timers) ⌝ }
+    ensures { λ _. ⌜ now (timers .exit) ≡ tabulate (λ i. getD (now (timers .entry)) i 0 - k * period) count ++ drop count (now (timers .entry)) ⌝ }
 {
-    let mut after = timers;
+    if k == 0 {
+        return;
+    }
+    if delayed == 0 {
+        return;
+    }
+    let by = k * period;
     let mut i: usize = 0;
     while i < count {
         let t = timers[i];
-        after[i] = rules::less(t, by);
+        timers[i] = rules::less(t, by);
         i += 1;
-    }
-    after
-}
-
-// What is kept of all effects after k such scans.
-fn table_later(k: u32, count: usize, period: u32, b: Table) -> Table
-    requires { ⌜ (count ≤ 16) × (k ≤ 1000000) × (period ≤ 1000) ⌝ }
-    ensures { λ r. ⌜ r ≡ tableLater k count period b ⌝ }
-{
-    if k == 0 {
-        return b;
-    }
-    let planes = b.planes;
-    let timers = b.timers;
-    let firsts = b.firsts;
-    let by = k * period;
-    Table {
-        planes,
-        timers: timers_later(count, timers, by),
-        firsts,
     }
 }
 
@@ -385,40 +372,42 @@ fn scan(
     period: u32,
     tripped: u16,
     w: Asked,
-    x: Board,
-) -> Board
-    requires { ⌜ (count ≤ 16) × (x .done < 1000000000) × (x .live < 1000000) × (x .at + 12 * length (entriesOf count (now causes) (now delays) period tripped w x) ≤ length (now buf)) ⌝ }
-    ensures { λ r. ⌜ (r ≡ scanned count (now (causes .entry)) (now (delays .entry)) period tripped w x) × (now (buf .exit) ≡ sets (now (buf .entry)) (x .at) (joined (entriesOf count (now (causes .entry)) (now (delays .entry)) period tripped w x))) ⌝ }
+    x: Mark,
+    timers: &mut [u32; 16],
+    firsts: &mut [u16; 16],
+) -> Mark
+    requires { ⌜ (count ≤ 16) × (x .done < 1000000000) × (x .live < 1000000) × Settled count (boardAt x (now timers) (now firsts) .table) × (x .at + 12 * length (entriesOf count (now causes) (now delays) period tripped w (boardAt x (now timers) (now firsts))) ≤ length (now buf)) ⌝ }
+    ensures { λ r. ⌜ (boardAt r (now (timers .exit)) (now (firsts .exit)) ≡ scanned count (now (causes .entry)) (now (delays .entry)) period tripped w (boardAt x (now (timers .entry)) (now (firsts .entry)))) × (now (buf .exit) ≡ sets (now (buf .entry)) (x .at) (joined (entriesOf count (now (causes .entry)) (now (delays .entry)) period tripped w (boardAt x (now (timers .entry)) (now (firsts .entry)))))) ⌝ }
 {
-    let table = x.table;
-    let was = table.planes;
-    let y = table_after(count, causes, delays, period, tripped, w, table);
-    let is = y.planes;
-    let firsts = y.firsts;
+    let was = x.planes;
+    let due = due_of(count, timers, period, was.delayed);
+    let is = planes_after(w, due, was);
+    set_timers(count, timers, delays, period, was.delayed, is.delayed);
+    set_firsts(count, firsts, causes, tripped, was.normal, is.normal);
     let ch = changed(was, is);
     let done = x.done + 1;
-    let at = put_scan(buf, x.at, x.next, done, ch, was, is, &firsts);
-    Board {
+    let at = put_scan(buf, x.at, x.next, done, ch, was, is, firsts);
+    Mark {
         done,
         next: seq_after(x.next, x.at, at),
         at,
         live: count_live(x.live, ch != 0),
-        table: y,
+        planes: is,
     }
 }
 
 // The run after k scans that leave every state as it is.
-fn later(k: u32, count: usize, period: u32, x: Board) -> Board
-    requires { ⌜ (count ≤ 16) × (k ≤ 1000000) × (period ≤ 1000) × (x .done + k ≤ 1000000000) ⌝ }
-    ensures { λ r. ⌜ r ≡ laterOf k count period x ⌝ }
+fn later(k: u32, x: Mark) -> Mark
+    requires { ⌜ x .done + k ≤ 1000000000 ⌝ }
+    ensures { λ r. ⌜ r ≡ (record { done = x .done + k; next = x .next; at = x .at; live = x .live; planes = x .planes }) ⌝ }
 {
-    let table = x.table;
-    Board {
+    let planes = x.planes;
+    Mark {
         done: x.done + k,
         next: x.next,
         at: x.at,
         live: x.live,
-        table: table_later(k, count, period, table),
+        planes,
     }
 }
 
@@ -432,21 +421,21 @@ fn unset(w: Asked) -> Asked
 }
 
 // The run that starts where another has come to.
-pub fn begin(x: Board) -> Board
+pub fn begin(x: Mark) -> Mark
     ensures { λ r. ⌜ r ≡ begun x ⌝ }
 {
-    let table = x.table;
-    Board {
+    let planes = x.planes;
+    Mark {
         done: x.done,
         next: x.next,
         at: 0,
         live: 0,
-        table,
+        planes,
     }
 }
 
 // A held run by rounds: one scan by the rules, and then all scans before the next live one or the hold's end. Its records go
-// to the front of the buffer. The falling number of the loop is `fuel`.
+// to the front of the buffer, and the timers and first-outs are those after it. The falling number of the loop is `fuel`.
 pub fn stroke(
     buf: &mut [u8],
     hold: u32,
@@ -456,10 +445,12 @@ pub fn stroke(
     period: u32,
     tripped: u16,
     asked: Asked,
-    from: Board,
-) -> Board
-    requires { ⌜ (count ≤ 16) × (hold ≤ 1000000) × (0 < period) × (period ≤ 1000) × (from .done + hold ≤ 1000000000) × Right count (now causes) (now delays) period tripped asked from × (24 * count ≤ length (now buf)) ⌝ }
-    ensures { λ r. ⌜ (r ≡ boardOf count (progressOf (held (signalsIn count (now (causes .entry)) (now (delays .entry)) period tripped asked) hold (runOf count from)))) × (now (buf .exit) ≡ sets (now (buf .entry)) 0 (bytes (held (signalsIn count (now (causes .entry)) (now (delays .entry)) period tripped asked) hold (runOf count from) .events))) ⌝ }
+    from: Mark,
+    timers: &mut [u32; 16],
+    firsts: &mut [u16; 16],
+) -> Mark
+    requires { ⌜ (count ≤ 16) × (hold ≤ 1000000) × (0 < period) × (period ≤ 1000) × (from .done + hold ≤ 1000000000) × Right count (now causes) (now delays) period tripped asked (boardAt from (now timers) (now firsts)) × (24 * count ≤ length (now buf)) ⌝ }
+    ensures { λ r. ⌜ (boardAt r (now (timers .exit)) (now (firsts .exit)) ≡ boardOf count (progressOf (held (signalsIn count (now (causes .entry)) (now (delays .entry)) period tripped asked) hold (runOf count (boardAt from (now (timers .entry)) (now (firsts .entry))))))) × (now (buf .exit) ≡ sets (now (buf .entry)) 0 (bytes (held (signalsIn count (now (causes .entry)) (now (delays .entry)) period tripped asked) hold (runOf count (boardAt from (now (timers .entry)) (now (firsts .entry)))) .events))) ⌝ }
 {
     let mut w = asked;
     let mut x = begin(from);
@@ -467,16 +458,64 @@ pub fn stroke(
     let mut fuel = 2 * count + 1;
     while 0 < left {
         fuel -= 1;
-        let y = scan(buf, count, causes, delays, period, tripped, w, x);
+        let y = scan(
+            buf,
+            count,
+            causes,
+            delays,
+            period,
+            tripped,
+            w,
+            x,
+            timers,
+            firsts,
+        );
         let v = unset(w);
         let rest = left - 1;
-        let table = y.table;
-        let k = quiets(rest, count, period, v, table);
+        let p = y.planes;
+        let k = quiets(rest, count, period, v, p, timers);
+        timers_later(k, count, period, timers, p.delayed);
         w = v;
-        x = later(k, count, period, y);
+        x = later(k, y);
         left = rest - k;
     }
     x
+}
+
+// ---- a mark and its board
+
+// The mark of a board, without its timers and first-outs.
+pub fn mark_of(x: Board) -> Mark
+    ensures { λ r. ⌜ r ≡ markOf x ⌝ }
+{
+    let table = x.table;
+    let planes = table.planes;
+    Mark {
+        done: x.done,
+        next: x.next,
+        at: x.at,
+        live: x.live,
+        planes,
+    }
+}
+
+// The board of a mark, with its timers and first-outs.
+pub fn board_at(x: Mark, timers: [u32; 16], firsts: [u16; 16]) -> Board
+    ensures { λ r. ⌜ r ≡ boardAt x timers firsts ⌝ }
+{
+    let planes = x.planes;
+    let table = Table {
+        planes,
+        timers,
+        firsts,
+    };
+    Board {
+        done: x.done,
+        next: x.next,
+        at: x.at,
+        live: x.live,
+        table,
+    }
 }
 
 // ---- to words and back

@@ -1,4 +1,4 @@
--- A buffer that is filled with the lines of rows, as long as they fit. No promise cites this page but those of inner functions.
+-- A buffer that is filled with the lines of rows, as long as they fit. No entry point's contract cites this page.
 use Prim.Native.Nat.{ℕ, _+_, _≤_, _<_}
 use mathlib.Core.Path.{_≡_}
 use mathlib.Core.Bool.{true, false}

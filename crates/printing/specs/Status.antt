@@ -1,4 +1,5 @@
 -- How a replay ended, as a number: 0 it was printed, 1 it was printed and says a refusal, 2 the output took no more.
+-- Ours: docs/DECISIONS.md, "The replay program".
 use Prim.Native.Nat.{ℕ}
 use mathlib.Core.Path.{_≡_}
 use mathlib.Core.Bool.{Bool, true, cond}

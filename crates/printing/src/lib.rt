@@ -1,13 +1,15 @@
 // A listing on standard output: its text is `listing`'s, collected in one lent buffer and written when no piece fits any more
-// and at the end. Both programs that print listings do it here.
+// and at the end. Both programs that print listings do it here. It rests on `listing` and what that rests on, and on the kit's `io` and
+// `libc`. When a buffer is written, and how large it is, may change without moving a contract; the answers 0, 1 and 2 may not.
 ghost use mathlib.Core.Path.{_≡_};
 ghost use Prim.Native.Nat.{_+_, _≤_, _<_};
 ghost use lib.ListN.{length};
 ghost use Rattle.listing.specs.Room.{mostPiece};
+ghost use Rattle.recording.specs.declared.Answer.the-variants.{Accepted};
 ghost use Rattle.recording.specs.Answers.{rowCount};
 ghost use Rattle.recording.specs.Reader.{reading};
 ghost use Rattle.rerun.specs.Turn.{Going};
-ghost use Rattle.wiring.specs.Wiring.{wiringOf};
+ghost use Rattle.wiring.specs.Wiring.{Wired};
 ghost use Rattle.printing.specs.Filled.{Filled};
 ghost use Rattle.rerun.specs.Replay.{replay};
 ghost use Rattle.printing.specs.Status.{status as statusOf, Told};
@@ -25,19 +27,21 @@ fn fill(
     s: &[u8],
     st: Settings,
     x: Wiring,
+    causes: &[u16; 16],
+    times: &[u32; 16],
     width: usize,
     rows: u16,
     start: Totals,
     out: &mut [u8],
     from: usize,
 ) -> Printed
-    requires { ⌜ Going (now s) st width start × (rows ≡ rowCount (reading (now s) .answer)) × (x ≡ wiringOf st) ⌝ }
+    requires { ⌜ Going (now s) st width start × (rows ≡ rowCount (reading (now s) .answer)) × Wired st x (now causes) (now times) ⌝ }
     ensures { λ r. ⌜ Filled (now (s .entry)) st width start from (now (out .entry)) r (now (out .exit)) ⌝ }
 {
     let mut t = start;
     let mut at = from;
     while t.rows < rows as u32 {
-        let p = listing::row(s, st, x, width, t, out, at);
+        let p = listing::row(s, st, x, causes, times, width, t, out, at);
         if p.full {
             return p;
         }
@@ -112,25 +116,48 @@ fn print_rows(
     s: &[u8],
     st: Settings,
     x: Wiring,
+    causes: &[u16; 16],
+    times: &[u32; 16],
     width: usize,
     rows: u16,
     start: Totals,
     out: &mut [u8],
     at: usize,
 ) -> u8
-    requires { ⌜ Going (now s) st width start × (rows ≡ rowCount (reading (now s) .answer)) × (x ≡ wiringOf st) ⌝ }
+    requires { ⌜ Going (now s) st width start × (rows ≡ rowCount (reading (now s) .answer)) × Wired st x (now causes) (now times) ⌝ }
     requires { ⌜ (at ≤ length (now out)) × (mostPiece ≤ length (now out)) ⌝ }
     ensures { λ r. ⌜ Told (replay (now (s .entry)) .number) r ⌝ }
 {
-    let mut p = fill(s, st, x, width, rows, start, out, at);
+    let mut p = fill(s, st, x, causes, times, width, rows, start, out, at);
     while p.full {
         if !flush(out, p.at) {
             return status(false, p.number);
         }
         let t = p.totals;
-        p = fill(s, st, x, width, rows, t, out, 0);
+        p = fill(s, st, x, causes, times, width, rows, t, out, 0);
     }
     print_closing(p, out)
+}
+
+// The rest of the listing of a file that the reader accepted, after its opening.
+fn print_accepted(
+    s: &[u8],
+    st: Settings,
+    rows: u16,
+    first: usize,
+    width: usize,
+    out: &mut [u8],
+    at: usize,
+) -> u8
+    requires { ⌜ (reading (now s) .answer ≡ Accepted rows first width) × (st ≡ reading (now s) .settings) ⌝ }
+    requires { ⌜ (at ≤ length (now out)) × (mostPiece ≤ length (now out)) ⌝ }
+    ensures { λ r. ⌜ Told (replay (now (s .entry)) .number) r ⌝ }
+{
+    let causes = wiring::associations(st);
+    let times = wiring::delays(st);
+    let x = wiring::wiring_of(st, &times);
+    let begun = rerun::start(x.count, first);
+    print_rows(s, st, x, &causes, &times, width, rows, begun, out, at)
 }
 
 // Prints the listing of a recording by way of the lent buffer, and answers how it ended: 0 replayed, 1 refused, 2 the output
@@ -145,17 +172,7 @@ pub fn print(s: &[u8], out: &mut [u8]) -> u8
     let answer = reading.answer;
     match answer {
         Answer::Accepted { rows, first, width } => {
-            let x = wiring::wiring_of(st);
-            print_rows(
-                s,
-                st,
-                x,
-                width,
-                rows,
-                rerun::start(x.count, first),
-                out,
-                opened.at,
-            )
+            print_accepted(s, st, rows, first, width, out, opened.at)
         }
         Answer::Refused { number, place: _ } => status(flush(out, opened.at), number),
     }

@@ -6,16 +6,14 @@ use Prim.Native.Nat.{ℕ, zero, suc, _+_, _*_, _≤_, _<_}
 use native.Mathlib.Nat.{zero-add}
 use native.Mathlib.Numerals.{add-one}
 use native.Mathlib.Omega.{arith}
-use borrow.Author.Tests.{leb-true}
 use lib.Dec.{leb}
 use lib.ListN.{length, take, drop, take-append-drop}
 use lib.Seq.{take-suc, take-add, take-all, length-take-le}
 use Rattle.settings.specs.declared.Settings.{Settings}
 use Rattle.settings.specs.Limits.{mostScans}
 use Rattle.settings.specs.Right.{limitsOf, settingsNumber, rowNumber}
-use Rattle.settings.proofs.Refusals.{unless-none}
 use Rattle.block.specs.Scan.{scansNumber, granted}
-use Rattle.block.proofs.Demands.{a-fresh-state-is-right, records-fit-384-bytes}
+use Rattle.block.proofs.Theorems.{a-fresh-state-is-right}
 use Rattle.recording.specs.declared.Answer.the-variants as A
 use Rattle.recording.specs.Answers.{number, place, rowCount, firstRow, rowWidth, noRow}
 use Rattle.recording.specs.Encode.{Right}
@@ -24,8 +22,8 @@ use Rattle.recording.specs.Steps.{rowsOf}
 use Rattle.recording.proofs.Cases.{not-accepted}
 use Rattle.recording.proofs.Theorems.{accepted-case, accepted-is-right}
 use Rattle.recording.proofs.Trips.{length-rowsOf}
-use Rattle.rerun.specs.Replay.{Outcome, whole, started, joined, refusedAt, replayRows, replay, firstRows, rowOf, rowPlace, rowRun, sumOfHolds}
-use Rattle.rerun.proofs.Rows.{Sound, unless-refuses, past, granted-none, granted-refused, then-the-others, refusal-ends, none-refused-whole, rows-counted, sound-after, within-scans, sound-rows, done-is-holds, all-take, all-at}
+use Rattle.rerun.specs.Replay.{Outcome, whole, started, joined, refusedAt, rowsFrom, replayRows, replay, firstRows, rowOf, rowPlace, rowRun, sumOfHolds}
+use Rattle.rerun.proofs.Rows.{Sound, unless-refuses, past, granted-none, granted-refused, then-the-others, refusal-ends, none-refused-whole, events-stay, rows-counted, records-few, done-after, sound-after, within-scans, sound-rows, done-is-holds, all-take, all-at}
 
 module _ (s : List ℕ) where
   abbrev st : Settings
@@ -84,6 +82,25 @@ module _ (s : List ℕ) where
   pub whole-so-far : (i : ℕ) → firstRows s i .number ≡ 0 → firstRows s i ≡ whole (firstRows s i .replay)
   unfolding firstRows
   whole-so-far i z = none-refused-whole st (rowWidth (reading s .answer)) (take i (rowsOf s)) (firstRow (reading s .answer)) started z
+
+  -- a replay that no row ends has refused none of its first rows
+  pub none-so-far : number (reading s .answer) ≡ 0 → replay s .number ≡ 0 → (i : ℕ) → firstRows s i .number ≡ 0
+  none-so-far a z i = go (firstRows s i .number) refl
+    where
+      go : (n : ℕ) → firstRows s i .number ≡ n → firstRows s i .number ≡ 0
+      go zero e = e
+      go (suc n) e = ap (λ (o : Outcome). o .number) (sym (ends-at-refusal a i (λ h. omega (arith, e, h)))) ∙ z
+
+  -- and has their events
+  pub events-in-all : number (reading s .answer) ≡ 0 → (i : ℕ) → firstRows s i .number ≡ 0 → length (firstRows s i .replay .events) ≤ length (replay s .replay .events)
+  unfolding firstRows
+  events-in-all a i z =
+      let all : replay s ≡ rowsFrom st (rowWidth (reading s .answer)) (firstRow (reading s .answer) + rowWidth (reading s .answer) * length (take i (rowsOf s))) (drop i (rowsOf s)) (firstRows s i .replay) =
+      accepted-replay a
+      ∙ ap (replayRows s) (sym (take-append-drop i (rowsOf s)))
+      ∙ then-the-others st (rowWidth (reading s .answer)) (take i (rowsOf s)) (drop i (rowsOf s)) (firstRow (reading s .answer)) started z
+      in
+      rw all (events-stay st (rowWidth (reading s .answer)) (drop i (rowsOf s)) _ (firstRows s i .replay))
 
   -- after a refused row nothing changes
   stays-refused : (i : ℕ) → (firstRows s i .number ≡ 0 → ⊥) → firstRows s (i + 1) ≡ firstRows s i
@@ -166,7 +183,7 @@ module _ (s : List ℕ) where
     few-rows = omega (arith, length-rowsOf s, right .rows-most)
 
     started-sound : Sound st started
-    started-sound = record { state = a-fresh-state-is-right st; slots = refl; live = omega arith; exercised = omega arith }
+    started-sound = record { state = a-fresh-state-is-right st; slots = refl; events = omega arith; live = omega arith; exercised = omega arith }
 
     -- the state that any of the first rows leave is right
     pub sound : (i : ℕ) → Sound st (firstRows s i .replay)
@@ -186,12 +203,14 @@ module _ (s : List ℕ) where
       unfolding rowRun
       sound-next = sound-after st settings-right (rowOf s i) (row-right i l) (firstRows s i .replay) (sound i) z
 
+      pub done-next : rowRun s i .state .done ≡ firstRows s i .replay .state .done + rowOf s i .hold
+      unfolding rowRun
+      done-next = done-after st settings-right (rowOf s i) (row-right i l) (firstRows s i .replay) (sound i) z
+
       pub scans-next : rowRun s i .state .done ≤ mostScans
       unfolding rowRun
       scans-next = within-scans st settings-right (rowOf s i) (row-right i l) (firstRows s i .replay) (sound i) z
 
-      pub records-next : 12 * length (rowRun s i .events) ≤ 384
+      pub records-next : length (rowRun s i .events) ≤ 2 * st .count
       unfolding rowRun
-      records-next =
-          records-fit-384-bytes st (rowOf s i) (firstRows s i .replay .state) settings-right (sound i .state) (row-right i l)
-          (leb-true (firstRows s i .replay .state .done + rowOf s i .hold) mostScans (unless-none _ 8 z))
+      records-next = records-few st settings-right (rowOf s i) (row-right i l) (firstRows s i .replay) (sound i) z

@@ -5,10 +5,11 @@ use mathlib.Core.Bool.{Bool, true, false}
 use mathlib.Core.List.{List, [], _∷_, _++_}
 use Prim.Native.Nat.{ℕ, zero, suc, _+_, _*_, _≤_, _<_}
 use native.Mathlib.Nat.{add-zero, mul-suc, mul-zero}
+use native.Mathlib.Numerals.{add-one}
 use native.Mathlib.Omega.{arith}
 use borrow.Author.Tests.{leb-true, leb-false}
 use lib.Dec.{leb}
-use lib.ListN.{length, getD, take}
+use lib.ListN.{length, getD, take, length-append}
 use Rattle.bits.specs.Words.{one}
 use Rattle.effects.specs.Scan.{anyExercised}
 use Rattle.settings.specs.declared.Settings.{Settings}
@@ -22,7 +23,8 @@ use Rattle.settings.proofs.Right.{count-few}
 use Rattle.block.specs.State.{stateNumber}
 use Rattle.block.specs.Scan.{scansNumber, granted}
 use Rattle.block.specs.Held.{run}
-use Rattle.block.proofs.Demands.{a-held-run-keeps-right, a-held-run-keeps-its-slots, live-at-most-twice-the-effects, exercised-is-the-hold-or-nothing, scans-done-grow-by-the-hold}
+use Rattle.block.proofs.Runs.{due-few}
+use Rattle.block.proofs.Theorems.{right-input-is-accepted, a-held-run-keeps-right, a-held-run-keeps-its-slots, live-at-most-twice-the-effects, exercised-is-the-hold-or-nothing, scans-done-grow-by-the-hold}
 use Rattle.recording.specs.Encode.{All}
 use Rattle.rerun.specs.Replay.{Replay, Outcome, whole, afterRow, refusedAt, rowsFrom, sumOfHolds}
 
@@ -96,6 +98,14 @@ module _ (st : Settings) (w : ℕ) where
       let p = none-refused n at r (rowsFrom st w (at + w) xs (afterRow st x r)) h in
       rw (p .0) (none-refused-whole xs (at + w) (afterRow st x r) (p .1))
 
+  -- events stay, and grow
+  pub events-stay : (xs : List Row) (at : ℕ) (r : Replay) → length (r .events) ≤ length (rowsFrom st w at xs r .replay .events)
+  events-stay [] at r = omega arith
+  events-stay (x ∷ xs) at r =
+      granted-either (rowsFrom st w (at + w) xs (afterRow st x r)) (refusedAt at r) (λ o. length (r .events) ≤ length (o .replay .events)) (scansNumber (r .state .done) (x .hold))
+      (λ z. omega (arith, length-append (r .events) (run st x (r .state) .events), events-stay xs (at + w) (afterRow st x r)))
+      (λ k. omega arith)
+
   -- the rows are counted
   pub rows-counted : (xs : List Row) (at : ℕ) (r : Replay) → rowsFrom st w at xs r .number ≡ 0 → rowsFrom st w at xs r .replay .rows ≡ r .rows + length xs
   rows-counted [] at r h = omega arith
@@ -109,6 +119,7 @@ module _ (st : Settings) (w : ℕ) where
 pub record Sound (st : Settings) (r : Replay) : Type 0 where
   pub state : stateNumber st (r .state) ≡ 0
   pub slots : length (r .state .slots) ≡ 16
+  pub events : length (r .events) ≤ 2 * st .count * r .rows
   pub live : r .live ≤ 32 * r .rows
   pub exercised : r .exercised ≤ r .state .done
 
@@ -130,12 +141,22 @@ module _ (st : Settings) (right : settingsNumber st ≡ 0) where
     live-few : run st row (r .state) .live ≤ 32
     live-few = omega (arith, live-at-most-twice-the-effects st row (r .state) right (sound .state) right-row scans, count-few st right)
 
+    -- two records an effect
+    pub records-few : length (run st row (r .state) .events) ≤ 2 * st .count
+    records-few = due-few st row (r .state) (right-input-is-accepted st row (r .state) right (sound .state) right-row scans)
+
+    events-few : length (r .events ++ run st row (r .state) .events) ≤ 2 * st .count * (r .rows + 1)
+    events-few =
+        rw add-one
+        (omega (arith, length-append (r .events) (run st row (r .state) .events), records-few, sound .events, mul-suc (2 * st .count) (r .rows)))
+
     -- one row more, and what the counts then come to
     pub sound-after : Sound st (afterRow st row r)
     sound-after =
         record {
           state = a-held-run-keeps-right st row (r .state) right (sound .state) right-row scans;
           slots = a-held-run-keeps-its-slots st row (r .state) right (sound .state) right-row scans ∙ sound .slots;
+          events = events-few;
           live = omega (arith, live-few, sound .live);
           exercised = omega (arith, exercised-few, done-after, sound .exercised);
         }

@@ -6,6 +6,7 @@ use mathlib.Core.Bool.{Bool}
 use mathlib.Core.List.{List, _++_}
 use mathlib.Core.Logic.{_⊎_}
 use Prim.Native.Nat.{ℕ, _+_, _*_, _≤_, _<_}
+use native.Mathlib.Nat.{mul-le-mul-left}
 use native.Mathlib.Numerals.{add-one}
 use native.Mathlib.Omega.{arith}
 use borrow.Author.Tests.{le-leb}
@@ -13,6 +14,7 @@ use lib.ListN.{length}
 use Rattle.effects.specs.declared.Event.{Event}
 use Rattle.settings.specs.Limits.{mostScans}
 use Rattle.settings.specs.Refusals.{unless, orElse}
+use Rattle.settings.proofs.Right.{count-few}
 use Rattle.block.specs.State.{stateNumber}
 use Rattle.block.specs.Scan.{scansNumber, roomNumber, inputNumber, granted}
 use Rattle.block.specs.Held.{run, grantedHeld, refusedHeld, heldNumber, heldOf}
@@ -77,7 +79,7 @@ module _ (s : List ℕ) (accepted : Accepted s) where
       let due = length (run st (rowOf s i) x .events) in
       let state = files.sound s accepted i .state in
       let input : inputNumber st x (rowOf s i) ≡ n = rw (files.settings-right s accepted, state, files.row-right s accepted i l) in
-      let room : n ≡ 0 → roomNumber due 384 ≡ 0 = λ z. ap (λ (b : Bool). unless b 10) (le-leb (12 * due) 384 (files.records-next s accepted i l z)) in
+      let room : n ≡ 0 → roomNumber due 384 ≡ 0 = λ z. ap (λ (b : Bool). unless b 10) (le-leb (12 * due) 384 (omega (arith, files.records-next s accepted i l z, count-few st (files.settings-right s accepted)))) in
       (state, ap (λ (k : ℕ). granted k (grantedHeld st (rowOf s i) x) (refusedHeld x)) (ap (λ (k : ℕ). orElse k (roomNumber due 384)) input ∙ first-alone n (roomNumber due 384) room))
 
   -- an accepted file is replayed whole, or stops at the row whose scans cannot be counted
@@ -90,6 +92,20 @@ module _ (s : List ℕ) (accepted : Accepted s) where
 
   pub the-state-is-right : stateNumber (reading s .settings) (replay s .replay .state) ≡ 0
   the-state-is-right = of-all (λ o. stateNumber (reading s .settings) (o .replay .state) ≡ 0) (λ i l. files.sound s accepted i .state)
+
+  -- two records an effect and row
+  pub two-records-an-effect-and-row : length (replay s .replay .events) ≤ 2 * reading s .settings .count * rowCount (reading s .answer)
+  two-records-an-effect-and-row =
+      let n = 2 * reading s .settings .count in
+      let few : length (replay s .replay .events) ≤ n * replay s .replay .rows = of-all (λ o. length (o .replay .events) ≤ n * o .replay .rows) (λ i l. files.sound s accepted i .events) in
+      let most : n * replay s .replay .rows ≤ n * rowCount (reading s .answer) = mul-le-mul-left n (of-all (λ o. o .replay .rows ≤ rowCount (reading s .answer)) in-all) in
+      omega (arith, few, most)
+    where
+      in-all : (i : ℕ) → i ≤ rowCount (reading s .answer) → firstRows s i .replay .rows ≤ rowCount (reading s .answer)
+      in-all =
+          by-rows s (λ o. o .replay .rows ≤ rowCount (reading s .answer)) (omega arith)
+          (λ i b z. omega (arith, b .0, b .2))
+          (λ i b h. b .3)
 
   pub live-at-most-32-a-row : replay s .replay .live ≤ 32 * replay s .replay .rows
   live-at-most-32-a-row = of-all (λ o. o .replay .live ≤ 32 * o .replay .rows) (λ i l. files.sound s accepted i .live)

@@ -2,12 +2,12 @@
 use mathlib.Core.Path.{_≡_, refl, sym, ap, _∙_}
 use mathlib.Core.List.{List, _++_}
 use Prim.Native.Nat.{ℕ, zero, suc, _+_, _*_, _≤_, _<_}
-use native.Mathlib.Nat.{mul-suc, mul-zero}
+use native.Mathlib.Nat.{mul-suc, mul-zero, mul-le-mul}
 use native.Mathlib.Numerals.{add-one}
 use native.Mathlib.Omega.{arith}
 use borrow.Author.Tests.{leb-true}
 use lib.Dec.{leb}
-use lib.ListN.{length, take}
+use lib.ListN.{length, take, length-append}
 use lib.Seq.{sets, length-sets}
 use Rattle.effects.specs.Records.{bytes}
 use Rattle.effects.proofs.Records.{front-bytes}
@@ -17,29 +17,30 @@ use Rattle.settings.specs.Limits.{mostScans}
 use Rattle.settings.specs.Right.{limitsOf, settingsNumber, rowNumber}
 use Rattle.settings.proofs.Refusals.{unless-none}
 use Rattle.settings.proofs.Right.{count-few}
-use Rattle.planes.specs.Board.{boardOf}
+use Rattle.planes.specs.Board.{boardAt, boardOf}
 use Rattle.planes.specs.Table.{tableOf, slotsOf}
 use Rattle.wiring.specs.declared.Wiring.{Wiring}
 use Rattle.wiring.specs.Wiring.{wiringOf}
 use Rattle.wiring.proofs.Held.{count-of}
-use Rattle.block.specs.declared.Kept.{Kept}
 use Rattle.block.specs.declared.State.{State}
 use Rattle.block.specs.State.{stateNumber, fresh}
 use Rattle.block.specs.Scan.{inputNumber, scansNumber, granted}
 use Rattle.block.specs.Held.{Stepped, run}
-use Rattle.block.specs.Run.{startOf, reachedBy, keptOf}
+use Rattle.block.specs.declared.Kept.{Kept}
+use Rattle.block.specs.Run.{KeptWords, startOf, reachedBy, keptAt, keptOf}
 use Rattle.block.proofs.Boards.{shows}
-use Rattle.block.proofs.Demands.{right-input-is-accepted}
+use Rattle.block.proofs.Theorems.{right-input-is-accepted}
 use Rattle.recording.specs.declared.Answer.{Answer}
 use Rattle.recording.specs.declared.Answer.the-variants as A
 use Rattle.recording.specs.Answers.{number, rowCount, firstRow, rowWidth}
 use Rattle.recording.specs.Entries.{rowAt}
 use Rattle.recording.specs.Reader.{reading}
 use Rattle.recording.proofs.Theorems.{first-row-after-the-opening, row-in-the-file}
+use Rattle.rerun.specs.declared.Tally.{Tally}
 use Rattle.rerun.specs.declared.Totals.{Totals}
 use Rattle.rerun.specs.declared.Turn.{Turn}
 use Rattle.rerun.specs.Replay.{Replay, Outcome, whole, joined, refusedAt, started, replay, answered, firstRows, rowOf, rowPlace, rowRun}
-use Rattle.rerun.specs.Turn.{answerBy, totalsAt, totalsOf, totalsAfter, Going, turnOf, turnInto}
+use Rattle.rerun.specs.Turn.{tallyAfter, totalsWith, turnWith, tallyOf, answerBy, totalsAt, totalsOf, totalsAfter, Going, turnOf, turnInto}
 use Rattle.rerun.proofs.Rows.{unless-refuses, granted-none, granted-refused, granted-either}
 use Rattle.rerun.proofs.Files.{no-rows, one-row-more, ends-at-refusal, all-the-rows, whole-so-far, counted, settings-right, row-right, few-rows, sound, sound-next, scans-next, records-next}
 
@@ -62,7 +63,7 @@ length-turn s i buf =
 at-first : (s : List ℕ) (first : ℕ) → firstRow (reading s .answer) ≡ first → totalsAt (reading s .settings .count) first ≡ totalsOf s started
 at-first s first e =
     let p : first ≡ firstRow (reading s .answer) + rowWidth (reading s .answer) * 0 = omega (arith, e, mul-zero (rowWidth (reading s .answer))) in
-    λ j. record { board = boardOf (reading s .settings .count) (startOf fresh); place = p j; rows = 0; live = 0; exercised = 0 }
+    λ j. record { board = boardOf (reading s .settings .count) (startOf fresh); place = p j; records = 0; rows = 0; live = 0; exercised = 0 }
 
 pub few-effects : (s : List ℕ) (st : Settings) (rows first width : ℕ) → reading s .answer ≡ A.Accepted rows first width → st ≡ reading s .settings → st .count ≤ 16
 few-effects s st rows first width a e = rw e (count-few (reading s .settings) (settings-right s (ap number a)))
@@ -89,6 +90,10 @@ module _ (s : List ℕ) (st : Settings) (width : ℕ) (t : Totals) (g : Going s 
   abbrev so-far : Replay
   so-far = firstRows s (t .rows) .replay
 
+  -- the records so far are its events
+  pub records-so-far : t .records ≡ length (so-far .events)
+  records-so-far = ap (λ (u : Totals). u .records) (g .totals)
+
   rows-are : so-far .rows ≡ t .rows
   rows-are = counted s (t .rows) (g .counted) (g .none-refused)
 
@@ -101,14 +106,18 @@ module _ (s : List ℕ) (st : Settings) (width : ℕ) (t : Totals) (g : Going s 
   board-is : t .board ≡ boardOf n (startOf (so-far .state))
   board-is = ap (λ (u : Totals). u .board) (g .totals)
 
+  count-is : st .count ≡ n
+  count-is = ap (λ (z : Settings). z .count) (g .settings)
+
+  -- 384 bytes hold the records of any row
+  pub row-fits : 24 * st .count ≤ 384
+  row-fits = omega (arith, count-is, count-few (reading s .settings) (settings-right s (g .accepted)))
+
   -- the words show the slots of the state
   slots-shown : slotsOf n (tableOf n (so-far .state .slots)) ≡ so-far .state .slots
   slots-shown =
       let z = sound s (g .accepted) (t .rows) in
       shows (reading s .settings) (so-far .state) (z .state) (z .slots) (settings-right s (g .accepted))
-
-  count-is : st .count ≡ n
-  count-is = ap (λ (z : Settings). z .count) (g .settings)
 
   -- so they show the state
   abbrev shown : State
@@ -125,7 +134,8 @@ module _ (s : List ℕ) (st : Settings) (width : ℕ) (t : Totals) (g : Going s 
   after-is : (ran : Stepped) → totalsAfter (totalsOf s so-far) (rowWidth answer) (keptOf n ran) ≡ totalsOf s (joined so-far ran)
   after-is ran =
       let p : rowPlace s (so-far .rows) + rowWidth answer ≡ rowPlace s (so-far .rows + 1) = rw add-one (omega (arith, mul-suc (rowWidth answer) (so-far .rows))) in
-      λ j. record { board = boardOf n (startOf (ran .state)); place = p j; rows = so-far .rows + 1; live = so-far .live + ran .live; exercised = so-far .exercised + ran .exercised }
+      let r = sym (length-append (so-far .events) (ran .events)) in
+      λ j. record { board = boardOf n (startOf (ran .state)); place = p j; records = r j; rows = so-far .rows + 1; live = so-far .live + ran .live; exercised = so-far .exercised + ran .exercised }
 
   -- ## The end: no row is left
 
@@ -133,8 +143,8 @@ module _ (s : List ℕ) (st : Settings) (width : ℕ) (t : Totals) (g : Going s 
   ends e = all-the-rows s (g .accepted) ∙ ap (firstRows s) (sym e) ∙ whole-so-far s (t .rows) (g .none-refused)
 
   -- and the totals are the answer
-  pub ends-answered : t .rows ≡ rowCount answer → answerBy 0 0 t ≡ answered (replay s)
-  ends-answered e = ap (answerBy 0 0) (g .totals) ∙ ap answered (sym (ends e))
+  pub ends-answered : t .rows ≡ rowCount answer → answerBy 0 0 (tallyOf t) ≡ answered (replay s)
+  ends-answered e = ap (λ (u : Totals). answerBy 0 0 (tallyOf u)) (g .totals) ∙ ap answered (sym (ends e))
 
   -- ## One row more
 
@@ -173,7 +183,7 @@ module _ (s : List ℕ) (st : Settings) (width : ℕ) (t : Totals) (g : Going s 
       few-records =
           rw (ap (λ (v : Turn). v .records) is)
           (granted-either (length (rowRun s (t .rows) .events)) (λ k. 0) (λ m. m ≤ 32) (firstRows s (t .rows + 1) .number)
-          (λ z. omega (arith, records-next s (g .accepted) (t .rows) more (sym number-next ∙ z)))
+          (λ z. omega (arith, records-next s (g .accepted) (t .rows) more (sym number-next ∙ z), count-few (reading s .settings) (settings-right s (g .accepted))))
           (λ k. omega arith))
 
       -- without refusal the loop goes on, by one row, and its events are joined to those before
@@ -188,11 +198,11 @@ module _ (s : List ℕ) (st : Settings) (width : ℕ) (t : Totals) (g : Going s 
         pub records-are : u .records ≡ length (rowRun s (t .rows) .events)
         records-are = ap (λ (v : Turn). v .records) is ∙ granted-none (length (rowRun s (t .rows) .events)) (λ k. 0) (firstRows s (t .rows + 1) .number) next-none
 
-        pub bytes-are : (buf : List ℕ) → 384 ≤ length buf → take (12 * u .records) (turnInto s (t .rows) buf) ≡ bytes (rowRun s (t .rows) .events)
+        pub bytes-are : (buf : List ℕ) → 24 * st .count ≤ length buf → take (12 * u .records) (turnInto s (t .rows) buf) ≡ bytes (rowRun s (t .rows) .events)
         bytes-are buf l =
             let es = rowRun s (t .rows) .events in
             rw (records-are, granted-none (sets buf 0 (bytes es)) (λ k. buf) (firstRows s (t .rows + 1) .number) next-none)
-            (front-bytes es buf (omega (arith, l, records-next s (g .accepted) (t .rows) more (sym from-number ∙ z))))
+            (front-bytes es buf (omega (arith, l, count-is, records-next s (g .accepted) (t .rows) more (sym from-number ∙ z))))
 
         pub goes-on : Going s st width (u .totals)
         goes-on =
@@ -227,8 +237,8 @@ module _ (s : List ℕ) (st : Settings) (width : ℕ) (t : Totals) (g : Going s 
         unchanged =
             ap (λ (v : Turn). v .totals) is ∙ ap (λ (o : Outcome). totalsOf s (o .replay)) (next-refused (λ z. h (from-number ∙ z))) ∙ sym (g .totals)
 
-        pub stops-answered : answerBy (u .number) (u .totals .place) (u .totals) ≡ answered (replay s)
-        stops-answered = (λ j. answerBy (by-nine j) (u .totals .place) ((unchanged ∙ g .totals) j)) ∙ ap answered (sym stops)
+        pub stops-answered : answerBy (u .number) (u .totals .place) (tallyOf (u .totals)) ≡ answered (replay s)
+        stops-answered = (λ j. answerBy (by-nine j) (u .totals .place) (tallyOf ((unchanged ∙ g .totals) j))) ∙ ap answered (sym stops)
 
     -- ## What the code reads and computes of it
 
@@ -272,9 +282,6 @@ module _ (s : List ℕ) (st : Settings) (width : ℕ) (t : Totals) (g : Going s 
         pub right-input : inputNumber st shown row ≡ 0
         right-input = right-input-is-accepted st row shown right-settings right-state right-row scans
 
-        pub room : 24 * st .count ≤ 384
-        room = omega (arith, count-few st right-settings)
-
         run-is : run st row shown ≡ rowRun s (t .rows)
         unfolding rowRun
         run-is = λ j. run (g .settings j) (row-is j) (state-is j)
@@ -282,31 +289,51 @@ module _ (s : List ℕ) (st : Settings) (width : ℕ) (t : Totals) (g : Going s 
         granted-is : firstRows s (t .rows + 1) ≡ whole (joined so-far (rowRun s (t .rows)))
         granted-is = next-granted (sym same-number ∙ z)
 
-        module _ (ran : Kept) (ran-is : ran ≡ keptOf (st .count) (run st row shown)) where
+        module _ (ran : KeptWords) (ran-is : ran ≡ keptOf (st .count) (run st row shown)) where
           ran-row : ran ≡ keptOf n (rowRun s (t .rows))
           ran-row = ran-is ∙ (λ j. keptOf (count-is j) (run-is j))
 
           -- the counts stay small
-          pub sums : (t .place + width ≤ 1000000) × (t .rows ≤ 2048) × (t .live + ran .live ≤ 1000000) × (t .exercised + ran .exercised ≤ 1000000000)
+          pub sums : (t .place + width ≤ 1000000) × (t .records + ran .records ≤ 1000000) × (t .rows ≤ 2048) × (t .live + ran .live ≤ 1000000) × (t .exercised + ran .exercised ≤ 1000000000)
           sums =
               let kept = sound-next s (g .accepted) (t .rows) more (sym same-number ∙ z) in
               let most = scans-next s (g .accepted) (t .rows) more (sym same-number ∙ z) in
               let rows = few-rows s (g .accepted) in
+              let c : t .records + ran .records ≡ length (so-far .events ++ rowRun s (t .rows) .events) =
+              (λ j. g .totals j .records + ran-row j .records) ∙ sym (length-append (so-far .events) (rowRun s (t .rows) .events))
+              in
               let l : t .live + ran .live ≡ so-far .live + rowRun s (t .rows) .live = λ j. g .totals j .live + ran-row j .live in
               let x : t .exercised + ran .exercised ≡ so-far .exercised + rowRun s (t .rows) .exercised = λ j. g .totals j .exercised + ran-row j .exercised in
               let first = first-row-after-the-opening s (g .accepted) in
               let few = count-few (reading s .settings) (settings-right s (g .accepted)) in
               let wide = row-in-the-file s (t .rows) more .2 in
               let place : rowPlace s (t .rows) ≡ 10 + 6 * reading s .settings .count + 24 * t .rows = λ j. first j + wide j * t .rows in
-              (omega (arith, more, rows, place-is, place, few, g .wide, wide), omega (arith, more, rows), omega (arith, more, rows, l, kept .live, rows-are), omega (arith, x, kept .exercised, most))
+              let events : 2 * n * (so-far .rows + 1) ≤ 32 * 2048 = mul-le-mul {n₂ = 32} {m₂ = 2048} (omega (arith, few)) (omega (arith, more, rows, rows-are)) in (
+                omega (arith, more, rows, place-is, place, few, g .wide, wide),
+                omega (arith, c, kept .events, events),
+                omega (arith, more, rows),
+                omega (arith, more, rows, l, kept .live, rows-are),
+                omega (arith, x, kept .exercised, most),
+              )
 
           pub granted-turn : (u : Totals) → u ≡ totalsAfter t width ran → (buf buf′ : List ℕ) → buf′ ≡ sets buf 0 (bytes (run st row shown .events))
               → (_≡_ {A = Turn} (record { number = 0; records = ran .records; totals = u }) (turnOf s (t .rows))) × (buf′ ≡ turnInto s (t .rows) buf)
           granted-turn u e buf buf′ f =
               let en = ap (λ (o : Outcome). o .number) granted-is in
-              let er = ap (λ (q : Kept). q .records) ran-row ∙ sym (granted-none (length (rowRun s (t .rows) .events)) (λ k. 0) (firstRows s (t .rows + 1) .number) en) in
+              let er = ap (λ (q : KeptWords). q .records) ran-row ∙ sym (granted-none (length (rowRun s (t .rows) .events)) (λ k. 0) (firstRows s (t .rows + 1) .number) en) in
               let et = e ∙ (λ j. totalsAfter (g .totals j) (g .wide j) (ran-row j)) ∙ after-is (rowRun s (t .rows)) ∙ sym (ap (λ (o : Outcome). totalsOf s (o .replay)) granted-is) in
               let eb = f ∙ ap (λ (q : Stepped). sets buf 0 (bytes (q .events))) run-is in (
                 (λ j. record { number = sym en j; records = er j; totals = et j }),
                 eb ∙ sym (granted-none (sets buf 0 (bytes (rowRun s (t .rows) .events))) (λ k. buf) (firstRows s (t .rows + 1) .number) en),
               )
+
+-- ## Where the timers and first-outs are lent
+
+-- a row that runs, as the code gives it
+pub granted-went : (s : List ℕ) (st : Settings) (width : ℕ) (t : Tally) (timers firsts : List ℕ) (g : Going s st width (totalsWith t timers firsts)) (more : t .rows < rowCount (reading s .answer))
+    (row : Row) (is : row ≡ rowAt s (t .place)) (v : ℕ) (number-is : v ≡ scansNumber (t .mark .done) (row .hold)) (z : v ≡ 0)
+    (ran : Kept) (timers′ firsts′ : List ℕ) → keptAt ran timers′ firsts′ ≡ keptOf (st .count) (run st row (reachedBy (st .count) (boardAt (t .mark) timers firsts)))
+    → (u : Tally) → u ≡ tallyAfter t width ran → (buf buf′ : List ℕ) → buf′ ≡ sets buf 0 (bytes (run st row (reachedBy (st .count) (boardAt (t .mark) timers firsts)) .events))
+    → (turnWith (record { number = 0; records = ran .records; tally = u }) timers′ firsts′ ≡ turnOf s (t .rows)) × (buf′ ≡ turnInto s (t .rows) buf)
+granted-went s st width t timers firsts g more row is v number-is z ran timers′ firsts′ ran-is u e buf buf′ f =
+    granted-turn s st width (totalsWith t timers firsts) g more row is v number-is z (keptAt ran timers′ firsts′) ran-is (totalsWith u timers′ firsts′) (ap (λ (q : Tally). totalsWith q timers′ firsts′) e) buf buf′ f

@@ -2,7 +2,7 @@
 -- 9, "Refusal numbers".
 use Prim.Native.Nat.{ℕ, zero, suc, _+_, _*_}
 use mathlib.Core.List.{List, [], _∷_, _++_}
-use lib.ListN.{getD, take}
+use lib.ListN.{getD, length, take}
 use Rattle.effects.specs.declared.Event.{Event}
 use Rattle.settings.specs.declared.Settings.{Settings}
 use Rattle.settings.specs.declared.Row.{Row}
@@ -73,6 +73,7 @@ answered o =
     record {
       number = o .number;
       place = o .place;
+      records = length (o .replay .events);
       rows = o .replay .rows;
       scans = o .replay .state .done;
       live = o .replay .live;

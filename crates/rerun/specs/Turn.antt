@@ -1,5 +1,5 @@
--- What the code carries from row to row, and what one row more comes to. No promise cites this page but those of `start` and of
--- inner functions.
+-- What the code carries from row to row, and what one row more comes to. No entry point's contract
+-- cites this page.
 use Prim.Native.Nat.{ℕ, _+_, _≤_}
 use mathlib.Core.Path.{_≡_}
 use mathlib.Core.List.{List}
@@ -7,21 +7,24 @@ use lib.ListN.{length}
 use lib.Seq.{sets}
 use Rattle.effects.specs.Records.{bytes}
 use Rattle.settings.specs.declared.Settings.{Settings}
-use Rattle.planes.specs.Board.{boardOf}
+use Rattle.planes.specs.Board.{boardAt, boardOf, markOf}
 use Rattle.block.specs.declared.Kept.{Kept}
-use Rattle.block.specs.Run.{startOf}
+use Rattle.block.specs.Run.{KeptWords, startOf}
 use Rattle.block.specs.State.{fresh}
 use Rattle.block.specs.Scan.{granted}
 use Rattle.recording.specs.Answers.{number, rowCount, rowWidth}
 use Rattle.recording.specs.Reader.{reading}
+use Rattle.rerun.specs.declared.Tally.{Tally}
 use Rattle.rerun.specs.declared.Totals.{Totals}
+use Rattle.rerun.specs.declared.Went.{Went}
 use Rattle.rerun.specs.declared.Turn.{Turn}
 use Rattle.rerun.specs.declared.Replayed.{Replayed}
-use Rattle.rerun.specs.Replay.{Replay, firstRows, rowPlace, rowRun}
+use Rattle.rerun.specs.declared.Stop.{Stop}
+use Rattle.rerun.specs.Replay.{Replay, Outcome, firstRows, rowPlace, rowRun}
 
 -- a fresh state of n effects, by their words
 abbrev pub totalsAt : (n first : ℕ) → Totals
-totalsAt n first = record { board = boardOf n (startOf fresh); place = first; rows = 0; live = 0; exercised = 0 }
+totalsAt n first = record { board = boardOf n (startOf fresh); place = first; records = 0; rows = 0; live = 0; exercised = 0 }
 
 -- the place is that of the row after the rows so far
 abbrev pub totalsOf : List ℕ → Replay → Totals
@@ -29,25 +32,39 @@ totalsOf s r =
     record {
       board = boardOf (reading s .settings .count) (startOf (r .state));
       place = rowPlace s (r .rows);
+      records = length (r .events);
       rows = r .rows;
       live = r .live;
       exercised = r .exercised;
     }
 
 -- one row more, which ran so
-abbrev pub totalsAfter : Totals → (width : ℕ) → Kept → Totals
+abbrev pub totalsAfter : Totals → (width : ℕ) → KeptWords → Totals
 totalsAfter t width ran =
     record {
       board = ran .board;
       place = t .place + width;
+      records = t .records + ran .records;
       rows = t .rows + 1;
       live = t .live + ran .live;
       exercised = t .exercised + ran .exercised;
     }
 
-abbrev pub answerBy : (number place : ℕ) → Totals → Replayed
+abbrev pub answerBy : (number place : ℕ) → Tally → Replayed
 answerBy number place t =
-    record { number = number; place = place; rows = t .rows; scans = t .board .done; live = t .live; exercised = t .exercised }
+    record {
+      number = number;
+      place = place;
+      records = t .records;
+      rows = t .rows;
+      scans = t .mark .done;
+      live = t .live;
+      exercised = t .exercised;
+    }
+
+-- where a replay stops: its number and place alone
+abbrev pub stopOf : Outcome → Stop
+stopOf o = record { number = o .number; place = o .place }
 
 -- in an accepted file with these settings and rows of this width: the totals are those of as many first rows as they count,
 -- none of which was refused
@@ -72,3 +89,46 @@ turnOf s i =
 -- the lent bytes after it
 abbrev pub turnInto : List ℕ → ℕ → List ℕ → List ℕ
 turnInto s i buf = granted (firstRows s (i + 1) .number) (sets buf 0 (bytes (rowRun s i .events))) (λ n. buf)
+
+-- ## Where the timers and first-outs are lent
+
+-- the totals of a tally, with the timers and first-outs beside it
+abbrev pub totalsWith : Tally → (timers firsts : List ℕ) → Totals
+totalsWith t timers firsts =
+    record {
+      board = boardAt (t .mark) timers firsts;
+      place = t .place;
+      records = t .records;
+      rows = t .rows;
+      live = t .live;
+      exercised = t .exercised;
+    }
+
+-- and a turn of it
+abbrev pub turnWith : Went → (timers firsts : List ℕ) → Turn
+turnWith u timers firsts =
+    record { number = u .number; records = u .records; totals = totalsWith (u .tally) timers firsts }
+
+-- one row more, which ran so
+abbrev pub tallyAfter : Tally → (width : ℕ) → Kept → Tally
+tallyAfter t width ran =
+    record {
+      mark = ran .mark;
+      place = t .place + width;
+      records = t .records + ran .records;
+      rows = t .rows + 1;
+      live = t .live + ran .live;
+      exercised = t .exercised + ran .exercised;
+    }
+
+-- the tally of totals
+abbrev pub tallyOf : Totals → Tally
+tallyOf t =
+    record {
+      mark = markOf (t .board);
+      place = t .place;
+      records = t .records;
+      rows = t .rows;
+      live = t .live;
+      exercised = t .exercised;
+    }

@@ -1,4 +1,5 @@
--- The meaning of a held run: scan by scan. Document 01, "Held runs and their two counts".
+-- A held run over lists of signals and slots, scan by scan, as inner functions promise it. Document 01, "Held runs and their
+-- two counts". The held run that users are promised is `run` (block/specs/Held); block/proofs/Stepping shows that both agree.
 use Prim.Native.Nat.{ℕ, zero, suc, _+_, _*_}
 use mathlib.Core.Bool.{false}
 use mathlib.Core.List.{List, [], _++_, map}
@@ -60,7 +61,7 @@ abbrev pub moves : Signals → ℕ → Slot → ℕ
 moves s zero x = 0
 moves s (suc n) x = one (moved s x) + moves (clear s) n (next s x)
 
--- the run as code carries it: its events lie in a buffer, 12 bytes each
+-- the run as the proofs carry it: its events lie in a buffer, 12 bytes each
 abbrev pub progressOf : Run → Progress
 progressOf r =
     record {

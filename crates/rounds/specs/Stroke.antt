@@ -1,4 +1,5 @@
--- What belongs to the stroke alone. No promise cites this page: only contracts of inner functions do.
+-- One stroke by rounds. Document 01, "Held runs and their two counts". Of this page one promise cites `byRounds`
+-- (`rounds-suffice`, block/proofs/Theorems); the rest serves its proof.
 use Prim.Native.Nat.{ℕ, zero, suc, _+_, _-_, _*_, _/_, min, _≤_, _<_}
 use mathlib.Core.Bool.{cond}
 use mathlib.Core.List.{List, [], _∷_, map}
@@ -40,7 +41,7 @@ advances k (s ∷ ss) (x ∷ xs) = advance k s x ∷ advances k ss xs
 
 -- ## A run
 
--- the run after k such scans, as code carries it
+-- the run after k such scans, as the proofs carry it
 abbrev pub skipped : ℕ → List Signals → Progress → Progress
 skipped k ss p =
     record {

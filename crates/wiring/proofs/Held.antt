@@ -12,8 +12,8 @@ use Rattle.effects.specs.Scan.{latentWord, anyExercised, effectWord}
 use Rattle.rounds.specs.Steps.{Run, held, progressOf}
 use Rattle.planes.specs.declared.Asked.{Asked}
 use Rattle.planes.specs.declared.Board.{Board}
-use Rattle.planes.specs.Table.{askedOf, tableOf, slotsOf}
-use Rattle.planes.specs.Board.{signalsBy, signalsIn, runOf, Right, boardOf}
+use Rattle.planes.specs.Table.{askedOf}
+use Rattle.planes.specs.Board.{signalsBy, signalsIn, runOf, Shown, Right, boardOf}
 use Rattle.settings.specs.declared.Row.{Row}
 use Rattle.settings.specs.declared.Settings.{Settings}
 use Rattle.settings.specs.declared.Words.{Words}
@@ -21,8 +21,7 @@ use Rattle.settings.specs.Right.{limitsOf, settingsNumber, rowNumber, wordsNumb
 use Rattle.settings.specs.Signals.{signals}
 use Rattle.settings.proofs.Right.{row-words}
 use Rattle.wiring.specs.declared.Wiring.{Wiring}
-use Rattle.wiring.specs.declared.Stroked.{Stroked}
-use Rattle.wiring.specs.Wiring.{wiringOf, trippedOf, askedBy, strokedBy}
+use Rattle.wiring.specs.Wiring.{Stroked, wiringOf, Wired, trippedOf, askedBy, strokedBy}
 use Rattle.wiring.proofs.Signals.{signals-are, asked-right, effect-is, latent-is, exercised-is}
 
 abbrev stroked : Board → ℕ → ℕ → Bool → Stroked
@@ -41,30 +40,33 @@ unfolding wiringOf
 period-of st x e = ap (λ (y : Wiring). y .period) e
 
 module _ (st : Settings) (right : settingsNumber st ≡ 0) (row : Row) (row-right : rowNumber (limitsOf st) row ≡ 0)
-    (x : Wiring) (ex : x ≡ wiringOf st) (asked : Asked) (ea : asked ≡ askedBy (st .options) x (row .words)) (t : ℕ) (et : t ≡ trippedOf (row .words)) where
+    (x : Wiring) (causes delays : List ℕ) (wired : Wired st x causes delays) (asked : Asked) (ea : asked ≡ askedBy (st .options) x causes (row .words)) (t : ℕ) (et : t ≡ trippedOf (row .words)) where
   abbrev w : Words
   w = row .words
 
   words : wordsNumber (limitsOf st) w ≡ 0
   words = row-words (limitsOf st) row row-right
 
+  ex : x ≡ wiringOf st
+  ex = wired .wiring
+
   abbrev s : ℕ → Signals
-  s = signalsBy (x .causes) (x .delays) (x .period) t asked
+  s = signalsBy causes delays (x .period) t asked
 
   abbrev ss : List Signals
-  ss = signalsIn (x .count) (x .causes) (x .delays) (x .period) t asked
+  ss = signalsIn (x .count) causes delays (x .period) t asked
 
   ss-are : ss ≡ signals st w
   unfolding wiringOf
-  ss-are = rw (ea, et, ex) (signals-are st right w words)
+  ss-are = rw (ea, et, wired .causes-are, wired .delays-are, ex) (signals-are st right w words)
 
   asked-is : asked ≡ askedOf (x .count) (λ i. asks (s i))
   unfolding wiringOf
-  asked-is = rw (ea, et, ex) (asked-right st right w words)
+  asked-is = rw (ea, et, wired .causes-are, wired .delays-are, ex) (asked-right st right w words)
 
-  module _ (from : Board) (table : from .table ≡ tableOf (st .count) (slotsOf (st .count) (from .table))) where
-    pub right-words : Right (x .count) (x .causes) (x .delays) (x .period) t asked from
-    right-words = record { asked = asked-is; table = rw (count-of st x ex) table }
+  module _ (from : Board) (shown : Shown (st .count) (from .table)) where
+    pub right-words : Right (x .count) causes delays (x .period) t asked from
+    right-words = record { asked = asked-is; table = rw (count-of st x ex) shown }
 
   module _ (from : Board) (b : Board) (eb : b ≡ boardOf (x .count) (progressOf (held ss (row .hold) (runOf (x .count) from)))) where
     abbrev run : Run

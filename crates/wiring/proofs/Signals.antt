@@ -29,7 +29,7 @@ use Rattle.settings.specs.declared.Words.{Words}
 use Rattle.settings.specs.Right.{limitsOf, settingsNumber, wordsNumber}
 use Rattle.settings.specs.Signals.{activeOf, badTrip, forcesCount, signals, signalsOf}
 use Rattle.settings.proofs.Right.{count-few, association-lt, Inside, inside}
-use Rattle.wiring.specs.Wiring.{associationAt, delayAt, wiringOf, trippedOf, askedBy}
+use Rattle.wiring.specs.Wiring.{associationAt, delayAt, causesOf, delaysOf, wiringOf, trippedOf, askedBy}
 
 bit-none : (i : ℕ) → bitOf 0 i ≡ false
 bit-none i = ap (λ (x : ℕ). eqb (x % 2) 1) (zero-div (2 ^ i))
@@ -63,17 +63,11 @@ module _ (st : Settings) (right : settingsNumber st ≡ 0) (w : Words) (words : 
   abbrev n : ℕ
   n = st .count
 
-  abbrev causes : List ℕ
-  causes = tabulate (associationAt st) 16
-
-  abbrev delays : List ℕ
-  delays = tabulate (delayAt st) 16
-
   abbrev asked : Asked
-  asked = askedBy (st .options) (wiringOf st) w
+  asked = askedBy (st .options) (wiringOf st) (causesOf st) w
 
   abbrev shown : ℕ → Signals
-  shown = signalsBy causes delays (st .period) (trippedOf w) asked
+  shown = signalsBy (causesOf st) (delaysOf st) (st .period) (trippedOf w) asked
 
   few : n ≤ 16
   few = count-few st right
@@ -90,7 +84,7 @@ module _ (st : Settings) (right : settingsNumber st ≡ 0) (w : Words) (words : 
       (bit-if (forcesCount (st .options) w) (w .«force_normal») i)
       (getD-tabulate (delayAt st) 16 i 0 l)
 
-  pub signals-are : signalsIn n causes delays (st .period) (trippedOf w) asked ≡ signals st w
+  pub signals-are : signalsIn n (causesOf st) (delaysOf st) (st .period) (trippedOf w) asked ≡ signals st w
   signals-are = tabulate-ext shown (signalsOf st w) n sees
 
   -- and the words are those of what they show

@@ -5,6 +5,7 @@ use borrow.Author.Needs.{needs}
 use denote.Ref.{now}
 use lib.ListN.{length}
 use Rattle.bits.proofs.Lists.{length-mapped}
+use Rattle.block.specs.Run.{reachedBy}
 use Rattle.block.proofs.Answers.{settings-right, row-right, few, countable}
 use Rattle.block.proofs.Runs.{starts-right, laid, ran-is}
 use Rattle.block.proofs.run_right.Statement.{statement}
@@ -17,19 +18,19 @@ long : (s : tie.Start) → length (s .args .x .slots) ≡ 16
 long s = search (needs, length-mapped)
 
 wiring-of-requires : tie.Need-wiring-of-requires
-wiring-of-requires c κs = few-effects (c .before .before .before)
+wiring-of-requires c κs = (few-effects (c .before .before .before .before .before), c .before .delays .ensures)
 
 board-of-requires : tie.Need-board-of-requires
-board-of-requires c κs = few-effects (c .before .before .before .before)
+board-of-requires c κs = few-effects (c .before .before .before .before .before .before)
 
 stroke-requires : tie.Need-stroke-requires
 stroke-requires c κs =
-    let s = c .before .before .before .before .before in
+    let s = c .before .before .before .before .before .before .before .before .before .before .before .before .before .before .before .before in
     let a = s .args in
     let input = s .pre .0 in
-    rw (c .board-of .ensures) (
+    rw (c .before .before .before .before .before .mark-of .ensures, c .before .before .before .before .before .before .before .before .before .board-of .ensures) (
       settings-right (a .st) (a .row) (a .x) _ refl input,
-      c .before .wiring-of .ensures,
+      record { wiring = c .before .before .before .before .before .before .before .before .before .before .wiring-of .ensures; causes-are = c .before .before .before .before .before .before .before .before .before .before .before .before .before .associations .ensures; delays-are = c .before .before .before .before .before .before .before .before .before .before .before .before .delays .ensures },
       row-right (a .st) (a .row) (a .x) _ refl input,
       countable (a .st) (a .row) (a .x) _ refl input,
       starts-right (a .st) (a .row) (a .x) input (long s),
@@ -37,17 +38,15 @@ stroke-requires c κs =
     )
 
 reached-requires : tie.Need-reached-requires
-reached-requires c κs = few-effects (c .before .before .before .before .before .before .before .before .before)
+reached-requires c κs = few-effects (c .before .before .before .before .before .before .before .before .before .before .before .before .before .before .before .before .before .before .before .before .before)
 
 returns : tie.Need-returns
 returns c =
-    let k = c .before .before .before .before .before .before in
-    let s = c .before .before .before .before .before .before .before .before .before .before .before .before in
+    let s = c .before .before .before .before .before .before .before .before .before .before .before .before .before .before .before .before .before .before .before .before .before .before .before .before in
     let a = s .args in
     let input = s .pre .0 in
-    let board = k .before .board-of .ensures in
-    let e = rw board at (k .stroke .ensures) in (
-      ran-is (a .st) (a .row) (a .x) input (long s) _ (e .0) _ _ (c .before .before .reached .ensures) (c .exercised-scans .ensures),
+    let e = rw (c .before .before .before .before .before .before .before .before .before .before .before .before .before .mark-of .ensures, c .before .before .before .before .before .before .before .before .before .before .before .before .before .before .before .before .before .board-of .ensures) at (c .before .before .before .before .before .before .before .stroke .ensures) in (
+      ran-is (a .st) (a .row) (a .x) input (long s) _ (e .0) _ _ (c .before .before .reached .ensures ∙ ap (reachedBy _) (c .before .before .before .board-at .ensures)) (c .exercised-scans .ensures),
       laid (a .st) (a .row) (a .x) input (long s) (now (a .buf)) _ (e .1),
     )
 
@@ -56,9 +55,13 @@ run-right-spec =
     tie.close
     (tie.spec
     (λ c. search needs)
+    (λ c κs. search needs)
+    (λ c κs. search needs)
     wiring-of-requires
     board-of-requires
+    (λ c κs. search needs)
     stroke-requires
+    (λ c κs. search needs)
     reached-requires
     (λ c κs. search needs)
     (λ c. search needs)

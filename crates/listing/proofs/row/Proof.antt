@@ -3,7 +3,7 @@ use native.Mathlib.Omega.{arith}
 use denote.Ref.{now}
 use lib.ListN.{replicate}
 use borrow.Author.Needs.{needs}
-use Rattle.rerun.proofs.Turns.{few-records}
+use Rattle.rerun.proofs.Turns.{few-records, row-fits}
 use Rattle.listing.proofs.Placing.{fits, full-row, whole-row, lines-of-turn}
 use Rattle.listing.proofs.row.Statement.{statement}
 use Rattle.listing.proofs.row.Tie as tie
@@ -13,6 +13,13 @@ returns c =
     let a = c .before .before .before .before .args in
     let w = full-row (now (a .out)) (a .at) _ (c .before .has-room .ensures) (now (a .s)) (a .t) (c .if1 .taken) in
     (w .0, (w .1, (λ h. h)))
+
+row-requires : tie.Need-row-requires
+row-requires c κs =
+    let start = c .before .before .before .before .before in
+    let a = start .args in
+    let room = row-fits (now (a .s)) (a .st) (a .width) (a .t) (start .pre .0) in
+    (start .pre .0, start .pre .1, omega (arith, room), start .pre .2)
 
 put-lines-requires : tie.Need-put-lines-requires
 put-lines-requires c κs =
@@ -44,7 +51,7 @@ row-spec =
     (λ c κs. search needs)
     returns
     (λ c. search needs)
-    (λ c κs. search needs)
+    row-requires
     (λ c. search needs)
     put-lines-requires
     (λ c. search needs)

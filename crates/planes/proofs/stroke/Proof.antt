@@ -1,78 +1,76 @@
 -- `planes::stroke` meets its contract: a turn of the loop is a round, and the rest of the run gives what the whole gives.
-use borrow.Author.Needs.{needs}
 use mathlib.Core.Path.{_≡_, ap}
-use Prim.Native.Nat.{_+_, _-_}
+use Prim.Native.Nat.{ℕ, _+_, _-_, _≤_}
 use native.Mathlib.Omega.{arith}
+use borrow.Author.Needs.{needs}
+use denote.Ref.{now}
 use Rattle.planes.specs.declared.Board.{Board}
-use Rattle.planes.specs.Board.{scanned}
-use Rattle.planes.proofs.Quiet.{quiets-by-le}
+use Rattle.planes.specs.Board.{boardAt, scanned}
+use Rattle.planes.proofs.Quiet.{quiets-few}
+use Rattle.planes.proofs.Marks.{still-scanned, skipped-is}
 use Rattle.planes.proofs.Turn.{Kept, starts, turned, fits, ended, as-long, done-fits, live-fits}
 use Rattle.planes.proofs.stroke.Statement.{statement}
 use Rattle.planes.proofs.stroke.Tie as tie
 
 abbrev Inv-loop : tie.InvT-loop
-Inv-loop buf₀ hold count causes delays period tripped w₀ x₀ left₀ fuel₀ buf w x left fuel = Kept count causes delays period tripped hold w₀ x₀ buf₀ w x buf left fuel
+Inv-loop buf₀ hold count causes delays period tripped timers₀ firsts₀ w₀ x₀ left₀ fuel₀ buf timers firsts w x left fuel =
+    Kept count causes delays period tripped hold w₀ (boardAt x₀ timers₀ firsts₀) buf₀ w (boardAt x timers firsts) buf left fuel
 
 abbrev μ-loop : tie.MeasureT-loop
-μ-loop buf₀ hold count causes delays period tripped w₀ x₀ left₀ fuel₀ buf w x left fuel = fuel
+μ-loop buf₀ hold count causes delays period tripped timers₀ firsts₀ w₀ x₀ left₀ fuel₀ buf timers firsts w x left fuel = fuel
 
 loop-holds : tie.Need-loop-holds Inv-loop μ-loop
 loop-holds c =
     let a = c .before .before in
-    rw (c .begin .ensures) (starts _ (a .pre .0) _ _ _ _ (a .pre .2) (a .pre .3) _ _ _ _ _ (a .pre .5) (omega (arith, a .good)) (a .pre .1) (a .pre .4) (omega arith))
+    let g = a .args in
+    rw (c .begin .ensures) (starts _ (a .pre .0) _ _ _ _ (a .pre .2) (a .pre .3) _ _ (boardAt (g .from) (now (g .timers)) (now (g .firsts))) _ _ (a .pre .5) (omega (arith, a .good)) (a .pre .1) (a .pre .4) (omega arith))
 
 sub-fuel : tie.Need-sub-fuel Inv-loop μ-loop
 sub-fuel c = omega (arith, c .before .loop .inv .going .fuelled (c .loop-test .taken))
 
 scan-requires : tie.Need-scan-requires Inv-loop μ-loop
 scan-requires c κs =
-    let a = c .before .before .before .before .before in
-    let h = c .before .before .loop .inv in
-    let v = c .before .loop-test .taken in
-    (a .pre .0, omega (arith, done-fits _ (a .pre .0) _ _ _ _ (a .pre .2) (a .pre .3) _ _ _ _ h, v), omega (arith, live-fits _ (a .pre .0) _ _ _ _ (a .pre .2) (a .pre .3) _ _ _ _ h, v), fits _ (a .pre .0) _ _ _ _ (a .pre .2) (a .pre .3) _ _ _ _ h v (a .pre .6))
-
-unset-requires : tie.Need-unset-requires Inv-loop μ-loop
-unset-requires c κs = search needs
-
-sub-rest : tie.Need-sub-rest Inv-loop μ-loop
-sub-rest c = search needs
+    let a = c .before .before .before .before .before .before .before in
+    let h = c .before .before .before .before .loop .inv in
+    let v = c .before .before .before .loop-test .taken in
+    (a .pre .0, omega (arith, done-fits _ (a .pre .0) _ _ _ _ (a .pre .2) (a .pre .3) _ _ _ _ h, v), omega (arith, live-fits _ (a .pre .0) _ _ _ _ (a .pre .2) (a .pre .3) _ _ _ _ h, v), h .settled, fits _ (a .pre .0) _ _ _ _ (a .pre .2) (a .pre .3) _ _ _ _ h v (a .pre .6))
 
 quiets-requires : tie.Need-quiets-requires Inv-loop μ-loop
 quiets-requires c κs =
-    let a = c .before .before .before .before .before .before .before .before .before .before in
-    (a .pre .0, a .pre .2)
+    let a = c .before .before .before .before .before .before .before .before .before .before .before .before .before in
+    let h = c .before .before .before .before .before .before .before .before .before .before .loop .inv in
+    (a .pre .0, omega (arith, live-fits _ (a .pre .0) _ _ _ _ (a .pre .2) (a .pre .3) _ _ _ _ h), a .pre .2, a .pre .3)
+
+-- the scans that are skipped are some of those left
+few : (c : tie.After-quiets Inv-loop μ-loop) → c .quiets .result ≤ c .before .before .before .before .before .before .before .before .before .before .before .loop .left - 1
+few c = quiets-few _ _ _ _ _ _ _ (c .quiets .ensures)
+
+timers-later-requires : tie.Need-timers-later-requires Inv-loop μ-loop
+timers-later-requires c κs =
+    let a = c .before .before .before .before .before .before .before .before .before .before .before .before .before .before .before in
+    let h = c .before .before .before .before .before .before .before .before .before .before .before .before .loop .inv in
+    (a .pre .0, omega (arith, few (c .before), live-fits _ (a .pre .0) _ _ _ _ (a .pre .2) (a .pre .3) _ _ _ _ h), a .pre .3, still-scanned _ _ _ _ _ _ _ _ _ _ (c .before .before .before .before .before .before .before .scan .ensures .0))
 
 later-requires : tie.Need-later-requires Inv-loop μ-loop
 unfolding scanned
 later-requires c κs =
-    let a = c .before .before .before .before .before .before .before .before .before .before .before in
-    let l = c .before .before .before .before .before .before .before .before .loop in
-    let y = c .before .before .before .before .before .scan in
-    let q = quiets-by-le (l .left - 1) (a .args .count) (a .args .period) (c .before .before .unset .result) (y .result .table) in
-    let e : y .result .done ≡ l .x .done + 1 = ap (λ (b : Board). b .done) (y .ensures .0) in
-    let v = c .before .before .before .before .before .before .before .loop-test .taken in (
-      a .pre .0,
-      omega (arith, c .quiets .ensures, q, live-fits _ (a .pre .0) _ _ _ _ (a .pre .2) (a .pre .3) _ _ _ _ (l .inv)),
-      a .pre .3,
-      omega (arith, c .quiets .ensures, q, e, v, done-fits _ (a .pre .0) _ _ _ _ (a .pre .2) (a .pre .3) _ _ _ _ (l .inv)),
-    )
+    let a = c .before .before .before .before .before .before .before .before .before .before .before .before .before .before .before .before in
+    let l = c .before .before .before .before .before .before .before .before .before .before .before .before .before .loop in
+    let e : c .before .before .before .before .before .before .before .before .scan .result .done ≡ l .x .done + 1 = ap (λ (b : Board). b .done) (c .before .before .before .before .before .before .before .before .scan .ensures .0) in
+    omega (arith, few (c .before .before), e, c .before .before .before .before .before .before .before .before .before .before .before .before .loop-test .taken, done-fits _ (a .pre .0) _ _ _ _ (a .pre .2) (a .pre .3) _ _ _ _ (l .inv))
 
 sub-left : tie.Need-sub-left Inv-loop μ-loop
-sub-left c =
-    let a = c .before .before .before .before .before .before .before .before .before .before .before .before in
-    let l = c .before .before .before .before .before .before .before .before .before .loop in
-    omega (arith, c .before .quiets .ensures, quiets-by-le (l .left - 1) (a .args .count) (a .args .period) (c .before .before .before .unset .result) (c .before .before .before .before .before .before .scan .result .table))
+sub-left c = omega (arith, few (c .before .before .before))
 
 loop-less : tie.Need-loop-less Inv-loop μ-loop
-loop-less c =
-    omega (arith, c .before .before .before .before .before .before .before .before .before .loop .inv .going .fuelled (c .before .before .before .before .before .before .before .before .loop-test .taken))
+loop-less c = omega (arith, c .before .before .before .before .before .before .before .before .before .before .before .before .before .before .loop .inv .going .fuelled (c .before .before .before .before .before .before .before .before .before .before .before .before .before .loop-test .taken))
 
 loop-again : tie.Need-loop-again Inv-loop μ-loop
 loop-again c =
-    let a = c .before .before .before .before .before .before .before .before .before .before .before .before in
-    let y = c .before .before .before .before .before .before .scan in
-    turned _ (a .pre .0) _ _ _ _ (a .pre .2) (a .pre .3) _ _ _ _ (c .before .before .before .before .before .before .before .before .before .loop .inv) (c .before .before .before .before .before .before .before .before .loop-test .taken)
-    (y .ensures .0) (y .ensures .1) (c .before .before .before .unset .ensures) (c .before .quiets .ensures) (c .later .ensures)
+    let a = c .before .before .before .before .before .before .before .before .before .before .before .before .before .before .before .before .before in
+    let y = c .before .before .before .before .before .before .before .before .before .scan in
+    turned _ (a .pre .0) _ _ _ _ (a .pre .2) (a .pre .3) _ _ _ _ (c .before .before .before .before .before .before .before .before .before .before .before .before .before .before .loop .inv) (c .before .before .before .before .before .before .before .before .before .before .before .before .before .loop-test .taken)
+    (y .ensures .0) (y .ensures .1) (c .before .before .before .before .before .before .unset .ensures) (c .before .before .before .quiets .ensures) (skipped-is _ _ _ _ _ _ _ _ (c .later .ensures) (c .before .timers-later .ensures))
 
 same-length : tie.Need-same-length Inv-loop μ-loop
 same-length c =
@@ -97,9 +95,10 @@ stroke-spec =
     loop-holds
     sub-fuel
     scan-requires
-    unset-requires
-    sub-rest
+    (λ c κs. search needs)
+    (λ c. search needs)
     quiets-requires
+    timers-later-requires
     later-requires
     sub-left
     loop-less

@@ -8,10 +8,10 @@ use Rattle.printing.proofs.fill.Statement.{statement}
 use Rattle.printing.proofs.fill.Tie as tie
 
 abbrev Inv-loop : tie.InvT-loop
-Inv-loop s st x width rows out₀ from t₀ at₀ out t at = Filling s st width t₀ from out₀ t at out
+Inv-loop s st x causes times width rows out₀ from t₀ at₀ out t at = Filling s st width t₀ from out₀ t at out
 
 abbrev μ-loop : tie.MeasureT-loop
-μ-loop s st x width rows out₀ from t₀ at₀ out t at = rows - t .rows
+μ-loop s st x causes times width rows out₀ from t₀ at₀ out t at = rows - t .rows
 
 loop-holds : tie.Need-loop-holds Inv-loop μ-loop
 loop-holds c =

@@ -15,10 +15,10 @@ use Rattle.printing.proofs.print_rows.Statement.{statement}
 use Rattle.printing.proofs.print_rows.Tie as tie
 
 abbrev Inv-loop : tie.InvT-loop
-Inv-loop s st x width rows out₀ at p₀ out p = (length out ≡ length out₀) × (p .at ≤ length out₀) × (p .full ≡ true → Going s st width (p .totals)) × (p .full ≡ false → p .number ≡ replay s .number)
+Inv-loop s st x causes times width rows out₀ at p₀ out p = (length out ≡ length out₀) × (p .at ≤ length out₀) × (p .full ≡ true → Going s st width (p .totals)) × (p .full ≡ false → p .number ≡ replay s .number)
 
 abbrev μ-loop : tie.MeasureT-loop
-μ-loop s st x width rows out₀ at p₀ out p = left s p
+μ-loop s st x causes times width rows out₀ at p₀ out p = left s p
 
 fill-requires : tie.Need-fill-requires Inv-loop μ-loop
 fill-requires c κs = c .before .before .before .pre .0

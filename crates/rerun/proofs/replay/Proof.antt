@@ -8,8 +8,8 @@ use Rattle.rerun.proofs.Files.{refused-replay}
 use Rattle.rerun.proofs.replay.Statement.{statement}
 use Rattle.rerun.proofs.replay.Tie as tie
 
-replay-rows-requires : tie.Need-replay-rows-requires
-replay-rows-requires c κs =
+replay-accepted-requires : tie.Need-replay-accepted-requires
+replay-accepted-requires c κs =
     let read = c .before .before .before .before .read .ensures in
     (sym (ap (λ (x : Reading). x .answer) read) ∙ c .before .answer .given .1, ap (λ (x : Reading). x .settings) read)
 
@@ -25,7 +25,7 @@ replay-spec =
     (tie.spec
     (λ c κs. search needs)
     (λ c. search needs)
-    replay-rows-requires
+    replay-accepted-requires
     (λ c. search needs)
     (λ c κs. search needs)
     (λ c. search needs)

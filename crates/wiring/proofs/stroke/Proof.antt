@@ -8,6 +8,7 @@ use lib.ListN.{length}
 use lib.Seq.{sets}
 use Rattle.effects.specs.Records.{bytes}
 use Rattle.rounds.specs.Steps.{Run}
+use Rattle.planes.specs.Board.{boardAt}
 use Rattle.settings.specs.Right.{limitsOf}
 use Rattle.settings.proofs.Right.{count-few, period-some, period-most, hold-most}
 use Rattle.wiring.proofs.Held.{count-of, period-of, right-words, stroked-is, held-is}
@@ -15,35 +16,36 @@ use Rattle.wiring.proofs.stroke.Statement.{statement}
 use Rattle.wiring.proofs.stroke.Tie as tie
 
 few : (s : tie.Start) → s .args .x .count ≤ 16
-few s = omega (arith, count-of (s .args .st) (s .args .x) (s .pre .1), count-few (s .args .st) (s .pre .0))
+few s = omega (arith, count-of (s .args .st) (s .args .x) (s .pre .1 .wiring), count-few (s .args .st) (s .pre .0))
 
 asked-by-requires : tie.Need-asked-by-requires
 asked-by-requires c κs = few (c .before .before)
 
 stroke-requires : tie.Need-stroke-requires
 stroke-requires c κs =
-    let s = c .before .before .before .before .before .before .before .before .before in
+    let s = c .before .before .before .before .before .before .before in
     let a = s .args in
-    let n = count-of (a .st) (a .x) (s .pre .1) in
-    let p = period-of (a .st) (a .x) (s .pre .1) in (
+    let n = count-of (a .st) (a .x) (s .pre .1 .wiring) in
+    let p = period-of (a .st) (a .x) (s .pre .1 .wiring) in (
       few s,
       hold-most (limitsOf (a .st)) (a .row) (s .pre .2),
       omega (arith, p, period-some (a .st) (s .pre .0)),
       omega (arith, p, period-most (a .st) (s .pre .0)),
       s .pre .3,
-      right-words (a .st) (s .pre .0) (a .row) (s .pre .2) (a .x) (s .pre .1) _ (c .before .before .before .before .before .before .asked-by .ensures) _ (c .tripped-causes .ensures) (a .from) (s .pre .4),
+      right-words (a .st) (s .pre .0) (a .row) (s .pre .2) (a .x) _ _ (s .pre .1) _ (c .before .before .before .before .asked-by .ensures) _ (c .before .before .tripped-causes .ensures) (boardAt (a .from) (now (a .timers)) (now (a .firsts))) (s .pre .4),
       omega (arith, n, s .pre .5),
     )
 
 returns : tie.Need-returns
 returns c =
-    let s = c .before .before .before .before .before .before .before .before .before .before .before .before .before .before .before .before .before .before in
+    let s = c .before .before .before .before .before .before .before .before .before .before .before .before .before .before .before in
     let a = s .args in
-    let asked = c .before .before .before .before .before .before .before .before .before .before .before .before .before .before .before .asked-by .ensures in
-    let tripped = c .before .before .before .before .before .before .before .before .before .tripped-causes .ensures in
-    let e = c .before .before .before .before .before .before .before .before .stroke .ensures in (
-      stroked-is (a .st) (s .pre .0) (a .row) (s .pre .2) (a .x) (s .pre .1) _ asked _ tripped (a .from) _ (e .0),
-      e .1 ∙ ap (λ (r : Run). sets (now (a .buf)) 0 (bytes (r .events))) (held-is (a .st) (s .pre .0) (a .row) (s .pre .2) (a .x) (s .pre .1) _ asked _ tripped (a .from)),
+    let from = boardAt (a .from) (now (a .timers)) (now (a .firsts)) in
+    let asked = c .before .before .before .before .before .before .before .before .before .before .before .before .asked-by .ensures in
+    let tripped = c .before .before .before .before .before .before .before .before .before .before .tripped-causes .ensures in
+    let e = c .before .before .before .before .before .before .before .stroke .ensures in (
+      stroked-is (a .st) (s .pre .0) (a .row) (s .pre .2) (a .x) _ _ (s .pre .1) _ asked _ tripped from _ (e .0),
+      e .1 ∙ ap (λ (r : Run). sets (now (a .buf)) 0 (bytes (r .events))) (held-is (a .st) (s .pre .0) (a .row) (s .pre .2) (a .x) _ _ (s .pre .1) _ asked _ tripped from),
     )
 
 pub stroke-spec : {M : Type 1} → statement M

@@ -1,5 +1,5 @@
--- The theorems that a user of the block needs, on one page. The contracts of `State::scan` and `State::held` give their whole
--- answers by the definitions `scanOf`, `scanInto`, `heldOf` and `heldInto`; here stands what those definitions come to.
+-- What is promised of the block, beside its contracts: those of `State::scan` and `State::held` give their whole answers by the
+-- definitions `scanOf`, `scanInto`, `heldOf` and `heldInto`, and here stands what those come to. `demands` cites these theorems.
 use mathlib.Core.Path.{_≡_, refl, ap, sym, _∙_}
 use mathlib.Core.List.{List}
 use Prim.Native.Nat.{ℕ, _+_, _*_, _≤_, _<_}

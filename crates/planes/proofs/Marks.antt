@@ -1,0 +1,78 @@
+-- A scan of a mark, with the timers and first-outs beside it, is the scan of the board that they make.
+use mathlib.Core.Path.{_≡_, ap, sym, subst, _∙_}
+use mathlib.Core.Bool.{cond, not}
+use mathlib.Core.List.{List, _++_}
+use Prim.Native.Nat.{ℕ, _+_, _-_, _*_, _/_, _%_, _^_, _≤_}
+use native.Mathlib.Nat.{mul-div-cancel, zero-lt-suc}
+use native.Mathlib.Omega.{arith}
+use lib.Dec.{eqb}
+use lib.ListN.{drop, getD, length}
+use Rattle.bits.specs.Lists.{tabulate}
+use Rattle.bits.specs.Words.{wordOf, one}
+use Rattle.planes.specs.declared.Asked.{Asked}
+use Rattle.planes.specs.declared.Board.{Board}
+use Rattle.planes.specs.declared.Mark.{Mark}
+use Rattle.planes.specs.declared.Planes.{Planes}
+use Rattle.planes.specs.declared.Table.{Table}
+use Rattle.planes.specs.Planes.{planesAfter, changedOf}
+use Rattle.planes.specs.Table.{dueAt, timerBy, firstBy, Still, Settled, tableAfter, tableLater, entriesTo}
+use Rattle.planes.specs.Board.{boardAt, entriesOf, scanned, later}
+use Rattle.planes.proofs.Rest.{none-due, settled-after}
+
+-- the records between two places
+twelfth : (a l : ℕ) → (a + 12 * l - a) / 12 ≡ l
+twelfth a l =
+    let e : a + 12 * l - a ≡ l * 12 = omega arith in
+    ap (λ (n : ℕ). n / 12) e ∙ mul-div-cancel l (zero-lt-suc 11)
+
+pub between : (p a l : ℕ) → p ≡ a + 12 * l → l ≤ 16 → (a ≤ p) × (p ≤ a + 192)
+between p a l e h = (omega arith, omega arith)
+
+abbrev table : Planes → List ℕ → List ℕ → Table
+table p t f = record { planes = p; timers = t; firsts = f }
+
+module _ (n : ℕ) (causes delays : List ℕ) (period tripped : ℕ) (w : Asked) (x : Mark) (timers firsts : List ℕ) (due : ℕ) (is : Planes) (timers′ firsts′ : List ℕ) (ch : ℕ)
+    (d : due ≡ cond (eqb (x .planes .delayed) 0) 0 (wordOf (dueAt timers period) n))
+    (p : is ≡ planesAfter w due (x .planes))
+    (t : timers′ ≡ tabulate (timerBy timers delays period (x .planes .delayed) (is .delayed)) n ++ drop n timers)
+    (f : firsts′ ≡ tabulate (firstBy firsts causes tripped (x .planes .normal) (is .normal)) n ++ drop n firsts)
+    (c : ch ≡ changedOf (x .planes) is) where
+  tables : table is timers′ firsts′ ≡ tableAfter n causes delays period tripped w (table (x .planes) timers firsts)
+  unfolding tableAfter
+  tables =
+      let q : is ≡ planesAfter w (wordOf (dueAt timers period) n) (x .planes) = p ∙ ap (λ (e : ℕ). planesAfter w e (x .planes)) d ∙ none-due w (x .planes) (wordOf (dueAt timers period) n) in
+      rw (t, f, q)
+
+  abbrev entries : List (List ℕ)
+  entries = entriesTo (x .next) (x .done + 1) ch (x .planes) is firsts′ 16
+
+  pub entries-are : entries ≡ entriesOf n causes delays period tripped w (boardAt x timers firsts)
+  entries-are = rw c (ap (λ (b : Table). entriesTo (x .next) (x .done + 1) (changedOf (x .planes) (b .planes)) (x .planes) (b .planes) (b .firsts) 16) tables)
+
+  pub scanned-is : (at q live : ℕ) → at ≡ x .at + 12 * length entries → q ≡ (x .next + (at - x .at) / 12) % 2 ^ 16 → live ≡ x .live + one (not (eqb ch 0))
+      → boardAt (record { done = x .done + 1; next = q; at = at; live = live; planes = is }) timers′ firsts′ ≡ scanned n causes delays period tripped w (boardAt x timers firsts)
+  unfolding scanned
+  scanned-is at q live a s l =
+      let e : q ≡ (x .next + length entries) % 2 ^ 16 = s ∙ ap (λ (m : ℕ). (x .next + (m - x .at) / 12) % 2 ^ 16) a ∙ ap (λ (m : ℕ). (x .next + m) % 2 ^ 16) (twelfth (x .at) (length entries)) in
+      let v : live ≡ x .live + one (not (eqb (changedOf (x .planes) is) 0)) = l ∙ ap (λ (m : ℕ). x .live + one (not (eqb m 0))) c in
+      λ j. record {
+        done = x .done + 1;
+        next = (e ∙ ap (λ (k : List (List ℕ)). (x .next + length k) % 2 ^ 16) entries-are) j;
+        at = (a ∙ ap (λ (k : List (List ℕ)). x .at + 12 * length k) entries-are) j;
+        live = (v ∙ ap (λ (b : Table). x .live + one (not (eqb (changedOf (x .planes) (b .planes)) 0))) tables) j;
+        table = tables j;
+      }
+
+-- after a scan the timers rest where they should
+pub still-scanned : (n : ℕ) (causes delays : List ℕ) (period tripped : ℕ) (w : Asked) (b : Board) (y : Mark) (timers firsts : List ℕ)
+    → boardAt y timers firsts ≡ scanned n causes delays period tripped w b → Still n (y .planes .delayed) timers
+unfolding scanned
+still-scanned n causes delays period tripped w b y timers firsts e =
+    subst (λ (t : Table). Settled n t) (sym (ap (λ (c : Board). c .table) e)) (settled-after n causes delays period tripped w (b .table)) .still
+
+-- scans that are not live
+pub skipped-is : (k n period : ℕ) (y z : Mark) (timers timers′ firsts : List ℕ)
+    → z ≡ (record { done = y .done + k; next = y .next; at = y .at; live = y .live; planes = y .planes }) → timers′ ≡ tabulate (λ i. getD timers i 0 - k * period) n ++ drop n timers
+    → boardAt z timers′ firsts ≡ later k n period (boardAt y timers firsts)
+unfolding later tableLater
+skipped-is k n period y z timers timers′ firsts e t = rw (e, t)

@@ -1,0 +1,92 @@
+-- Where a replay stops, by the holds alone: what a loop that only sums them has of each row.
+use mathlib.Core.Path.{_≡_, sym, ap, _∙_}
+use mathlib.Core.List.{List}
+use Prim.Native.Nat.{ℕ, _+_, _≤_, _<_}
+use native.Mathlib.Nat.{mul-suc, mul-zero}
+use native.Mathlib.Numerals.{add-one}
+use native.Mathlib.Omega.{arith}
+use borrow.Author.Tests.{leb-true}
+use lib.ListN.{length}
+use Rattle.settings.specs.declared.Row.{Row}
+use Rattle.settings.specs.Limits.{mostScans}
+use Rattle.settings.proofs.Refusals.{unless-none}
+use Rattle.block.specs.Scan.{scansNumber}
+use Rattle.recording.specs.declared.Answer.the-variants as A
+use Rattle.recording.specs.Answers.{number, rowCount, firstRow, rowWidth}
+use Rattle.recording.specs.Entries.{rowAt}
+use Rattle.recording.specs.Reader.{reading}
+use Rattle.recording.proofs.Theorems.{row-in-the-file}
+use Rattle.rerun.specs.declared.Stop.{Stop}
+use Rattle.rerun.specs.Replay.{Replay, Outcome, whole, joined, refusedAt, replay, firstRows, rowOf, rowPlace, rowRun}
+use Rattle.rerun.specs.Turn.{stopOf}
+use Rattle.rerun.proofs.Rows.{granted-none, granted-refused}
+use Rattle.rerun.proofs.Files.{no-rows, one-row-more, ends-at-refusal, all-the-rows, whole-so-far, done-next}
+
+-- in an accepted file with rows of this width: none of the first i was refused, their scans are done, and the next stands here
+pub record Reached (s : List ℕ) (width done place i : ℕ) : Type 0 where
+  pub accepted : number (reading s .answer) ≡ 0
+  pub wide : width ≡ rowWidth (reading s .answer)
+  pub none-refused : firstRows s i .number ≡ 0
+  pub scans : firstRows s i .replay .state .done ≡ done
+  pub here : place ≡ rowPlace s i
+
+pub begins : (s : List ℕ) (rows first width : ℕ) → reading s .answer ≡ A.Accepted rows first width → Reached s width 0 first 0
+begins s rows first width a =
+    record {
+      accepted = ap number a;
+      wide = sym (ap rowWidth a);
+      none-refused = ap (λ (o : Outcome). o .number) (no-rows s);
+      scans = ap (λ (o : Outcome). o .replay .state .done) (no-rows s);
+      here = omega (arith, ap firstRow a, mul-zero (rowWidth (reading s .answer)));
+    }
+
+module _ (s : List ℕ) (width done place i : ℕ) (g : Reached s width done place i) where
+  -- no row is left
+  pub ends : i ≡ rowCount (reading s .answer) → _≡_ {A = Stop} (record { number = 0; place = 0 }) (stopOf (replay s))
+  ends e = sym (ap stopOf (all-the-rows s (g .accepted) ∙ ap (firstRows s) (sym e) ∙ whole-so-far s i (g .none-refused)))
+
+  module _ (more : i < rowCount (reading s .answer)) where
+    pub row-there : place + 24 ≤ length s
+    row-there = rw (g .here) (row-in-the-file s i more .0)
+
+    pub next-place : place + width ≤ length s
+    next-place = omega (arith, row-there, g .wide, row-in-the-file s i more .2)
+
+    module _ (row : Row) (is : row ≡ rowAt s place) (v : ℕ) (number-is : v ≡ scansNumber done (row .hold)) where
+      row-is : row ≡ rowOf s i
+      row-is = is ∙ rw (g .here) (row-in-the-file s i more .1)
+
+      abbrev so-far : Replay
+      so-far = firstRows s i .replay
+
+      same-number : scansNumber (so-far .state .done) (rowOf s i .hold) ≡ v
+      same-number = (λ j. scansNumber (g .scans j) (sym row-is j .hold)) ∙ sym number-is
+
+      -- a refused row
+      pub stops : (v ≡ 0 → ⊥) → _≡_ {A = Stop} (record { number = v; place = place }) (stopOf (replay s))
+      stops h =
+          let next : firstRows s (i + 1) ≡ refusedAt (rowPlace s i) so-far v =
+          one-row-more s i more (g .none-refused)
+          ∙ granted-refused (whole (joined so-far (rowRun s i))) (refusedAt (rowPlace s i) so-far) _ (λ z. h (sym same-number ∙ z))
+          ∙ ap (refusedAt (rowPlace s i) so-far) same-number
+          in
+          let last = ends-at-refusal s (g .accepted) (i + 1) (λ z. h (sym (ap (λ (o : Outcome). o .number) next) ∙ z)) in
+          (λ j. record { number = v; place = g .here j }) ∙ sym (ap stopOf (last ∙ next))
+
+      -- a row that runs
+      module _ (z : v ≡ 0) where
+        pub few-scans : done + row .hold ≤ mostScans
+        few-scans = leb-true (done + row .hold) mostScans (unless-none _ 8 (sym number-is ∙ z))
+
+        pub goes-on : Reached s width (done + row .hold) (place + width) (i + 1)
+        goes-on =
+            let next : firstRows s (i + 1) ≡ whole (joined so-far (rowRun s i)) =
+            one-row-more s i more (g .none-refused) ∙ granted-none (whole (joined so-far (rowRun s i))) (refusedAt (rowPlace s i) so-far) _ (same-number ∙ z)
+            in
+            record {
+              accepted = g .accepted;
+              wide = g .wide;
+              none-refused = ap (λ (o : Outcome). o .number) next;
+              scans = ap (λ (o : Outcome). o .replay .state .done) next ∙ done-next s (g .accepted) i more (same-number ∙ z) ∙ (λ j. g .scans j + sym row-is j .hold);
+              here = rw add-one (omega (arith, g .here, g .wide, mul-suc (rowWidth (reading s .answer)) i));
+            }
