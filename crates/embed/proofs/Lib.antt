@@ -1,0 +1,5 @@
+pub mod Stores
+pub mod Answers
+pub mod Rows
+pub mod Theorems
+pub mod Session

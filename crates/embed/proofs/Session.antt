@@ -1,0 +1,71 @@
+-- Document 01's session as it crosses, computed to its bytes.
+use mathlib.Core.Path.{_≡_, refl, sym, ap, _∙_}
+use mathlib.Core.List.{List, [], _∷_}
+use Prim.Native.Nat.{ℕ, _*_, _≤_}
+use native.Mathlib.Omega.{arith}
+use lib.Count.{ones, onesIn}
+use lib.ListN.{length}
+use lib.Seq.{sets}
+use Rattle.effects.specs.Records.{encode, bytes}
+use Rattle.settings.specs.Right.{settingsNumber, wordsNumber, rowNumber}
+use Rattle.recording.specs.declared.Answer.{Answer}
+use Rattle.recording.specs.declared.Answer.the-variants as A
+use Rattle.recording.specs.Answers.{number}
+use Rattle.recording.specs.Entries.{effectAt, wordsAt, rowAt}
+use Rattle.recording.specs.Sections.{section}
+use Rattle.recording.specs.Reader.{reading}
+use Rattle.rerun.specs.Replay.{replay, answered}
+use Rattle.rerun.specs.Session.{session, lines}
+use Rattle.rerun.proofs.Session.{the-session}
+use Rattle.embed.specs.Crossing.{numbers, fitted, checked, checkNumber, checkInto, crossing, replayNumber, recordsInto, totalsInto}
+use Rattle.embed.specs.Session.{sessionRecords, sessionTotals, sessionAnswer}
+use Rattle.embed.proofs.Stores.{fits}
+use Rattle.embed.proofs.Answers.{crosses}
+use Rattle.embed.proofs.Theorems.{check-with-room, nothing-refused, no-place-for-ten}
+
+records-spelled : bytes lines ≡ sessionRecords
+unfolding encode
+records-spelled = refl
+
+totals-spelled : numbers (5 ∷ 2 ∷ 8 ∷ 3 ∷ 5 ∷ 0 ∷ 0 ∷ []) ≡ sessionTotals
+unfolding numbers
+totals-spelled = refl
+
+answer-spelled : numbers (checked (A.Accepted 2 22 24)) ≡ sessionAnswer
+unfolding numbers
+answer-spelled = refl
+
+answer-is : reading session .answer ≡ A.Accepted 2 22 24
+unfolding session ones onesIn settingsNumber wordsNumber rowNumber effectAt wordsAt rowAt section reading
+answer-is = refl
+
+pub the-session-is-checked : (answer : List ℕ) → 24 ≤ length answer → (checkNumber session (length answer) ≡ 0) × (checkInto session answer ≡ sets answer 0 sessionAnswer)
+the-session-is-checked answer room = (
+  check-with-room session (length answer) room ∙ ap number answer-is,
+  ap (λ (a : Answer). fitted (numbers (checked a)) answer) answer-is ∙ ap (λ (l : List ℕ). fitted l answer) answer-spelled ∙ sym (fits sessionAnswer answer room),
+)
+
+module _ (records totals : List ℕ) (room : 60 ≤ length records) (totals-room : 56 ≤ length totals) where
+  records-are : bytes (replay session .replay .events) ≡ sessionRecords
+  records-are = ap bytes (the-session .1) ∙ records-spelled
+
+  totals-are : numbers (crossing (answered (replay session))) ≡ sessionTotals
+  totals-are =
+      let o = the-session in
+      let place = no-place-for-ten session (o .0) in
+      (λ j. numbers (length (o .1 j) ∷ o .2 j ∷ o .3 j ∷ o .4 j ∷ o .5 j ∷ o .0 j ∷ place j ∷ [])) ∙ totals-spelled
+
+  pub the-session-crosses : (replayNumber session (length records) (length totals) ≡ 0)
+      × (recordsInto session (length totals) records ≡ sets records 0 sessionRecords)
+      × (totalsInto session (length records) totals ≡ sets totals 0 sessionTotals)
+  the-session-crosses =
+      let few : 12 * length (replay session .replay .events) ≤ length records = omega (arith, room, ap length (the-session .1)) in
+      let none = nothing-refused session (length records) (length totals) (the-session .0) few totals-room in
+      let all =
+      crosses session records totals (answered (replay session)) (sets records 0 sessionRecords) (fitted (numbers (crossing (answered (replay session)))) totals) none refl
+      (ap (sets records 0) (sym records-are)) refl
+      in (
+        none,
+        sym (all .1 .0),
+        sym (all .1 .1) ∙ ap (λ (l : List ℕ). fitted l totals) totals-are ∙ sym (fits sessionTotals totals totals-room),
+      )

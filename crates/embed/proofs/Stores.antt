@@ -1,0 +1,63 @@
+-- Runs of stores: numbers of 8 bytes one after the other, a piece that fits, and a part of a buffer that comes back.
+use mathlib.Core.Path.{_≡_, refl, sym, ap, _∙_}
+use mathlib.Core.List.{List, [], _∷_, _++_, append-assoc, append-nil}
+use Prim.Native.Nat.{ℕ, _+_, _*_, _-_, _≤_, _<_}
+use native.Mathlib.Nat.{zero-add}
+use native.Mathlib.Omega.{arith}
+use borrow.Author.Tests.{le-leb, lt-leb}
+use lib.ListN.{length, take, drop, length-append, length-drop, drop-of-length-le}
+use lib.Seq.{sets, sets-eq, take-all, drop-drop}
+use Rattle.bits.specs.Numbers.{digits}
+use Rattle.bits.proofs.Numbers.{sets-append, length-digits}
+use Rattle.embed.specs.Crossing.{numbers, fitted}
+
+-- ## Numbers of 8 bytes
+
+numbers-append : (us vs : List ℕ) → numbers (us ++ vs) ≡ numbers us ++ numbers vs
+unfolding numbers
+numbers-append [] vs = refl
+numbers-append (u ∷ us) vs = ap (λ (l : List ℕ). digits 8 u ++ l) (numbers-append us vs) ∙ sym (append-assoc (digits 8 u) (numbers us) (numbers vs))
+
+pub length-numbers : (vs : List ℕ) → length (numbers vs) ≡ 8 * length vs
+unfolding numbers
+length-numbers [] = refl
+length-numbers (v ∷ vs) = rw (length-append, length-digits) (omega (arith, length-numbers vs))
+
+pub one-number : (v : ℕ) → digits 8 v ≡ numbers (v ∷ [])
+unfolding numbers
+one-number v = refl
+
+-- numbers behind numbers
+pub numbers-then : (l l′ l″ : List ℕ) (at n : ℕ) (us vs : List ℕ) → l′ ≡ sets l at (numbers us) → l″ ≡ sets l′ n (numbers vs) → n ≡ at + 8 * length us → l″ ≡ sets l at (numbers (us ++ vs))
+numbers-then l l′ l″ at n us vs p q e =
+    q
+    ∙ (λ j. sets (p j) ((e ∙ ap (λ (k : ℕ). at + k) (sym (length-numbers us))) j) (numbers vs))
+    ∙ sym (sets-append l at (numbers us) (numbers vs))
+    ∙ ap (sets l at) (sym (numbers-append us vs))
+
+-- ## A piece that fits, and one that does not
+
+pub fits : (piece out : List ℕ) → length piece ≤ length out → sets out 0 piece ≡ fitted piece out
+fits piece out h = rw (le-leb (length piece) (length out) h)
+
+pub stays : (piece out : List ℕ) → length out < length piece → out ≡ fitted piece out
+stays piece out h = rw (lt-leb (length piece) (length out) h)
+
+-- ## A part of a buffer, from a place to the end
+
+-- what is stored at the front of the part is stored at the place
+pub part-back : (vs out : List ℕ) (at : ℕ) → at + length vs ≤ length out
+    → take at out ++ (sets (take (length out - at) (drop at out)) 0 vs ++ drop (length out - at) (drop at out)) ≡ sets out at vs
+part-back vs out at h =
+    let rest = drop at out in
+    let k = length out - at in
+    let n : length rest ≡ k = length-drop at out in
+    let all : take k rest ≡ rest = take-all k rest (omega (arith, n)) in
+    let none : drop k rest ≡ [] = drop-of-length-le rest {i = k} (omega (arith, n)) in
+    let there : sets rest 0 vs ≡ vs ++ drop (at + length vs) out =
+    sets-eq vs rest 0 (omega (arith, n, h)) ∙ ap (λ (m : ℕ). vs ++ drop m rest) (zero-add (length vs)) ∙ ap (λ (l : List ℕ). vs ++ l) (drop-drop (length vs) at out)
+    in
+    (λ j. take at out ++ (sets (all j) 0 vs ++ none j))
+    ∙ ap (λ (l : List ℕ). take at out ++ l) (append-nil (sets rest 0 vs) ∙ there)
+    ∙ sym (append-assoc (take at out) vs (drop (at + length vs) out))
+    ∙ sym (sets-eq vs out at h)

@@ -1,0 +1,69 @@
+-- What crosses to a caller of the library, and when. The numbers 1 to 7, 9 and 10 are document 01's, "Refusal numbers", and
+-- 10 comes last. A refusal gives its number, its place and zeros, and no record. Records are as in "The rules of one scan".
+use Prim.Native.Nat.{ℕ}
+use mathlib.Core.Bool.{cond}
+use mathlib.Core.List.{List, [], _∷_, _++_}
+use lib.Dec.{leb}
+use lib.ListN.{length}
+use lib.Seq.{sets}
+use Rattle.bits.specs.Numbers.{digits}
+use Rattle.effects.specs.Records.{bytes}
+use Rattle.settings.specs.Refusals.{unless, orElse}
+use Rattle.block.specs.Scan.{roomNumber, granted}
+use Rattle.recording.specs.declared.Answer.{Answer}
+use Rattle.recording.specs.Answers.{number, place, rowCount}
+use Rattle.recording.specs.Reader.{reading}
+use Rattle.rerun.specs.declared.Replayed.{Replayed}
+use Rattle.rerun.specs.Replay.{replay, answered}
+
+-- every number that crosses is 8 bytes, big-endian
+unfoldable pub numbers : List ℕ → List ℕ
+numbers [] = []
+numbers (v ∷ vs) = digits 8 v ++ numbers vs
+
+-- 10: room below the piece written
+abbrev pub pieceNumber : (size room : ℕ) → ℕ
+pieceNumber size room = unless (leb size room) 10
+
+-- a piece at the front of the lent bytes, if it fits; else they stay as they were
+abbrev pub fitted : List ℕ → List ℕ → List ℕ
+fitted piece out = cond (leb (length piece) (length out)) (sets out 0 piece) out
+
+-- ## A check: what the reader answers
+
+-- number, place, rows
+abbrev pub checked : Answer → List ℕ
+checked answer = number answer ∷ place answer ∷ rowCount answer ∷ []
+
+abbrev pub checkNumber : List ℕ → (room : ℕ) → ℕ
+checkNumber s room = orElse (number (reading s .answer)) (pieceNumber 24 room)
+
+abbrev pub checkInto : List ℕ → List ℕ → List ℕ
+checkInto s out = fitted (numbers (checked (reading s .answer))) out
+
+-- ## A replay, from a fresh state
+
+-- records, rows, scans, live, exercised, number, place
+abbrev pub crossing : Replayed → List ℕ
+crossing r = r .records ∷ r .rows ∷ r .scans ∷ r .live ∷ r .exercised ∷ r .number ∷ r .place ∷ []
+
+-- a refusal: zeros, its number and place
+abbrev pub refusal : (place number : ℕ) → Replayed
+refusal place number = record { number = number; place = place; records = 0; rows = 0; scans = 0; live = 0; exercised = 0 }
+
+-- the reader's number or 9; else 10 if the records due or the totals do not fit
+abbrev pub replayNumber : List ℕ → (room totalsRoom : ℕ) → ℕ
+replayNumber s room totalsRoom =
+    orElse (replay s .number) (orElse (roomNumber (length (replay s .replay .events)) room) (pieceNumber 56 totalsRoom))
+
+-- on 0 all records, and on any other number nothing
+abbrev pub recordsInto : List ℕ → (totalsRoom : ℕ) → List ℕ → List ℕ
+recordsInto s totalsRoom out =
+    granted (replayNumber s (length out) totalsRoom) (sets out 0 (bytes (replay s .replay .events))) (λ n. out)
+
+-- on 0 the totals, whose number and place are 0 then; else the refusal. Its place is the replay's: 0 for 10
+abbrev pub totalsOrRefusal : List ℕ → (room totalsRoom : ℕ) → Replayed
+totalsOrRefusal s room totalsRoom = granted (replayNumber s room totalsRoom) (answered (replay s)) (refusal (replay s .place))
+
+abbrev pub totalsInto : List ℕ → (room : ℕ) → List ℕ → List ℕ
+totalsInto s room out = fitted (numbers (crossing (totalsOrRefusal s room (length out)))) out
