@@ -1,0 +1,75 @@
+/*
+ * The simplest replay: every scan by the rules of document 01, with no skipping and no thought of speed. It answers as
+ * include/pohandira.h says. bench/against_c compares with it, and shows what a long hold would cost.
+ */
+#include "recording.h"
+
+struct effect {
+    uint32_t state, timer, first_out;
+};
+
+/* One effect in one scan (document 01, "The rules of one scan"). */
+static struct effect effect_after(struct effect e, const struct recording *r, const struct row *row, uint32_t i) {
+    uint32_t active = r->association[i] & ~row->mask & ~row->values;
+    int require = row->require_reset >> i & 1, permit = row->reset_permit >> i & 1, start = row->start_permit >> i & 1;
+    int reset = row->reset >> i & 1, forces = row->force_permit == 1 || (r->options & PERMIT_NOT_REQUIRED);
+    struct effect after = e;
+    if (forces && (row->force_trip >> i & 1)) {
+        after.state = TRIPPED;
+    } else if (forces && (row->force_normal >> i & 1)) {
+        after.state = NORMAL;
+    } else if ((r->options & TRIP_IF_BAD) && row->bad) {
+        after.state = TRIPPED;
+    } else if (e.state == DELAYED) {
+        after.state = e.timer <= r->period ? TRIPPED : DELAYED;
+        after.timer = e.timer - r->period;
+    } else if (e.state == NORMAL) {
+        if (active) after.state = r->delay[i] ? DELAYED : TRIPPED;
+        after.timer = r->delay[i];
+    } else if (active) {
+        after.state = TRIPPED;
+    } else if (e.state == WAIT_START || (e.state == TRIPPED && !require) || (e.state == READY && permit && reset)) {
+        after.state = start ? NORMAL : WAIT_START;
+    } else {
+        after.state = permit ? READY : WAIT_RESET;
+    }
+    if (after.state != DELAYED) after.timer = 0;
+    if (e.state == NORMAL) after.first_out = active;
+    if (after.state == NORMAL) after.first_out = 0;
+    return after;
+}
+
+static struct totals step_all(const struct recording *r, uint8_t *records, int writing) {
+    struct effect effects[MOST_EFFECTS] = {{TRIPPED, 0, 0}};
+    struct totals t = {0, 0, 0, 0};
+    for (uint32_t n = 0; n < r->row_count; n++) {
+        struct row row = row_at(r->rows + (size_t)ROW_BYTES * n);
+        uint32_t any_active = 0;
+        for (uint32_t i = 0; i < r->effect_count; i++) any_active |= r->association[i] & ~row.mask & ~row.values;
+        if (any_active) t.exercised += row.hold;
+        for (uint32_t left = row.hold; left > 0; left--) {
+            uint64_t records_before = t.records;
+            t.scans++;
+            for (uint32_t i = 0; i < r->effect_count; i++) {
+                struct effect e = effects[i];
+                effects[i] = effect_after(e, r, &row, i);
+                if (effects[i].state == e.state) continue;
+                if (writing)
+                    put_record(records + RECORD_BYTES * t.records, t.records, (uint32_t)t.scans, i + 1, e.state,
+                               effects[i].state, effects[i].first_out);
+                t.records++;
+            }
+            if (t.records > records_before) t.live++;
+            row.reset = 0;
+        }
+    }
+    return t;
+}
+
+static struct totals run_writing(const struct recording *r, uint8_t *records) { return step_all(r, records, 1); }
+static struct totals run_counting(const struct recording *r, uint8_t *records) { return step_all(r, records, 0); }
+
+uint8_t stepping_replay(const uint8_t *recording, size_t length, uint8_t *records, size_t records_room, uint8_t *totals,
+                        size_t totals_room) {
+    return replay_by(run_writing, run_counting, recording, length, records, records_room, totals, totals_room);
+}

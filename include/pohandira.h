@@ -1,0 +1,140 @@
+/*
+ * Replays recordings of shutdown logic, for C99 and C++. Both functions are proved; "document 01" is the project's
+ * requirements. The static library is target/staticlib/libembed.a (`rt staticlib embed`), for x86-64 Linux.
+ *
+ * What is asked of the caller, and nothing else: no pointer is null, even where its length is 0; the bytes that a pointer and
+ * its length name can be read, or written for an output; and no two of the buffers overlap. Any bytes at all get an answer.
+ * Nothing is kept between calls and nothing is allocated, so several threads may call at once, each with outputs of its own.
+ *
+ * Every number that crosses is 8 bytes, big-endian; an event record is 12 bytes, big-endian. The readers below take both apart.
+ * Bytes of an output past what a function says that it writes stay as they were.
+ */
+#ifndef POHANDIRA_H
+#define POHANDIRA_H
+
+#include <stddef.h>
+#include <stdint.h>
+
+#ifdef __cplusplus
+extern "C" {
+#endif
+
+/* ---- Sizes, in bytes ---- */
+
+#define POHANDIRA_CHECK_BYTES 24        /* the answer of pohandira_check: 3 numbers */
+#define POHANDIRA_TOTALS_BYTES 56       /* the totals of pohandira_replay: 7 numbers */
+#define POHANDIRA_RECORD_BYTES 12       /* one event record */
+#define POHANDIRA_ROW_RECORDS_BYTES 384 /* room for the records of one row, always enough: two for each of 16 effects */
+#define POHANDIRA_MOST_ROWS 2048        /* rows of the largest recording */
+#define POHANDIRA_MOST_BYTES 49258      /* bytes of the largest recording */
+
+/* ---- Refusals (document 01, "Refusal numbers") ---- */
+
+/*
+ * The first that applies is given, in this order: 1 to 6 as the file is read, section by section and entry by entry (the bytes
+ * of a count, the count, then for each entry its bytes, its fields, 5, 6); then 7, then 9, then 10. The place is counted in
+ * bytes from the start of the recording.
+ */
+enum {
+    POHANDIRA_ACCEPTED = 0,
+    POHANDIRA_TOO_SHORT = 1,      /* bytes end before a count or an entry does; the place is the length */
+    POHANDIRA_BLOCK_WRONG = 2,    /* block section wrong; the place of 2 to 6 is the first byte of the count or entry */
+    POHANDIRA_EFFECTS_WRONG = 3,  /* effects section wrong */
+    POHANDIRA_ROW_WRONG = 4,      /* row count, hold or a row word wrong */
+    POHANDIRA_BOTH_FORCES = 5,    /* one effect in both force words */
+    POHANDIRA_SEVERAL_FORCED = 6, /* several forced without option bit 2 */
+    POHANDIRA_SPARE_BYTES = 7,    /* bytes left over; the place is the first of them */
+    /* 8, a state that breaks the rules, can't be met here: every replay starts from a fresh state. */
+    POHANDIRA_TOO_MANY_SCANS = 9, /* more than 1,000,000,000 scans; the place is the first byte of the row that passes them */
+    POHANDIRA_NO_ROOM = 10        /* an output is too small; the place is 0 */
+};
+
+/* ---- The functions ---- */
+
+/* The numbers of a check's answer. */
+enum { POHANDIRA_CHECK_NUMBER, POHANDIRA_CHECK_PLACE, POHANDIRA_CHECK_ROWS };
+
+/*
+ * Reads a recording and replays nothing. The result is 0 or the refusal's number: 1 to 7, else 10 if answer_room is below
+ * POHANDIRA_CHECK_BYTES. With less room nothing is written. Otherwise POHANDIRA_CHECK_BYTES bytes are: the number, the place and
+ * how many rows there are; the place is 0 where the number is 0, and the rows are 0 where it is not.
+ */
+uint8_t pohandira_check(const uint8_t *recording, size_t length, uint8_t *answer, size_t answer_room);
+
+/* The numbers of a replay's totals. */
+enum {
+    POHANDIRA_RECORDS,   /* event records written */
+    POHANDIRA_ROWS,      /* rows of the recording */
+    POHANDIRA_SCANS,     /* scans of all rows */
+    POHANDIRA_LIVE,      /* scans in which some effect changed its state */
+    POHANDIRA_EXERCISED, /* scans of rows in which some effect had an active cause */
+    POHANDIRA_NUMBER,    /* 0, or the refusal's number */
+    POHANDIRA_PLACE      /* the refusal's place, else 0 */
+};
+
+/*
+ * Replays a whole recording from a fresh state. The result is 0 or the refusal's number: 1 to 7, else 9, else 10 if records_room
+ * is below POHANDIRA_RECORD_BYTES times the records due or totals_room below POHANDIRA_TOTALS_BYTES.
+ *
+ * On 0 the records stand at the start of `records`, by scan and then by effect. On a refusal no byte of `records` is touched.
+ * With too little room for the totals no byte of `totals` is touched. Otherwise POHANDIRA_TOTALS_BYTES bytes of them are written;
+ * on a refusal the first five numbers are 0.
+ *
+ * A room of POHANDIRA_ROW_RECORDS_BYTES for each row is always enough, and so is one of 24 bytes for each row and effect. With
+ * that much the rows are run once; with less, even if it is enough, they are run once more before, to count the records.
+ */
+uint8_t pohandira_replay(const uint8_t *recording, size_t length, uint8_t *records, size_t records_room, uint8_t *totals,
+                         size_t totals_room);
+
+/* ---- Readers ---- */
+
+/* An effect's state, in a record. */
+enum {
+    POHANDIRA_TRIPPED = 0,
+    POHANDIRA_WAIT_RESET = 1,
+    POHANDIRA_READY = 2,
+    POHANDIRA_WAIT_START = 3,
+    POHANDIRA_NORMAL = 4,
+    POHANDIRA_DELAYED = 5
+};
+
+/* One change of one effect's state (document 01, "The rules of one scan"). */
+struct pohandira_event {
+    uint16_t sequence;  /* from 0; after 65,535 comes 0 */
+    uint32_t scan;      /* the first is 1 */
+    uint8_t effect;     /* the first is 1 */
+    uint8_t before;     /* the states */
+    uint8_t after;
+    uint16_t first_out; /* the causes that took it out of Normal; bit 0 is cause 1 */
+};
+
+/* The number of `size` bytes at `bytes`, big-endian. */
+static inline uint64_t pohandira_number(const uint8_t *bytes, size_t size) {
+    uint64_t number = 0;
+    for (size_t i = 0; i < size; i++) number = number << 8 | bytes[i];
+    return number;
+}
+
+/* Number `field` of an answer or of totals, as POHANDIRA_CHECK_ROWS or POHANDIRA_LIVE. */
+static inline uint64_t pohandira_field(const uint8_t *numbers, size_t field) {
+    return pohandira_number(numbers + 8 * field, 8);
+}
+
+/* Record `index` of a replay, from 0; it must be below the field POHANDIRA_RECORDS. */
+static inline struct pohandira_event pohandira_event_at(const uint8_t *records, size_t index) {
+    const uint8_t *record = records + POHANDIRA_RECORD_BYTES * index;
+    struct pohandira_event event;
+    event.sequence = (uint16_t)pohandira_number(record, 2);
+    event.scan = (uint32_t)pohandira_number(record + 2, 4);
+    event.effect = record[6];
+    event.before = record[7];
+    event.after = record[8];
+    event.first_out = (uint16_t)pohandira_number(record + 10, 2);
+    return event;
+}
+
+#ifdef __cplusplus
+}
+#endif
+
+#endif

@@ -1,0 +1,364 @@
+/*
+ * The static library called from outside, through include/pohandira.h alone. tests/embed builds and runs it.
+ *
+ *     embed checks            cases whose answers were worked out by hand from document 01
+ *     embed list < CASES      the listing of each recording in a stream of cases, as `second answer replay` prints it
+ *
+ * In both, every byte of every lent buffer is compared, and so are the bytes before and after it: what a call doesn't say
+ * that it writes has to stay as it was. Exit status 1 if anything is wrong, which is said.
+ */
+#include "pohandira.h"
+#include <stdint.h>
+#include <stdio.h>
+#include <stdlib.h>
+#include <string.h>
+
+static int failures;
+static const char *at_hand = ""; /* the case that is tried */
+
+static void fail(const char *what) {
+    fprintf(stderr, "embed: FAILED: %s: %s\n", at_hand, what);
+    failures++;
+}
+
+static uint8_t *allocated(size_t size) {
+    uint8_t *bytes = malloc(size);
+    if (bytes) return bytes;
+    fprintf(stderr, "embed: no memory\n");
+    exit(2);
+}
+
+/* ---- Lent buffers ---- */
+
+enum { MARGIN = 101 }; /* odd, so that no buffer is aligned */
+
+static uint8_t untouched(size_t i) { return (uint8_t)(7 * i + 3); }
+
+/* A buffer of `room` bytes with a margin on either side, filled with a pattern. */
+static uint8_t *lend(size_t room) {
+    uint8_t *all = allocated(room + 2 * MARGIN);
+    for (size_t i = 0; i < room + 2 * MARGIN; i++) all[i] = untouched(i);
+    return all + MARGIN;
+}
+
+/* Whether a lent buffer begins with these bytes and is otherwise as it was lent; it is given back. */
+static int holds(uint8_t *buffer, size_t room, const uint8_t *bytes, size_t size) {
+    const uint8_t *all = buffer - MARGIN;
+    int right = size <= room;
+    for (size_t i = 0; i < room + 2 * MARGIN; i++) {
+        int inside = i >= MARGIN && i - MARGIN < size;
+        if (all[i] != (inside ? bytes[i - MARGIN] : untouched(i))) right = 0;
+    }
+    free(buffer - MARGIN);
+    return right;
+}
+
+static void put_number(uint8_t *bytes, size_t size, uint64_t number) {
+    while (size--) bytes[size] = (uint8_t)number, number >>= 8;
+}
+
+/* ---- Calls, compared to the byte ---- */
+
+struct file {
+    const uint8_t *bytes;
+    size_t length;
+};
+
+/* What a replay has to answer. On a refusal, with number and place alone, all else is 0. */
+struct answer {
+    uint64_t totals[7];
+    const uint8_t *records;
+};
+
+static struct answer refused(uint64_t number, uint64_t place) {
+    struct answer answer = {{0, 0, 0, 0, 0, number, place}, NULL};
+    return answer;
+}
+
+static void check_as(const char *name, struct file file, size_t room, uint64_t number, uint64_t place, uint64_t rows) {
+    uint8_t *given = lend(file.length), *answer = lend(room), expected[POHANDIRA_CHECK_BYTES];
+    at_hand = name;
+    memcpy(given, file.bytes, file.length);
+    put_number(expected, 8, number), put_number(expected + 8, 8, place), put_number(expected + 16, 8, rows);
+    unsigned result = pohandira_check(given, file.length, answer, room);
+    if (result != number) fail("the result of the check");
+    if (!holds(answer, room, expected, room < POHANDIRA_CHECK_BYTES ? 0 : POHANDIRA_CHECK_BYTES)) fail("the check's answer");
+    if (!holds(given, file.length, file.bytes, file.length)) fail("the check changed the recording");
+}
+
+static void replay_as(const char *name, struct file file, size_t records_room, size_t totals_room, struct answer answer) {
+    uint8_t *given = lend(file.length), *records = lend(records_room), *totals = lend(totals_room);
+    uint8_t expected[POHANDIRA_TOTALS_BYTES];
+    at_hand = name;
+    memcpy(given, file.bytes, file.length);
+    for (size_t i = 0; i < 7; i++) put_number(expected + 8 * i, 8, answer.totals[i]);
+    unsigned result = pohandira_replay(given, file.length, records, records_room, totals, totals_room);
+    if (result != answer.totals[POHANDIRA_NUMBER]) fail("the result of the replay");
+    if (!holds(records, records_room, answer.records, POHANDIRA_RECORD_BYTES * answer.totals[POHANDIRA_RECORDS]))
+        fail("the records");
+    if (!holds(totals, totals_room, expected, totals_room < POHANDIRA_TOTALS_BYTES ? 0 : POHANDIRA_TOTALS_BYTES))
+        fail("the totals");
+    if (!holds(given, file.length, file.bytes, file.length)) fail("the replay changed the recording");
+}
+
+/* ---- Cases by hand ---- */
+
+static const uint8_t session_bytes[] = { /* document 01, "One session, whole" */
+    0x00, 0x01, 0x02, 0x00, 0x00, 0x64,                                     /* 0: the block */
+    0x00, 0x02,                                                             /* 6: two effects */
+    0x00, 0x01, 0x00, 0x00, 0x00, 0x00, 0x00, 0x03, 0x00, 0x00, 0x00, 0xfa, /* 8 and 14 */
+    0x00, 0x02,                                                             /* 20: two rows, at 22 and 46 */
+    0x00, 0x00, 0x00, 0x03, 0x00, 0x03, 0x00, 0x00, 0x00, 0x00, 0x00, 0x00, 0x00, 0x03, 0x00, 0x03, 0x00, 0x00, 0x00, 0x00,
+    0x00, 0x00, 0x00, 0x00, 0x00, 0x00, 0x00, 0x05, 0x00, 0x02, 0x00, 0x00, 0x00, 0x00, 0x00, 0x00, 0x00, 0x03, 0x00, 0x03,
+    0x00, 0x00, 0x00, 0x00, 0x00, 0x00, 0x00, 0x00,
+};
+static const uint8_t session_records[] = { /* sequence 2, scan 4, effect, before, after, zero, first-out 2 */
+    0, 0, 0, 0, 0, 1, 1, POHANDIRA_TRIPPED, POHANDIRA_NORMAL,  0, 0, 0, /* 0 1 1 tripped normal 0 */
+    0, 1, 0, 0, 0, 1, 2, POHANDIRA_TRIPPED, POHANDIRA_NORMAL,  0, 0, 0, /* 1 1 2 tripped normal 0 */
+    0, 2, 0, 0, 0, 4, 1, POHANDIRA_NORMAL,  POHANDIRA_TRIPPED, 0, 0, 1, /* 2 4 1 normal tripped 1 */
+    0, 3, 0, 0, 0, 4, 2, POHANDIRA_NORMAL,  POHANDIRA_DELAYED, 0, 0, 1, /* 3 4 2 normal delayed 1 */
+    0, 4, 0, 0, 0, 7, 2, POHANDIRA_DELAYED, POHANDIRA_TRIPPED, 0, 0, 1, /* 4 7 2 delayed tripped 1 */
+};
+static const struct file session = {session_bytes, sizeof session_bytes};
+static const struct answer session_answer = {{5, 2, 8, 3, 5, 0, 0}, session_records};
+
+/* Room for the session's records: just enough, about the 24 bytes for each effect and row, and ample. */
+static void try_session(void) {
+    static const size_t rooms[] = {60, 61, 72, 95, 96, 97, 2 * POHANDIRA_ROW_RECORDS_BYTES};
+    static const size_t little[] = {0, 1, 11, 48, 59};
+    for (size_t i = 0; i < sizeof rooms / sizeof rooms[0]; i++)
+        replay_as("session", session, rooms[i], POHANDIRA_TOTALS_BYTES, session_answer);
+    replay_as("session, more room for totals", session, 96, 90, session_answer);
+    for (size_t i = 0; i < sizeof little / sizeof little[0]; i++)
+        replay_as("session, too little room for records", session, little[i], POHANDIRA_TOTALS_BYTES, refused(10, 0));
+    replay_as("session, one byte too little for totals", session, 96, 55, refused(10, 0));
+    replay_as("session, no room at all", session, 0, 0, refused(10, 0));
+    check_as("session", session, 24, 0, 0, 2);
+    check_as("session, more room", session, 40, 0, 0, 2);
+    check_as("session, room 23", session, 23, 10, 0, 0);
+    check_as("session, no room", session, 0, 10, 0, 0);
+}
+
+/* A file that the reader refuses, with rooms from none to ample: the reader's number comes first, and 10 never. */
+static void try_refused(const char *name, struct file file, uint64_t number, uint64_t place) {
+    static const size_t rooms[] = {0, 23, 24, 55, 56, 800};
+    for (size_t i = 0; i < 6; i++) {
+        check_as(name, file, rooms[i], number, place, 0);
+        for (size_t k = 0; k < 6; k++) replay_as(name, file, rooms[i], rooms[k], refused(number, place));
+    }
+}
+
+/* The session with one byte changed. */
+static void try_changed(const char *name, size_t at, uint8_t byte, uint64_t number, uint64_t place) {
+    uint8_t bytes[sizeof session_bytes];
+    struct file file = {bytes, sizeof bytes};
+    memcpy(bytes, session_bytes, sizeof bytes);
+    bytes[at] = byte;
+    try_refused(name, file, number, place);
+}
+
+static void try_refusals(void) {
+    uint8_t longer[sizeof session_bytes + 2] = {0};
+    memcpy(longer, session_bytes, sizeof session_bytes);
+    try_refused("empty file", (struct file){longer, 0}, 1, 0);
+    try_refused("one byte", (struct file){longer, 1}, 1, 1);
+    try_refused("69 bytes", (struct file){longer, 69}, 1, 69);
+    try_refused("46 bytes", (struct file){longer, 46}, 1, 46);
+    try_refused("71 bytes", (struct file){longer, 71}, 7, 70);
+    try_refused("72 bytes", (struct file){longer, 72}, 7, 70);
+    try_changed("block count 2", 1, 2, 2, 0);
+    try_changed("no cause", 2, 0, 2, 2);
+    try_changed("option bit 3", 3, 8, 2, 2);
+    try_changed("17 effects", 7, 17, 3, 6);
+    try_changed("association with a cause that is not there", 15, 4, 3, 14);
+    try_changed("no row", 21, 0, 4, 20);
+    try_changed("hold 0", 25, 0, 4, 22);
+    try_changed("a value of a cause that is not there", 51, 4, 4, 46);
+    try_changed("force permit 2", 65, 2, 4, 46);
+    try_changed("two forced to trip", 67, 3, 6, 46);
+    longer[43] = longer[45] = 1; /* row 1, force trip and force normal */
+    try_refused("one effect in both force words", (struct file){longer, 70}, 5, 22);
+    longer[43] = 3;
+    try_refused("one effect in both force words, and several forced", (struct file){longer, 70}, 5, 22);
+}
+
+/* The session with option bit 0, and in row 2 no cause tripped but cause 2 Bad, and masked: both effects trip, with first-out 0. */
+static void try_bad(void) {
+    uint8_t bytes[sizeof session_bytes], records[48];
+    memcpy(bytes, session_bytes, sizeof bytes);
+    memcpy(records, session_records, sizeof records);
+    bytes[3] = 1, bytes[51] = 3, bytes[53] = bytes[55] = 2;
+    records[35] = records[47] = 0;
+    records[44] = POHANDIRA_TRIPPED;
+    replay_as("a masked cause is Bad", (struct file){bytes, sizeof bytes}, 96, 56,
+              (struct answer){{4, 2, 8, 2, 0, 0, 0}, records});
+}
+
+/* One cause, `effects` effects with one delay, period 100, both permits; rows by turns with the cause normal and `other`. */
+static struct file turns(uint8_t *bytes, unsigned effects, unsigned delay, unsigned rows, unsigned hold, unsigned other) {
+    unsigned every = (1u << effects) - 1;
+    uint8_t *p = bytes;
+    put_number(p, 8, (uint64_t)1 << 48 | (uint64_t)1 << 40 | 100u << 16 | effects), p += 8;
+    for (unsigned i = 0; i < effects; i++, p += 6) put_number(p, 6, (uint64_t)1 << 32 | delay);
+    put_number(p, 2, rows), p += 2;
+    for (unsigned i = 0; i < rows; i++, p += 24) {
+        memset(p, 0, 24);
+        put_number(p, 4, hold), put_number(p + 4, 2, i % 2 ? other : 1);
+        put_number(p + 12, 2, every), put_number(p + 14, 2, every);
+    }
+    return (struct file){bytes, (size_t)(p - bytes)};
+}
+
+/* 1,000 rows of 1,000,000 scans are just accepted; one more is refused at its first byte, whatever the room. */
+static void try_scans(uint8_t *bytes) {
+    static const uint8_t record[] = {0, 0, 0, 0, 0, 1, 1, POHANDIRA_TRIPPED, POHANDIRA_NORMAL, 0, 0, 0};
+    struct file file = turns(bytes, 1, 0, 1000, 1000000, 1);
+    replay_as("all scans", file, 24000, 56, (struct answer){{1, 1000, 1000000000, 1, 0, 0, 0}, record});
+    file = turns(bytes, 1, 0, 1001, 1000000, 1);
+    replay_as("too many scans", file, 1001 * 384, 56, refused(9, 24016));
+    replay_as("too many scans, no room for records", file, 0, 56, refused(9, 24016));
+    replay_as("too many scans, no room for totals", file, 24024, 55, refused(9, 24016));
+    check_as("too many scans, which the reader accepts", file, 24, 0, 0, 1001);
+    file = turns(bytes, 1, 0, 2048, 1000000, 1);
+    replay_as("too many scans long before the end", file, 2048 * 384, 56, refused(9, 24016));
+}
+
+static uint8_t *put_event(uint8_t *p, uint64_t sequence, uint64_t scan, uint8_t effect, uint8_t before, uint8_t after,
+                          uint8_t first_out) {
+    put_number(p, 2, sequence), put_number(p + 2, 4, scan);
+    p[6] = effect, p[7] = before, p[8] = after, p[9] = 0, p[10] = 0, p[11] = first_out;
+    return p + POHANDIRA_RECORD_BYTES;
+}
+
+/*
+ * The largest recording: 2,048 rows of 3 scans by turns, 16 effects with a delay of 150. In a quiet row all start in scan 1; in the
+ * other all leave in scan 1 and trip in scan 3. So two rows have 48 records, and 6 scans of which 3 are live and 3 exercised.
+ */
+static void try_largest(uint8_t *bytes) {
+    struct file file = turns(bytes, 16, 150, 2048, 3, 0);
+    size_t size = (size_t)1024 * 48 * POHANDIRA_RECORD_BYTES;
+    uint8_t *records = allocated(size), *p = records;
+    uint64_t sequence = 0;
+    for (uint64_t turn = 0; turn < 1024; turn++) {
+        for (uint8_t e = 1; e <= 16; e++)
+            p = put_event(p, sequence++, 6 * turn + 1, e, POHANDIRA_TRIPPED, POHANDIRA_NORMAL, 0);
+        for (uint8_t e = 1; e <= 16; e++)
+            p = put_event(p, sequence++, 6 * turn + 4, e, POHANDIRA_NORMAL, POHANDIRA_DELAYED, 1);
+        for (uint8_t e = 1; e <= 16; e++)
+            p = put_event(p, sequence++, 6 * turn + 6, e, POHANDIRA_DELAYED, POHANDIRA_TRIPPED, 1);
+    }
+    struct answer answer = {{49152, 2048, 6144, 3072, 3072, 0, 0}, records};
+    at_hand = "largest recording";
+    if (file.length != POHANDIRA_MOST_BYTES) fail("its length");
+    check_as("largest recording", file, 24, 0, 0, 2048);
+    replay_as("largest recording, ample room", file, (size_t)2048 * POHANDIRA_ROW_RECORDS_BYTES, 56, answer);
+    replay_as("largest recording, just enough room", file, size, 56, answer);
+    replay_as("largest recording, one byte too little", file, size - 1, 56, refused(10, 0));
+    free(records);
+}
+
+static int checks(void) {
+    uint8_t *bytes = allocated(POHANDIRA_MOST_BYTES);
+    try_session();
+    try_refusals();
+    try_bad();
+    try_scans(bytes);
+    try_largest(bytes);
+    free(bytes);
+    if (failures) fprintf(stderr, "embed: %d of the checks failed\n", failures);
+    else printf("embed: every check passed\n");
+    return failures ? 1 : 0;
+}
+
+/* ---- Listings ---- */
+
+static const char *const names[] = {"tripped", "wait-reset", "ready", "wait-start", "normal", "delayed"};
+
+static void print_events(const uint8_t *records, size_t count) {
+    for (size_t i = 0; i < count; i++) {
+        struct pohandira_event event = pohandira_event_at(records, i);
+        if (event.before > 5 || event.after > 5) {
+            fail("a state that is none");
+            continue;
+        }
+        printf("%u %u %u %s %s %u\n", event.sequence, event.scan, event.effect, names[event.before], names[event.after],
+               event.first_out);
+    }
+}
+
+/* Replays with ample room and, where that is accepted, with just enough and with one byte less; prints the lines of records. */
+static void replay_and_print(struct file file, uint64_t totals[7]) {
+    size_t room = (size_t)POHANDIRA_MOST_ROWS * POHANDIRA_ROW_RECORDS_BYTES;
+    uint8_t *records = lend(room), numbers[POHANDIRA_TOTALS_BYTES];
+    unsigned result = pohandira_replay(file.bytes, file.length, records, room, numbers, sizeof numbers);
+    for (size_t i = 0; i < 7; i++) totals[i] = pohandira_field(numbers, i);
+    if (result != totals[POHANDIRA_NUMBER]) fail("the result is not the number in the totals");
+    if (totals[POHANDIRA_RECORDS] > room / POHANDIRA_RECORD_BYTES) fail("more records than there is room for");
+    else if (!result) {
+        size_t count = (size_t)totals[POHANDIRA_RECORDS], due = POHANDIRA_RECORD_BYTES * count;
+        struct answer answer = {{0}, records};
+        memcpy(answer.totals, totals, sizeof answer.totals);
+        replay_as(at_hand, file, due, 56, answer);
+        if (due) replay_as(at_hand, file, due - 1, 56, refused(10, 0));
+        printf("seq scan effect from to first\n");
+        print_events(records, count);
+        if (!holds(records, room, records, due)) fail("bytes past the records");
+        return;
+    }
+    if (!holds(records, room, NULL, 0)) fail("records on a refusal");
+}
+
+/*
+ * Document 01's listing of one recording. On refusal 9 the lines of the rows before the place stand first: they are those of the
+ * recording that ends there.
+ */
+static void list(uint8_t *bytes, size_t length) {
+    uint64_t totals[7], before[7];
+    struct file file = {bytes, length};
+    replay_and_print(file, totals);
+    uint64_t number = totals[POHANDIRA_NUMBER], place = totals[POHANDIRA_PLACE];
+    if (number == 0) {
+        printf("rows %lu scans %lu live %lu exercised %lu\n", totals[POHANDIRA_ROWS], totals[POHANDIRA_SCANS],
+               totals[POHANDIRA_LIVE], totals[POHANDIRA_EXERCISED]);
+        check_as(at_hand, file, 24, 0, 0, totals[POHANDIRA_ROWS]);
+        return;
+    }
+    if (number == 9) {
+        size_t count_at = 8 + 6 * (size_t)bytes[7], first_row = count_at + 2;
+        check_as(at_hand, file, 24, 0, 0, pohandira_number(bytes + count_at, 2));
+        put_number(bytes + count_at, 2, (place - first_row) / 24);
+        replay_and_print((struct file){bytes, (size_t)place}, before);
+        if (before[POHANDIRA_NUMBER]) fail("the rows before a refusal by 9 are refused");
+    } else {
+        check_as(at_hand, file, 24, number, place, 0);
+    }
+    printf("refused %lu at %lu\n", number, place);
+}
+
+/* Cases: a length of 4 bytes and the recording, each listed with an empty line after it. */
+static int list_stream(void) {
+    enum { MOST = 50000 };
+    uint8_t *bytes = allocated(MOST), size[4];
+    static char name[40];
+    unsigned number = 0;
+    while (fread(size, 1, 4, stdin) == 4) {
+        size_t length = (size_t)pohandira_number(size, 4);
+        if (length > MOST || fread(bytes, 1, length, stdin) != length) {
+            fprintf(stderr, "embed: the stream breaks off\n");
+            return 2;
+        }
+        snprintf(name, sizeof name, "recording %u", ++number);
+        at_hand = name;
+        list(bytes, length);
+        printf("\n");
+    }
+    if (ferror(stdin) || fflush(stdout)) return 2;
+    return failures ? 1 : 0;
+}
+
+int main(int count, char **words) {
+    if (count == 2 && !strcmp(words[1], "checks")) return checks();
+    if (count == 2 && !strcmp(words[1], "list")) return list_stream();
+    fprintf(stderr, "usage: embed checks | embed list < CASES\n");
+    return 2;
+}

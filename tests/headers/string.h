@@ -1,0 +1,8 @@
+#ifndef STRING_H
+#define STRING_H
+#include <stddef.h>
+void *memcpy(void *to, const void *from, size_t size);
+void *memset(void *place, int byte, size_t size);
+int memcmp(const void *left, const void *right, size_t size);
+int strcmp(const char *left, const char *right);
+#endif

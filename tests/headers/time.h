@@ -1,0 +1,8 @@
+#ifndef TIME_H
+#define TIME_H
+struct timespec {
+    long tv_sec, tv_nsec;
+};
+#define CLOCK_MONOTONIC 1
+int clock_gettime(int clock, struct timespec *time);
+#endif
