@@ -1,0 +1,6 @@
+pub mod Order
+pub mod Back
+pub mod Scans
+pub mod Demands
+pub mod Unique
+pub mod Inner

@@ -1,0 +1,161 @@
+-- The numbers that the crates below give are those of the tables: of the first case that applies.
+use mathlib.Core.Path.{_≡_, refl, ap, ap₂, sym, _∙_}
+use mathlib.Core.Bool.{Bool, true, false, cond, not, _&&_, _||_}
+use mathlib.Core.List.{List, [], _∷_, _++_}
+use Prim.Native.Nat.{ℕ, zero, suc, _+_, _*_, _<_}
+use native.Mathlib.Omega.{arith}
+use borrow.Author.Tests.{leb-true, leb-false, lt-ltb, le-ltb}
+use lib.Dec.{leb, ltb}
+use lib.ListN.{length}
+use Rattle.bits.specs.Lists.{allFrom}
+use Rattle.bits.specs.Words.{bitOf}
+use Rattle.settings.specs.declared.Settings.{Settings}
+use Rattle.settings.specs.declared.Words.{Words}
+use Rattle.settings.specs.declared.Row.{Row}
+use Rattle.settings.specs.declared.Limits.{Limits}
+use Rattle.settings.specs.Limits.{mostHold, mostScans}
+use Rattle.settings.specs.Refusals.{unless, orElse}
+use Rattle.settings.specs.Right.{blockOk, countOk, slotOk, limitsOf, settingsNumber, wordsOk, apart, several, wordsNumber, rowNumber}
+use Rattle.block.specs.declared.State.{State}
+use Rattle.block.specs.State.{stateOk, stateNumber}
+use Rattle.block.specs.Scan.{scansNumber, roomNumber, inputNumber, granted, once, events, scanNumber}
+use Rattle.block.specs.Held.{run, heldNumber}
+use Rattle.recording.specs.declared.Kind.the-variants.{Rows}
+use Rattle.recording.specs.Sections as sections
+use Rattle.recording.specs.Entries.{putRow}
+use Rattle.recording.specs.Encode.{opening}
+use Rattle.recording.specs.declared.Written.{Written}
+use Rattle.recording.specs.declared.Written.the-variants as W
+use Rattle.recording.specs.Answers.{writtenNumber, writtenPlace, writtenLength}
+use Rattle.recording.specs.Writer.{openingNumber, rowPieceNumber, written, after}
+use Rattle.recording.proofs.Theorems.{written-number, refused-piece}
+use Rattle.demands.specs.Order.{Case, _when_, firstOf, InOrder, settingsCases, wordsCases, rowCases, stateCases, scansCases, roomCases, heldCases, scanCases, openingCases, rowPieceCases}
+
+-- ## Any table
+
+-- every case has a number, which is not 0
+abbrev Numbered : List Case → Type 0
+Numbered [] = Unit {0}
+Numbered (c ∷ cs) = (0 < c .number) × Numbered cs
+
+-- n is the number of this table
+pub record Table (n : ℕ) (cs : List Case) : Type 0 where
+  pub first : n ≡ firstOf cs
+  pub numbered : Numbered cs
+
+-- a number that is given before others
+given-first : (n m : ℕ) → 0 < n → n ≡ orElse n m
+given-first zero m h = absurd (omega arith)
+given-first (suc n) m h = refl
+
+first-append : (xs ys : List Case) → Numbered xs → firstOf (xs ++ ys) ≡ orElse (firstOf xs) (firstOf ys)
+first-append [] ys h = refl
+first-append (c ∷ cs) ys h = by-case (c .applies) (first-append cs ys (h .1))
+  where
+    by-case : (b : Bool) → firstOf (cs ++ ys) ≡ orElse (firstOf cs) (firstOf ys)
+        → cond b (c .number) (firstOf (cs ++ ys)) ≡ orElse (cond b (c .number) (firstOf cs)) (firstOf ys)
+    by-case true e = given-first (c .number) (firstOf ys) (h .0)
+    by-case false e = e
+
+numbered-append : (xs ys : List Case) → Numbered xs → Numbered ys → Numbered (xs ++ ys)
+numbered-append [] ys h k = k
+numbered-append (c ∷ cs) ys h k = (h .0, numbered-append cs ys (h .1) k)
+
+-- one number or else another: one table and then the other
+then : {a b : ℕ} {xs ys : List Case} → Table a xs → Table b ys → Table (orElse a b) (xs ++ ys)
+then {xs = xs} {ys = ys} s t =
+    record { first = ap₂ orElse (s .first) (t .first) ∙ sym (first-append xs ys (s .numbered)); numbered = numbered-append xs ys (s .numbered) (t .numbered) }
+
+-- a check is a table of one case
+check : (ok : Bool) (k : ℕ) → Table (unless ok (suc k)) (suc k when not ok ∷ [])
+check true k = record { first = refl; numbered = (omega arith, tt) }
+check false k = record { first = refl; numbered = (omega arith, tt) }
+
+not-leb : (a b : ℕ) → not (leb a b) ≡ ltb b a
+not-leb a b = go (leb a b) refl
+  where
+    go : (t : Bool) → leb a b ≡ t → not t ≡ ltb b a
+    go true e = let h = leb-true a b e in sym (le-ltb b a (omega arith))
+    go false e = let h = leb-false a b e in sym (lt-ltb b a (omega arith))
+
+-- a limit that is passed
+beyond : (a most k : ℕ) → Table (unless (leb a most) (suc k)) (suc k when ltb most a ∷ [])
+beyond a most k = rw (← not-leb a most) (check (leb a most) k)
+
+-- ## An answer in order
+
+-- what is granted where n is 0, and else refused by n, with the lent bytes as they were
+module _ {A : Type 0} (num : A → ℕ) (yes : A) (no : ℕ → A) (left out : List ℕ) (none : num yes ≡ 0) (own : (k : ℕ) → num (no k) ≡ k) where
+  pub granted-in-order : (n : ℕ) (cs : List Case) → Table n cs → let a = granted n yes no in
+      InOrder cs (num a) ((a ≡ no (num a)) × (granted n left (λ k. out) ≡ out))
+  granted-in-order zero cs t = record { first = none ∙ t .first; otherwise = λ h. absurd (h none) }
+  granted-in-order (suc n) cs t = record { first = own (suc n) ∙ t .first; otherwise = λ h. (ap no (sym (own (suc n))), refl) }
+
+-- a piece that the writer writes
+no-place : (a : Written) → writtenPlace a ≡ 0
+no-place (W.Bytes n) = refl
+no-place (W.Refused k) = refl
+
+pub piece-in-order : (n : ℕ) (piece out : List ℕ) (cs : List Case) → Table (orElse n (unless (leb (length piece) (length out)) 10)) cs
+    → let a = written n piece (length out) in InOrder cs (writtenNumber a) ((writtenPlace a ≡ 0) × (writtenLength a ≡ 0) × (after n piece out ≡ out))
+piece-in-order n piece out cs t =
+    let a = written n piece (length out) in
+    record {
+      first = written-number n piece (length out) ∙ t .first;
+      otherwise = λ h. let k = refused-piece n piece out h in (no-place a, k .0, k .1);
+    }
+
+-- ## Its parts
+
+pub settings-in-order : (st : Settings) → Table (settingsNumber st) (settingsCases st)
+unfolding settingsNumber
+settings-in-order st =
+    then (check (blockOk (st .causes) (st .options) (st .period)) 1) (check (countOk (st .count) && allFrom (slotOk (limitsOf st)) 0 (st .effects)) 2)
+
+several-case : (bit2 many : Bool) → Table (unless (bit2 || not many) 6) (6 when (many && not bit2) ∷ [])
+several-case true true = check true 5
+several-case true false = check true 5
+several-case false true = check false 5
+several-case false false = check true 5
+
+pub words-in-order : (k : Limits) (w : Words) → Table (wordsNumber k w) (wordsCases k w)
+unfolding wordsNumber
+words-in-order k w = then (check (wordsOk k w) 3) (then (check (apart w) 4) (several-case (bitOf (k .options) 2) (several w)))
+
+pub row-in-order : (k : Limits) (row : Row) → Table (rowNumber k row) (rowCases k row)
+unfolding rowNumber
+row-in-order k row = then (check (leb 1 (row .hold) && leb (row .hold) mostHold) 3) (words-in-order k (row .words))
+
+pub state-in-order : (st : Settings) (x : State) → Table (stateNumber st x) (stateCases st x)
+unfolding stateNumber
+state-in-order st x = check (stateOk st x) 7
+
+pub scans-in-order : (x : State) (row : Row) → Table (scansNumber (x .done) (row .hold)) (scansCases x row)
+scans-in-order x row = beyond (x .done + row .hold) mostScans 8
+
+-- ## The order at each entry point
+
+-- the input, and then the room for so many records
+run-in-order : (st : Settings) (row : Row) (x : State) (due room : ℕ) → Table (orElse (inputNumber st x row) (roomNumber due room))
+    (settingsCases st ++ stateCases st x ++ rowCases (limitsOf st) row ++ scansCases x row ++ roomCases (12 * due) room)
+unfolding inputNumber
+run-in-order st row x due room =
+    then (then (settings-in-order st) (then (state-in-order st x) (then (row-in-order (limitsOf st) row) (scans-in-order x row)))) (beyond (12 * due) room 9)
+
+pub held-in-order : (st : Settings) (row : Row) (x : State) (room : ℕ) → Table (heldNumber st row x room) (heldCases st row x room)
+unfolding heldNumber
+held-in-order st row x room = run-in-order st row x (length (run st row x .events)) room
+
+pub scan-in-order : (st : Settings) (w : Words) (x : State) (room : ℕ) → Table (scanNumber st w x room) (scanCases st w x room)
+unfolding scanNumber
+scan-in-order st w x room = run-in-order st (once w) x (length (events st w x)) room
+
+pub opening-in-order : (st : Settings) (rows room : ℕ)
+    → Table (orElse (openingNumber st rows) (unless (leb (length (opening st rows)) room) 10)) (openingCases st rows room)
+unfolding openingNumber
+opening-in-order st rows room = then (then (settings-in-order st) (check (sections.countOk Rows rows) 3)) (beyond (length (opening st rows)) room 9)
+
+pub row-piece-in-order : (st : Settings) (row : Row) (room : ℕ)
+    → Table (orElse (rowPieceNumber st row) (unless (leb (length (putRow row)) room) 10)) (rowPieceCases st row room)
+unfolding rowPieceNumber
+row-piece-in-order st row room = then (then (settings-in-order st) (row-in-order (limitsOf st) row)) (beyond (length (putRow row)) room 9)

@@ -1,0 +1,101 @@
+-- Refusals as a table: each number beside its case, in the order in which the cases are looked at. Document 01, "Refusal
+-- numbers". The tests are those of the crates below; here stands their order alone.
+use Prim.Native.Nat.{ℕ, _+_, _*_}
+use mathlib.Core.Path.{_≡_}
+use mathlib.Core.Bool.{Bool, cond, not, _&&_}
+use mathlib.Core.List.{List, [], _∷_, _++_}
+use lib.Dec.{leb, ltb}
+use lib.ListN.{length}
+use Rattle.bits.specs.Lists.{allFrom}
+use Rattle.bits.specs.Words.{bitOf}
+use Rattle.settings.specs.declared.Settings.{Settings}
+use Rattle.settings.specs.declared.Words.{Words}
+use Rattle.settings.specs.declared.Row.{Row}
+use Rattle.settings.specs.declared.Limits.{Limits}
+use Rattle.settings.specs.Limits.{mostHold, mostScans}
+use Rattle.settings.specs.Right.{blockOk, countOk, slotOk, limitsOf, wordsOk, apart, several}
+use Rattle.block.specs.declared.State.{State}
+use Rattle.block.specs.State.{stateOk}
+use Rattle.block.specs.Scan.{once, events}
+use Rattle.block.specs.Held.{run}
+use Rattle.recording.specs.declared.Kind.the-variants.{Rows}
+use Rattle.recording.specs.Sections as sections
+use Rattle.recording.specs.Entries.{putRow}
+use Rattle.recording.specs.Encode.{opening}
+
+-- ## Any table
+
+pub record Case : Type 0 where
+  pub number : ℕ
+  pub applies : Bool
+
+infix 70 _when_
+abbrev pub _when_ : ℕ → Bool → Case
+n when b = record { number = n; applies = b }
+
+-- the number of the first case that applies, or 0 where none does
+abbrev pub firstOf : List Case → ℕ
+firstOf [] = 0
+firstOf (c ∷ cs) = cond (c .applies) (c .number) (firstOf cs)
+
+-- an answer in that order: its number is that of the first case that applies, and where one applies, all else is a refusal's
+pub record InOrder (cases : List Case) (number : ℕ) (refused : Type 0) : Type 0 where
+  pub first : number ≡ firstOf cases
+  pub otherwise : (number ≡ 0 → ⊥) → refused
+
+-- ## Its parts
+
+-- 2: block section wrong. 3: effects section wrong
+abbrev pub settingsCases : Settings → List Case
+settingsCases st =
+    2 when not (blockOk (st .causes) (st .options) (st .period))
+    ∷ 3 when not (countOk (st .count) && allFrom (slotOk (limitsOf st)) 0 (st .effects))
+    ∷ []
+
+-- 4: a row word wrong. 5: one effect in both force words. 6: several forced without option bit 2
+abbrev pub wordsCases : Limits → Words → List Case
+wordsCases k w =
+    4 when not (wordsOk k w)
+    ∷ 5 when not (apart w)
+    ∷ 6 when (several w && not (bitOf (k .options) 2))
+    ∷ []
+
+-- 4: the hold wrong, before the words
+abbrev pub rowCases : Limits → Row → List Case
+rowCases k row = 4 when not (leb 1 (row .hold) && leb (row .hold) mostHold) ∷ wordsCases k (row .words)
+
+-- 4: row count wrong
+abbrev pub countCases : ℕ → List Case
+countCases rows = 4 when not (sections.countOk Rows rows) ∷ []
+
+-- 8: state breaks the rules
+abbrev pub stateCases : Settings → State → List Case
+stateCases st x = 8 when not (stateOk st x) ∷ []
+
+-- 9: scans done plus hold above 1,000,000,000
+abbrev pub scansCases : State → Row → List Case
+scansCases x row = 9 when ltb mostScans (x .done + row .hold) ∷ []
+
+-- 10: room below so many bytes
+abbrev pub roomCases : (needed room : ℕ) → List Case
+roomCases needed room = 10 when ltb room needed ∷ []
+
+-- ## The order at each entry point
+
+-- a held run: settings (2, 3), state (8), row (4, 5, 6), 9, and then 10: room below 12 bytes times the records due
+abbrev pub heldCases : Settings → Row → State → (room : ℕ) → List Case
+heldCases st row x room =
+    settingsCases st ++ stateCases st x ++ rowCases (limitsOf st) row ++ scansCases x row ++ roomCases (12 * length (run st row x .events)) room
+
+-- a scan: the same, with a hold of 1
+abbrev pub scanCases : Settings → Words → State → (room : ℕ) → List Case
+scanCases st w x room =
+    settingsCases st ++ stateCases st x ++ rowCases (limitsOf st) (once w) ++ scansCases x (once w) ++ roomCases (12 * length (events st w x)) room
+
+-- the opening piece: settings, a wrong row count being 4, and last 10: room below the piece
+abbrev pub openingCases : Settings → (rows room : ℕ) → List Case
+openingCases st rows room = settingsCases st ++ countCases rows ++ roomCases (length (opening st rows)) room
+
+-- a row's piece: settings, the row, and last 10: room below the piece
+abbrev pub rowPieceCases : Settings → Row → (room : ℕ) → List Case
+rowPieceCases st row room = settingsCases st ++ rowCases (limitsOf st) row ++ roomCases (length (putRow row)) room
