@@ -118,6 +118,10 @@ module _ (st : Settings) (row : Row) (x : State) (input : inputNumber st x row �
     pub starts-right : Shown (st .count) (boardOf (st .count) (startOf x) .table)
     starts-right = record { slots = ap (tableOf (st .count)) (sym (shows st x (ready .state) long right)); settled = settled st x (ready .state) long right }
 
+    -- its records fit where those of the run do
+    pub starts-fits : (room : ℕ) → 12 * length (run st row x .events) ≤ room → 12 * length (stroke .events) ≤ room
+    starts-fits room h = omega (arith, h, ap (λ (r : Run). length (r .events)) stroke-is)
+
     pub laid : (space space′ : List ℕ) → space′ ≡ sets space 0 (bytes (stroke .events)) → space′ ≡ sets space 0 (bytes (run st row x .events))
     laid space space′ e = e ∙ ap (λ (r : Run). sets space 0 (bytes (r .events))) stroke-is
 
@@ -153,6 +157,10 @@ module _ (st : Settings) (row : Row) (from : Board) (input : inputNumber st (rea
   -- it starts at the state that the words show
   kept-is : kept-stroke ≡ runOf (run st row at)
   kept-is = sym (run-is st row at input)
+
+  -- its records fit where those of the run do
+  pub kept-fits : (room : ℕ) → 12 * length (run st row at .events) ≤ room → 12 * length (kept-stroke .events) ≤ room
+  kept-fits room h = omega (arith, h, ap (λ (r : Run). length (r .events)) kept-is)
 
   pub kept-laid : (space space′ : List ℕ) → space′ ≡ sets space 0 (bytes (kept-stroke .events)) → space′ ≡ sets space 0 (bytes (run st row at .events))
   kept-laid space space′ e = e ∙ ap (λ (r : Run). sets space 0 (bytes (r .events))) kept-is

@@ -54,9 +54,17 @@ keptOf n r =
       exercised = r .exercised;
     }
 
--- the answer to a scan that nothing refuses
-abbrev pub scannedBy : Ran → Scanned
-scannedBy r = record { number = 0; place = 0; state = r .state; effect = r .effect; latent = r .latent; records = r .records }
+-- the answer to a held run, as that of a scan
+abbrev pub scannedBy : Held → Scanned
+scannedBy h =
+    record {
+      number = h .number;
+      place = h .place;
+      state = h .state;
+      effect = h .effect;
+      latent = h .latent;
+      records = h .records;
+    }
 
 -- the answer to a held run that nothing refuses
 abbrev pub heldBy : Ran → Held

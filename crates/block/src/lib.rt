@@ -11,7 +11,7 @@ ghost use Rattle.bits.specs.Words.{one};
 ghost use Rattle.effects.specs.Records.{bytes};
 ghost use Rattle.settings.specs.Limits.{mostScans};
 ghost use Rattle.block.specs.State.{timerRight, firstRight, slotRight, slotUnused, slotOk, stateNumber, fresh as freshState};
-ghost use Rattle.block.specs.Scan.{scansNumber, inputNumber, refusedScan, scanOf, scanInto};
+ghost use Rattle.block.specs.Scan.{scansNumber, inputNumber, scanOf, scanInto};
 ghost use Rattle.block.specs.Held.{run, refusedHeld, heldOf, heldInto};
 ghost use Rattle.planes.specs.Board.{boardAt, boardOf};
 ghost use Rattle.planes.specs.Table.{tableOf, slotsOf};
@@ -186,21 +186,6 @@ fn input_number(st: Settings, x: State, row: Row) -> u8
     scans_number(x.done, row.hold)
 }
 
-// ---- one scan
-
-fn refused_scan(number: u8, x: State) -> Scanned
-    ensures { λ r. ⌜ r ≡ refusedScan x number ⌝ }
-{
-    Scanned {
-        number: number,
-        place: 0,
-        state: x,
-        effect: 0,
-        latent: 0,
-        records: 0,
-    }
-}
-
 // ---- a held run
 
 fn refused_held(number: u8, given: State) -> Held
@@ -274,7 +259,7 @@ pub fn run_kept(
     firsts: &mut [u16; 16],
 ) -> Kept
     requires { ⌜ Wired st x (now causes) (now times) × (boardAt from (now timers) (now firsts) .table ≡ tableOf (st .count) (slotsOf (st .count) (boardAt from (now timers) (now firsts) .table))) ⌝ }
-    requires { ⌜ (inputNumber st (reachedBy (st .count) (boardAt from (now timers) (now firsts))) row ≡ 0) × (24 * st .count ≤ length (now buf)) ⌝ }
+    requires { ⌜ (inputNumber st (reachedBy (st .count) (boardAt from (now timers) (now firsts))) row ≡ 0) × (12 * length (run st row (reachedBy (st .count) (boardAt from (now timers) (now firsts))) .events) ≤ length (now buf)) ⌝ }
     ensures { λ r. ⌜ keptAt r (now (timers .exit)) (now (firsts .exit)) ≡ keptOf (st .count) (run st row (reachedBy (st .count) (boardAt from (now (timers .entry)) (now (firsts .entry))))) ⌝ }
     ensures { λ _. ⌜ now (buf .exit) ≡ sets (now (buf .entry)) 0 (bytes (run st row (reachedBy (st .count) (boardAt from (now (timers .entry)) (now (firsts .entry)))) .events)) ⌝ }
 {
@@ -291,7 +276,7 @@ pub fn run_kept(
 // A held run in one stroke, of input that was found right: the row's words for its hold, the reset word in the first scan
 // only. Its records go to the front of `buf`. A single scan is a run of hold 1.
 pub fn run_right(buf: &mut [u8], st: Settings, row: Row, x: State) -> Ran
-    requires { ⌜ (inputNumber st x row ≡ 0) × (24 * st .count ≤ length (now buf)) ⌝ }
+    requires { ⌜ (inputNumber st x row ≡ 0) × (12 * length (run st row x .events) ≤ length (now buf)) ⌝ }
     ensures { λ r. ⌜ r ≡ ranOf (run st row x) ⌝ }
     ensures { λ _. ⌜ now (buf .exit) ≡ sets (now (buf .entry)) 0 (bytes (run st row x .events)) ⌝ }
 {
@@ -327,20 +312,6 @@ pub fn run_right(buf: &mut [u8], st: Settings, row: Row, x: State) -> Ran
     }
 }
 
-fn granted_scan(ran: Ran) -> Scanned
-    ensures { λ r. ⌜ r ≡ scannedBy ran ⌝ }
-{
-    let state = ran.state;
-    Scanned {
-        number: 0,
-        place: 0,
-        state: state,
-        effect: ran.effect,
-        latent: ran.latent,
-        records: ran.records,
-    }
-}
-
 fn granted_held(ran: Ran) -> Held
     ensures { λ r. ⌜ r ≡ heldBy ran ⌝ }
 {
@@ -354,6 +325,21 @@ fn granted_held(ran: Ran) -> Held
         records: ran.records,
         live: ran.live,
         exercised: ran.exercised,
+    }
+}
+
+// What a held run answers, as a scan does.
+fn scan_of(h: Held) -> Scanned
+    ensures { λ r. ⌜ r ≡ scannedBy h ⌝ }
+{
+    let state = h.state;
+    Scanned {
+        number: h.number,
+        place: h.place,
+        state: state,
+        effect: h.effect,
+        latent: h.latent,
+        records: h.records,
     }
 }
 
@@ -383,28 +369,18 @@ impl State {
         }
     }
 
-    // One scan: its records go to the front of `out`. They are laid out apart first, since a scan that is refused for
-    // want of room touches no byte of `out`.
+    // One scan: its records go to the front of `out`. It is a held run of hold 1.
     pub fn scan(self, st: Settings, w: Words, out: &mut [u8]) -> Scanned
         ensures { λ r. ⌜ r ≡ scanOf st w self (length (now (out .entry))) ⌝ }
         ensures { λ _. ⌜ now (out .exit) ≡ scanInto st w self (now (out .entry)) ⌝ }
     {
         let once = Row { hold: 1, words: w };
-        let number = input_number(st, self, once);
-        if number != 0 {
-            return refused_scan(number, self);
-        }
-        let mut space = [0u8; 384];
-        let ran = run_right(&mut space, st, once, self);
-        let at = 12 * ran.records;
-        if out.len() < at {
-            return refused_scan(10, self);
-        }
-        bits::copy_front(&space, at, out);
-        granted_scan(ran)
+        let held = self.held(st, once, out);
+        scan_of(held)
     }
 
-    // A held run. Its records go to the front of `out`, as those of a scan do.
+    // A held run. Its records go to the front of `out`. They are laid out apart first, since a run that is refused for want
+    // of room touches no byte of `out`.
     pub fn held(self, st: Settings, row: Row, out: &mut [u8]) -> Held
         ensures { λ r. ⌜ r ≡ heldOf st row self (length (now (out .entry))) ⌝ }
         ensures { λ _. ⌜ now (out .exit) ≡ heldInto st row self (now (out .entry)) ⌝ }

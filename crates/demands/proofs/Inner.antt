@@ -159,8 +159,9 @@ rerun-stop-of κs = by-equation (rerun·stop-of.Learnt κs) _ (λ a r e h. h)
 pub rerun-answer-by : (κs : Lfts 0) → Unique (rerun·answer-by.Learnt κs) none
 rerun-answer-by κs = by-equation (rerun·answer-by.Learnt κs) _ (λ a r e h. h)
 
-pub rerun-replay-rows : (κs : Lfts 3) → Unique (rerun·replay-rows.Learnt κs) none
-rerun-replay-rows κs = by-equation (rerun·replay-rows.Learnt κs) _ (λ a r e h. h)
+-- (its result; what stands in a buffer whose records are not kept is not said)
+pub rerun-replay-rows : (κs : Lfts 4) → Unique (rerun·replay-rows.Learnt κs) none
+rerun-replay-rows κs = by-equation (rerun·replay-rows.Learnt κs) _ (λ a r e h. h .0)
 
 -- ## The lines of a row (`listing`)
 

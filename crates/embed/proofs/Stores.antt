@@ -42,22 +42,3 @@ fits piece out h = rw (le-leb (length piece) (length out) h)
 
 pub stays : (piece out : List ℕ) → length out < length piece → out ≡ fitted piece out
 stays piece out h = rw (lt-leb (length piece) (length out) h)
-
--- ## A part of a buffer, from a place to the end
-
--- what is stored at the front of the part is stored at the place
-pub part-back : (vs out : List ℕ) (at : ℕ) → at + length vs ≤ length out
-    → take at out ++ (sets (take (length out - at) (drop at out)) 0 vs ++ drop (length out - at) (drop at out)) ≡ sets out at vs
-part-back vs out at h =
-    let rest = drop at out in
-    let k = length out - at in
-    let n : length rest ≡ k = length-drop at out in
-    let all : take k rest ≡ rest = take-all k rest (omega (arith, n)) in
-    let none : drop k rest ≡ [] = drop-of-length-le rest {i = k} (omega (arith, n)) in
-    let there : sets rest 0 vs ≡ vs ++ drop (at + length vs) out =
-    sets-eq vs rest 0 (omega (arith, n, h)) ∙ ap (λ (m : ℕ). vs ++ drop m rest) (zero-add (length vs)) ∙ ap (λ (l : List ℕ). vs ++ l) (drop-drop (length vs) at out)
-    in
-    (λ j. take at out ++ (sets (all j) 0 vs ++ none j))
-    ∙ ap (λ (l : List ℕ). take at out ++ l) (append-nil (sets rest 0 vs) ∙ there)
-    ∙ sym (append-assoc (take at out) vs (drop (at + length vs) out))
-    ∙ sym (sets-eq vs out at h)

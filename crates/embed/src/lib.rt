@@ -5,19 +5,15 @@ ghost use mathlib.Core.List.{[], _∷_};
 ghost use Prim.Native.Nat.{_+_, _*_, _≤_, _<_};
 ghost use lib.ListN.{length};
 ghost use lib.Seq.{sets};
-ghost use Rattle.effects.specs.Records.{bytes};
 ghost use Rattle.settings.specs.Refusals.{orElse};
 ghost use Rattle.wiring.specs.Wiring.{Wired};
 ghost use Rattle.block.specs.Scan.{roomNumber};
 ghost use Rattle.recording.specs.declared.Answer.the-variants.{Accepted};
-ghost use Rattle.recording.specs.Answers.{rowCount};
 ghost use Rattle.recording.specs.Reader.{reading};
-ghost use Rattle.rerun.specs.Replay.{replay, firstRows, rowRun, answered};
-ghost use Rattle.rerun.specs.Turn.{Going, turnOf, totalsWith};
+ghost use Rattle.rerun.specs.Replay.{replay};
 ghost use Rattle.embed.specs.Crossing.{numbers, pieceNumber, fitted, checkNumber, checkInto, crossing, refusal, replayNumber, recordsInto, totalsInto};
 use recording::Answer;
 use rerun::Replayed;
-use rerun::Tally;
 use settings::Settings;
 use wiring::Wiring;
 
@@ -95,122 +91,6 @@ pub extern "C" fn pohandira_check(recording: &[u8], answer: &mut [u8]) -> u8
     }
 }
 
-// ---- the rows of a replay
-
-// One row more, where there may be too little room for its most records: it runs aside, and its records are copied.
-fn put_row_aside(
-    s: &[u8],
-    st: Settings,
-    x: Wiring,
-    causes: &[u16; 16],
-    times: &[u32; 16],
-    width: usize,
-    t: Tally,
-    timers: &mut [u32; 16],
-    firsts: &mut [u16; 16],
-    out: &mut [u8],
-    at: usize,
-) -> Tally
-    requires { ⌜ Going (now s) st width (totalsWith t (now timers) (now firsts)) × (t .rows < rowCount (reading (now s) .answer)) × Wired st x (now causes) (now times) ⌝ }
-    requires { ⌜ (firstRows (now s) (t .rows + 1) .number ≡ 0) × (at + 12 * length (rowRun (now s) (t .rows) .events) ≤ length (now out)) ⌝ }
-    ensures { λ r. ⌜ totalsWith r (now (timers .exit)) (now (firsts .exit)) ≡ turnOf (now (s .entry)) (t .rows) .totals ⌝ }
-    ensures { λ _. ⌜ now (out .exit) ≡ sets (now (out .entry)) at (bytes (rowRun (now (s .entry)) (t .rows) .events)) ⌝ }
-{
-    let mut space = [0u8; 384];
-    let turn = rerun::row_in_place(
-        s,
-        st,
-        x,
-        causes,
-        times,
-        width,
-        t,
-        timers,
-        firsts,
-        &mut space,
-    );
-    let n = 12 * turn.records;
-    bits::put_text(out, at, &space[..n]);
-    turn.tally
-}
-
-// One row more. Its records follow those so far, in the lent buffer itself where its most records fit.
-fn put_row(
-    s: &[u8],
-    st: Settings,
-    x: Wiring,
-    causes: &[u16; 16],
-    times: &[u32; 16],
-    width: usize,
-    t: Tally,
-    timers: &mut [u32; 16],
-    firsts: &mut [u16; 16],
-    out: &mut [u8],
-) -> Tally
-    requires { ⌜ Going (now s) st width (totalsWith t (now timers) (now firsts)) × (t .rows < rowCount (reading (now s) .answer)) × Wired st x (now causes) (now times) ⌝ }
-    requires { ⌜ (firstRows (now s) (t .rows + 1) .number ≡ 0) × (12 * t .records + 12 * length (rowRun (now s) (t .rows) .events) ≤ length (now out)) ⌝ }
-    ensures { λ r. ⌜ totalsWith r (now (timers .exit)) (now (firsts .exit)) ≡ turnOf (now (s .entry)) (t .rows) .totals ⌝ }
-    ensures { λ _. ⌜ now (out .exit) ≡ sets (now (out .entry)) (12 * t .records) (bytes (rowRun (now (s .entry)) (t .rows) .events)) ⌝ }
-{
-    let at = 12 * t.records as usize;
-    if out.len() - at < 24 * x.count {
-        return put_row_aside(s, st, x, causes, times, width, t, timers, firsts, out, at);
-    }
-    let turn = rerun::row_in_place(
-        s,
-        st,
-        x,
-        causes,
-        times,
-        width,
-        t,
-        timers,
-        firsts,
-        &mut out[at..],
-    );
-    turn.tally
-}
-
-// All rows of a file that none of them ends, where its records fit.
-fn put_rows(
-    s: &[u8],
-    st: Settings,
-    x: Wiring,
-    causes: &[u16; 16],
-    times: &[u32; 16],
-    rows: u16,
-    first: usize,
-    width: usize,
-    out: &mut [u8],
-) -> Replayed
-    requires { ⌜ (reading (now s) .answer ≡ Accepted rows first width) × (st ≡ reading (now s) .settings) × Wired st x (now causes) (now times) ⌝ }
-    requires { ⌜ (replay (now s) .number ≡ 0) × (12 * length (replay (now s) .replay .events) ≤ length (now out)) ⌝ }
-    ensures { λ r. ⌜ r ≡ answered (replay (now (s .entry))) ⌝ }
-    ensures { λ _. ⌜ now (out .exit) ≡ sets (now (out .entry)) 0 (bytes (replay (now (s .entry)) .replay .events)) ⌝ }
-{
-    let begun = rerun::start(x.count, first);
-    let board = begun.board;
-    let table = board.table;
-    let mut timers = table.timers;
-    let mut firsts = table.firsts;
-    let mut t = rerun::tally_of(begun);
-    while t.rows < rows as u32 {
-        t = put_row(
-            s,
-            st,
-            x,
-            causes,
-            times,
-            width,
-            t,
-            &mut timers,
-            &mut firsts,
-            out,
-        );
-    }
-    rerun::answer_by(0, 0, t)
-}
-
 // ---- a replay
 
 // 10 where the records do not fit, else 0. Where the most that so many rows can give do fit, they are not counted.
@@ -231,7 +111,19 @@ fn records_number(
     if 24 * x.count * (rows as usize) <= room {
         return 0;
     }
-    let counted = rerun::replay_rows(s, st, x, causes, times, rows, first, width);
+    let mut space = [0u8; 384];
+    let counted = rerun::replay_rows(
+        s,
+        st,
+        x,
+        causes,
+        times,
+        rows,
+        first,
+        width,
+        &mut space,
+        false,
+    );
     if 12 * (counted.records as usize) <= room {
         return 0;
     }
@@ -283,7 +175,7 @@ fn replay_whole(
     if number != 0 {
         return refuse(totals, number, 0);
     }
-    let replayed = put_rows(s, st, x, &causes, &times, rows, first, width, records);
+    let replayed = rerun::replay_rows(s, st, x, &causes, &times, rows, first, width, records, true);
     put_totals(totals, replayed);
     0
 }

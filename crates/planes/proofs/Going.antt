@@ -19,7 +19,7 @@ use Rattle.effects.proofs.Records.{bytes-append, length-bytes}
 use Rattle.rounds.specs.Steps.{Run, start, scan, clear, held, progressOf}
 use Rattle.rounds.specs.Stroke.{Timed, quiets, skip, skipped}
 use Rattle.rounds.proofs.Effects.{ranks, timed-clear, quiets-le}
-use Rattle.rounds.proofs.Held.{ranks-first, due-at-most, grows, round-turn, round-falls}
+use Rattle.rounds.proofs.Held.{ranks-first, grows, round-turn, round-falls}
 
 -- the run that code carries, with its events
 abbrev pub runOf : Progress → List Event → Run
@@ -71,11 +71,11 @@ module _ (hold : ℕ) (ss₀ : List Signals) (done next : ℕ) (slots : List Slo
     round : held cs (left - 1 - k) later ≡ whole
     round = round-turn ss (g .timed) (runOf p (g .events)) left w ∙ g .gives
 
-    -- the records of the scan fit, as a held run gives at most two an effect
-    pub fit : 24 * length ss₀ ≤ length buf₀ → p .at + 12 * length rs ≤ length buf
+    -- the records of the scan fit, where those of the whole do
+    pub fit : 12 * length (whole .events) ≤ length buf₀ → p .at + 12 * length rs ≤ length buf
     fit v =
         let e = ap (λ (r : Run). length (r .events)) round in
-        omega (arith, e, grows cs (left - 1 - k) later, due-at-most ss₀ hold (start done next slots), g .place, length-append (g .events) rs, ap length (g .laid), length-sets buf₀ 0 (bytes (g .events)))
+        omega (arith, e, grows cs (left - 1 - k) later, v, g .place, length-append (g .events) rs, ap length (g .laid), length-sets buf₀ 0 (bytes (g .events)))
 
     -- it holds at the next head
     pub turn : Going cs (skipped k cs (scanned ss p)) (sets buf (p .at) (bytes rs)) (left - 1 - k) (fuel - 1)

@@ -1,3 +1,5 @@
+pub mod Bits
+pub mod Due
 pub mod ByWord
 pub mod Low
 pub mod Picked

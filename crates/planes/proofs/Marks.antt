@@ -1,8 +1,8 @@
 -- A scan of a mark, with the timers and first-outs beside it, is the scan of the board that they make.
 use mathlib.Core.Path.{_≡_, ap, sym, subst, _∙_}
-use mathlib.Core.Bool.{cond, not}
+use mathlib.Core.Bool.{not}
 use mathlib.Core.List.{List, _++_}
-use Prim.Native.Nat.{ℕ, _+_, _-_, _*_, _/_, _%_, _^_, _≤_}
+use Prim.Native.Nat.{ℕ, _+_, _-_, _*_, _/_, _%_, _^_, _<_, _≤_}
 use native.Mathlib.Nat.{mul-div-cancel, zero-lt-suc}
 use native.Mathlib.Omega.{arith}
 use lib.Dec.{eqb}
@@ -15,9 +15,10 @@ use Rattle.planes.specs.declared.Mark.{Mark}
 use Rattle.planes.specs.declared.Planes.{Planes}
 use Rattle.planes.specs.declared.Table.{Table}
 use Rattle.planes.specs.Planes.{planesAfter, changedOf}
-use Rattle.planes.specs.Table.{dueAt, timerBy, firstBy, Still, Settled, tableAfter, tableLater, entriesTo}
+use Rattle.planes.specs.Table.{dueIn, timerBy, firstBy, Still, Settled, Within, tableAfter, tableLater, entriesTo}
 use Rattle.planes.specs.Board.{boardAt, entriesOf, scanned, later}
-use Rattle.planes.proofs.Rest.{none-due, settled-after}
+use Rattle.planes.proofs.Due.{after-due}
+use Rattle.planes.proofs.Rest.{settled-after}
 
 -- the records between two places
 twelfth : (a l : ℕ) → (a + 12 * l - a) / 12 ≡ l
@@ -31,17 +32,22 @@ between p a l e h = (omega arith, omega arith)
 abbrev table : Planes → List ℕ → List ℕ → Table
 table p t f = record { planes = p; timers = t; firsts = f }
 
+pub within-is : (n : ℕ) (causes delays : List ℕ) (period tripped : ℕ) (w : Asked) (x : Mark) (timers firsts : List ℕ) (due : ℕ) (is : Planes)
+    → n ≤ 16 → x .planes .delayed < 2 ^ n → due ≡ wordOf (dueIn timers period (x .planes .delayed)) n → is ≡ planesAfter w due (x .planes)
+    → Within n (scanned n causes delays period tripped w (boardAt x timers firsts) .table .planes) → Within n is
+unfolding scanned tableAfter
+within-is n causes delays period tripped w x timers firsts due is few inside d p h = rw (after-due n period timers w (x .planes) few inside due is d p) h
+
 module _ (n : ℕ) (causes delays : List ℕ) (period tripped : ℕ) (w : Asked) (x : Mark) (timers firsts : List ℕ) (due : ℕ) (is : Planes) (timers′ firsts′ : List ℕ) (ch : ℕ)
-    (d : due ≡ cond (eqb (x .planes .delayed) 0) 0 (wordOf (dueAt timers period) n))
+    (few : n ≤ 16) (inside : x .planes .delayed < 2 ^ n)
+    (d : due ≡ wordOf (dueIn timers period (x .planes .delayed)) n)
     (p : is ≡ planesAfter w due (x .planes))
     (t : timers′ ≡ tabulate (timerBy timers delays period (x .planes .delayed) (is .delayed)) n ++ drop n timers)
     (f : firsts′ ≡ tabulate (firstBy firsts causes tripped (x .planes .normal) (is .normal)) n ++ drop n firsts)
     (c : ch ≡ changedOf (x .planes) is) where
   tables : table is timers′ firsts′ ≡ tableAfter n causes delays period tripped w (table (x .planes) timers firsts)
   unfolding tableAfter
-  tables =
-      let q : is ≡ planesAfter w (wordOf (dueAt timers period) n) (x .planes) = p ∙ ap (λ (e : ℕ). planesAfter w e (x .planes)) d ∙ none-due w (x .planes) (wordOf (dueAt timers period) n) in
-      rw (t, f, q)
+  tables = rw (t, f, after-due n period timers w (x .planes) few inside due is d p)
 
   abbrev entries : List (List ℕ)
   entries = entriesTo (x .next) (x .done + 1) ch (x .planes) is firsts′ 16
@@ -69,6 +75,10 @@ pub still-scanned : (n : ℕ) (causes delays : List ℕ) (period tripped : ℕ) 
 unfolding scanned
 still-scanned n causes delays period tripped w b y timers firsts e =
     subst (λ (t : Table). Settled n t) (sym (ap (λ (c : Board). c .table) e)) (settled-after n causes delays period tripped w (b .table)) .still
+
+-- and no other effects are shown
+pub within-scanned : (n : ℕ) (b : Board) (y : Mark) (timers firsts : List ℕ) → boardAt y timers firsts ≡ b → Within n (b .table .planes) → Within n (y .planes)
+within-scanned n b y timers firsts e = subst (λ (p : Planes). Within n p) (sym (ap (λ (c : Board). c .table .planes) e))
 
 -- scans that are not live
 pub skipped-is : (k n period : ℕ) (y z : Mark) (timers timers′ firsts : List ℕ)

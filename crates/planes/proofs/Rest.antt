@@ -1,23 +1,25 @@
--- What rests: the timer of an effect that is not in Delayed and the first-out of one in Normal are 0, so where no effect is in
--- Delayed, or none enters or leaves Normal, there is nothing to change.
+-- What rests: the timer of an effect that is not in Delayed and the first-out of one in Normal are 0, so timers change only
+-- where an effect is in Delayed before or after, and first-outs only where one enters or leaves Normal.
 use mathlib.Core.Path.{_≡_, refl, ap, sym, _∙_}
-use mathlib.Core.Bool.{Bool, true, false, cond}
-use mathlib.Core.List.{List, _++_}
-use Prim.Native.Nat.{ℕ, zero, suc, _+_, _-_, _*_, _/_, _%_, _^_, min, _<_, _≤_}
-use native.Mathlib.Nat.{zero-div, le-div-iff-mul-le, le-trans, mul-le-mul}
+use mathlib.Core.Bool.{Bool, true, false, cond, _||_, xor, false≢true}
+use mathlib.Core.List.{List, _++_, append-assoc}
+use Prim.Native.Nat.{ℕ, zero, suc, _+_, _-_, _*_, _/_, _^_, min, _<_, _≤_}
+use native.Mathlib.Nat.{le-div-iff-mul-le, le-trans, mul-le-mul}
+use native.Mathlib.Numerals.{add-one}
 use native.Mathlib.Omega.{arith}
-use borrow.Author.Tests.{eqb-true}
-use lib.Dec.{eqb}
+use lib.Bits.{bitAnd, bitOr, bitXor, or-lt, xor-lt}
+use lib.Count.{trailingZeros}
 use lib.ListN.{drop, set, getD, length, take-append-drop, length-append, List·getD-append}
 use lib.Seq.{drop-cons, getD-at}
 use Rattle.bits.specs.Lists.{tabulate}
 use Rattle.bits.specs.Words.{bitOf, wordOf}
-use Rattle.bits.proofs.Lists.{length-tabulate, tabulate-ext, tabulate-take, getD-tabulate, fill}
+use Rattle.bits.proofs.Lists.{length-tabulate, tabulate-more, tabulate-ext, tabulate-take, getD-tabulate, fill}
+use Rattle.bits.proofs.Words.{bit-or}
 use Rattle.planes.specs.declared.Asked.{Asked}
-use Rattle.planes.specs.declared.Planes.{Planes}
 use Rattle.planes.specs.declared.Table.{Table}
-use Rattle.planes.specs.Planes.{planesAfter, changedOf}
+use Rattle.planes.specs.Planes.{planesAfter}
 use Rattle.planes.specs.Table.{activeIn, dueAt, timerBy, firstBy, Still, Blank, Settled, tableAfter, lowTo, tableLater}
+use Rattle.planes.proofs.Bits.{Rests, Done, no-bit, bit-xor, again, below, before-it, is-set}
 
 -- ## Filled anew
 
@@ -38,61 +40,83 @@ rest-at : (f : ℕ → ℕ) (xs : List ℕ) (i : ℕ) → i < length xs → getD
 rest-at f xs i h = ap (λ (l : List ℕ). getD (tabulate f i ++ l) i 0) (drop-cons xs i 0 h) ∙ getD-at (tabulate f i) (getD xs i 0) _ 0 i (length-tabulate f i)
 
 -- one place more is filled, with what was made of what stood there
-pub refill : (f : ℕ → ℕ) (xs now : List ℕ) (i v : ℕ) → i < length xs → now ≡ tabulate f i ++ drop i xs → (getD now i 0 ≡ getD xs i 0 → v ≡ f i)
+refill : (f : ℕ → ℕ) (xs now : List ℕ) (i v : ℕ) → i < length xs → now ≡ tabulate f i ++ drop i xs → (getD now i 0 ≡ getD xs i 0 → v ≡ f i)
     → set now i v ≡ tabulate f (i + 1) ++ drop (i + 1) xs
 refill f xs now i v h e g =
     let was : getD now i 0 ≡ getD xs i 0 = ap (λ (l : List ℕ). getD l i 0) e ∙ rest-at f xs i h in
     (λ j. set (e j) i (g was j)) ∙ fill f xs i 0 h
 
--- no bit of 0 is set
-no-bit : (w i : ℕ) → w ≡ 0 → bitOf w i ≡ false
-no-bit w i e = rw (e, zero-div (2 ^ i))
+-- ## Filled at the set bits of a word
+
+-- a place that keeps what stood there
+kept-at : (f : ℕ → ℕ) (xs : List ℕ) (i : ℕ) → i < length xs → f i ≡ getD xs i 0 → tabulate f (i + 1) ++ drop (i + 1) xs ≡ tabulate f i ++ drop i xs
+kept-at f xs i h e = rw (drop-cons xs i 0 h, tabulate-more, append-assoc, add-one, e)
+
+module _ (n word : ℕ) (f : ℕ → ℕ) (xs : List ℕ) (long : n ≤ length xs) where
+  -- the first m are filled
+  abbrev upTo : ℕ → List ℕ
+  upTo m = tabulate f m ++ drop m xs
+
+  fills : n ≤ 16 → word < 2 ^ n → ((i : ℕ) → i < n → bitOf word i ≡ false → f i ≡ getD xs i 0) → Rests n word upTo
+  fills few inside keeps = record { few = few; inside = inside; same = λ i h e. kept-at f xs i (omega (arith, h, long)) (keeps i h e) }
+
+  -- a store at the next one, of what was made of what stood there
+  pub stored : {now : List ℕ} {rest : ℕ} → Done n word upTo now rest → 0 < rest → (v : ℕ)
+      → (bitOf word (trailingZeros 16 rest) ≡ true → getD now (trailingZeros 16 rest) 0 ≡ getD xs (trailingZeros 16 rest) 0 → v ≡ f (trailingZeros 16 rest))
+      → Done n word upTo (set now (trailingZeros 16 rest) v) (bitAnd rest (rest - 1))
+  stored {now} {rest} d more v e =
+      again n word upTo d more
+      (refill f xs now (trailingZeros 16 rest) v (omega (arith, below n word upTo d more, long)) (before-it n word upTo d more) (e (is-set n word upTo d more)))
 
 -- ## Nothing to change
 
-pub timers-rest : (n : ℕ) (timers delays : List ℕ) (period was is : ℕ) → Still n was timers → was ≡ 0 → is ≡ 0
-    → timers ≡ tabulate (timerBy timers delays period was is) n ++ drop n timers
-timers-rest n timers delays period was is still e f =
-    filled-same _ n timers (still .long) (λ i k. ap (λ (b : Bool). cond b (cond (bitOf was i) (getD timers i 0 - period) (getD delays i 0)) 0) (no-bit is i f) ∙ sym (still .none i k (no-bit was i e)))
+or-none : (a b : Bool) → (a || b) ≡ false → (a ≡ false) × (b ≡ false)
+or-none true b e = absurd (false≢true (sym e))
+or-none false b e = (refl, e)
 
-as-it-was : (a f : ℕ) (b : Bool) → (b ≡ true → f ≡ 0) → cond b 0 (cond b a f) ≡ f
-as-it-was a f true g = sym (g refl)
-as-it-was a f false g = refl
+pub timers-rest : (n : ℕ) (timers delays : List ℕ) (period was is : ℕ) → n ≤ 16 → was < 2 ^ n → is < 2 ^ n → Still n was timers
+    → Rests n (bitOr was is) (λ m. tabulate (timerBy timers delays period was is) m ++ drop m timers)
+timers-rest n timers delays period was is few hw hi still =
+    fills n (bitOr was is) (timerBy timers delays period was is) timers (still .long) few (or-lt n was is hw hi)
+    (λ i k e.
+    let b = or-none (bitOf was i) (bitOf is i) (sym (bit-or was is i) ∙ e) in
+    ap (λ (t : Bool). cond t (cond (bitOf was i) (getD timers i 0 - period) (getD delays i 0)) 0) (b .1) ∙ sym (still .none i k (b .0)))
 
-pub firsts-rest : (n : ℕ) (firsts causes : List ℕ) (tripped was is : ℕ) → Blank n was firsts → was ≡ is
-    → firsts ≡ tabulate (firstBy firsts causes tripped was is) n ++ drop n firsts
-firsts-rest n firsts causes tripped was is blank e =
-    rw (← e) (filled-same (firstBy firsts causes tripped was was) n firsts (blank .long) (λ i k. as-it-was (activeIn causes tripped i) (getD firsts i 0) (bitOf was i) (blank .none i k)))
+-- an effect that neither enters nor leaves keeps its first-out
+keeps-first : (a f : ℕ) (was is : Bool) → xor was is ≡ false → (was ≡ true → f ≡ 0) → cond is 0 (cond was a f) ≡ f
+unfolding xor
+keeps-first a f true true e g = sym (g refl)
+keeps-first a f true false e g = absurd (false≢true (sym e))
+keeps-first a f false true e g = absurd (false≢true (sym e))
+keeps-first a f false false e g = refl
 
-pub later-rest : (n k period delayed : ℕ) (timers : List ℕ) → Still n delayed timers → delayed ≡ 0
-    → timers ≡ tabulate (λ i. getD timers i 0 - k * period) n ++ drop n timers
-later-rest n k period delayed timers still e = filled-same _ n timers (still .long) (λ i l. let z = still .none i l (no-bit delayed i e) in omega (arith, z))
+-- and one that does needs no look at it
+pub new-first : (a f : ℕ) (was is : Bool) → xor was is ≡ true → cond is 0 a ≡ cond is 0 (cond was a f)
+unfolding xor
+new-first a f true is e = refl
+new-first a f false true e = refl
+new-first a f false false e = absurd (false≢true e)
+
+pub firsts-rest : (n : ℕ) (firsts causes : List ℕ) (tripped was is : ℕ) → n ≤ 16 → was < 2 ^ n → is < 2 ^ n → Blank n was firsts
+    → Rests n (bitXor was is) (λ m. tabulate (firstBy firsts causes tripped was is) m ++ drop m firsts)
+firsts-rest n firsts causes tripped was is few hw hi blank =
+    fills n (bitXor was is) (firstBy firsts causes tripped was is) firsts (blank .long) few (xor-lt n was is hw hi)
+    (λ i k e. keeps-first (activeIn causes tripped i) (getD firsts i 0) (bitOf was i) (bitOf is i) (sym (bit-xor was is i) ∙ e) (blank .none i k))
+
+pub later-rest : (n k period delayed : ℕ) (timers : List ℕ) → n ≤ 16 → delayed < 2 ^ n → Still n delayed timers
+    → Rests n delayed (λ m. tabulate (λ i. getD timers i 0 - k * period) m ++ drop m timers)
+later-rest n k period delayed timers few inside still =
+    fills n delayed (λ i. getD timers i 0 - k * period) timers (still .long) few inside (λ i l e. let z = still .none i l e in omega (arith, z))
 
 pub later-none : (n k period : ℕ) (timers : List ℕ) → n ≤ length timers → k ≡ 0 → timers ≡ tabulate (λ i. getD timers i 0 - k * period) n ++ drop n timers
 later-none n k period timers h e = rw e (filled-same _ n timers h (λ i l. omega arith))
-
-empty : (w : Asked) (p : Planes) (d : ℕ) → p .delayed ≡ 0 → planesAfter w 0 p ≡ planesAfter w d p
-unfolding planesAfter
-empty w p d e = rw e
-
--- where no effect is in Delayed, whatever is due
-pub none-due : (w : Asked) (p : Planes) (d : ℕ) → planesAfter w (cond (eqb (p .delayed) 0) 0 d) p ≡ planesAfter w d p
-none-due w p d = go (eqb (p .delayed) 0) refl
-  where
-    go : (b : Bool) → eqb (p .delayed) 0 ≡ b → planesAfter w (cond b 0 d) p ≡ planesAfter w d p
-    go true e = empty w p d (eqb-true (p .delayed) 0 e)
-    go false e = refl
-
--- so the effects that change are those of what is due
-pub changed-due : (w : Asked) (p q : Planes) (d due ch : ℕ) → due ≡ cond (eqb (p .delayed) 0) 0 d → q ≡ planesAfter w due p → ch ≡ changedOf p q → changedOf p (planesAfter w d p) ≡ ch
-changed-due w p q d due ch e f g = sym (g ∙ ap (changedOf p) (f ∙ ap (λ (n : ℕ). planesAfter w n p) e ∙ none-due w p d))
 
 no-least : (delayed : ℕ) (timers : List ℕ) → delayed ≡ 0 → (n : ℕ) → lowTo (bitOf delayed) (λ i. getD timers i 0) n ≡ 4294967295
 unfolding lowTo
 no-least delayed timers e zero = refl
 no-least delayed timers e (suc n) = rw (no-bit delayed n e) (no-least delayed timers e n)
 
--- and no timer is the least: every scan that is left is skipped
+-- where no effect is in Delayed, no timer is the least: every scan that is left is skipped
 pub none-low : (m period delayed n : ℕ) (timers : List ℕ) → m ≤ 1000000 → 0 < period → period ≤ 1000 → delayed ≡ 0
     → min m ((lowTo (bitOf delayed) (λ i. getD timers i 0) n - 1) / period) ≡ m
 none-low m period delayed n timers most pos short e =
@@ -101,14 +125,14 @@ none-low m period delayed n timers most pos short e =
 
 -- ## What a scan and a skip leave rests
 
-pub still-after : (n : ℕ) (timers delays : List ℕ) (period was is : ℕ) → Still n is (tabulate (timerBy timers delays period was is) n ++ drop n timers)
+still-after : (n : ℕ) (timers delays : List ℕ) (period was is : ℕ) → Still n is (tabulate (timerBy timers delays period was is) n ++ drop n timers)
 still-after n timers delays period was is =
     record {
       long = filled-long _ n timers;
       none = λ i k e. filled-at _ n timers i k ∙ ap (λ (t : Bool). cond t (cond (bitOf was i) (getD timers i 0 - period) (getD delays i 0)) 0) e;
     }
 
-pub blank-after : (n : ℕ) (firsts causes : List ℕ) (tripped was is : ℕ) → Blank n is (tabulate (firstBy firsts causes tripped was is) n ++ drop n firsts)
+blank-after : (n : ℕ) (firsts causes : List ℕ) (tripped was is : ℕ) → Blank n is (tabulate (firstBy firsts causes tripped was is) n ++ drop n firsts)
 blank-after n firsts causes tripped was is =
     record {
       long = filled-long _ n firsts;

@@ -11,6 +11,7 @@ use lib.Seq.{sets, length-sets}
 use Rattle.bits.specs.Lists.{tabulate}
 use Rattle.bits.specs.Words.{bitOf, wordOf, one}
 use Rattle.bits.proofs.Lists.{length-tabulate, map-tabulate}
+use Rattle.bits.proofs.Words.{wordOf-lt}
 use Rattle.rules.specs.declared.Slot.{Slot}
 use Rattle.rules.specs.declared.Signals.{Signals}
 use Rattle.rules.specs.Rules.{noSlot, asks, moved, next}
@@ -26,7 +27,7 @@ use Rattle.planes.specs.declared.Asked.{Asked}
 use Rattle.planes.specs.declared.Board.{Board}
 use Rattle.planes.specs.declared.Table.{Table}
 use Rattle.planes.specs.Planes.{planesOf, changedOf}
-use Rattle.planes.specs.Table.{Settled, tableOf, tableAfter, tableLater, askedOf, quietsBy, slotsOf, padded, joined, entriesTo}
+use Rattle.planes.specs.Table.{Settled, Within, tableOf, tableAfter, tableLater, askedOf, quietsBy, slotsOf, padded, joined, entriesTo}
 use Rattle.planes.specs.Board.{entriesOf, scanned, later, unset, signalsBy, signalsIn, runOf, Right, boardOf}
 use Rattle.planes.proofs.ByWord.{changed-word}
 use Rattle.planes.proofs.Step.{Sees, table-step, table-middle}
@@ -124,6 +125,11 @@ module _ (n : ℕ) (few : n ≤ 16) (causes delays : List ℕ) (period tripped :
   unfolding later
   skip-word k = board-path refl refl refl (later-word n few s xs long causes delays period tripped sees k)
 
+-- the words show no other effects
+within-shown : (n : ℕ) (p : Progress) → Within n (boardOf n p .table .planes)
+unfolding tableOf planesOf
+within-shown n p = (wordOf-lt _ n, wordOf-lt _ n)
+
 -- ## The loop
 
 timed-snoc : (ss : List Signals) (s : Signals) → Timed ss → (0 < s .period) × (s .period ≤ 1000) → Timed (ss ++ (s ∷ []))
@@ -216,10 +222,10 @@ module _ (n : ℕ) (few : n ≤ 16) (causes delays : List ℕ) (period tripped :
           going = going-then;
         })
 
-    fits-then : 24 * n ≤ length buf₀ → p .at + 12 * length (entriesOf n causes delays period tripped W (boardOf n p)) ≤ length buf
+    fits-then : 12 * length (held first hold (runOf n x₀) .events) ≤ length buf₀ → p .at + 12 * length (entriesOf n causes delays period tripped W (boardOf n p)) ≤ length buf
     fits-then v =
         rw (count-word n few causes delays period tripped s sees p long small)
-        (fit hold first (x₀ .done) (x₀ .next) (slotsOf n (x₀ .table)) buf₀ g more (rw length-tabulate v))
+        (fit hold first (x₀ .done) (x₀ .next) (slotsOf n (x₀ .table)) buf₀ g more v)
 
   module _ {w : Asked} {x : Board} {buf : List ℕ} {left fuel : ℕ} (h : Kept-now w x buf left fuel) where
     pub as-long : length buf ≡ length buf₀
@@ -231,8 +237,17 @@ module _ (n : ℕ) (few : n ≤ 16) (causes delays : List ℕ) (period tripped :
     pub live-fits : x .live + left ≤ 1000000
     live-fits = rw (h .shown) (h .going .few)
 
+    -- before a scan and after it
+    pub within : Within n (x .table .planes)
+    within = rw (h .shown) (within-shown n (h .p))
+
+    pub within-then : Within n (scanned n causes delays period tripped w x .table .planes)
+    within-then =
+        rw (h .shown, h .asked, scan-word n few causes delays period tripped (h .s) (h .sees) (h .p) (h .long) (h .small))
+        (within-shown n (scannedRun (tabulate (h .s) n) (h .p)))
+
     module _ (more : 0 < left) where
-      pub fits : 24 * n ≤ length buf₀ → x .at + 12 * length (entriesOf n causes delays period tripped w x) ≤ length buf
+      pub fits : 12 * length (held first hold (runOf n x₀) .events) ≤ length buf₀ → x .at + 12 * length (entriesOf n causes delays period tripped w x) ≤ length buf
       fits v = rw (h .shown, h .asked) (fits-then (h .s) (h .sees) (h .p) (h .long) (h .small) (h .going) more v)
 
       -- a turn of the loop, by what the calls in it ensure

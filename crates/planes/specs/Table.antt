@@ -1,7 +1,7 @@
 -- What is kept of all effects by words, and a scan of it. No entry point's contract cites this page.
 use mathlib.Core.Path.{_≡_}
 use Prim.Native.Nat.{ℕ, zero, suc, _+_, _-_, _*_, _/_, _%_, _^_, _<_, _≤_, min}
-use mathlib.Core.Bool.{Bool, true, false, cond}
+use mathlib.Core.Bool.{Bool, true, false, cond, _&&_}
 use mathlib.Core.List.{List, [], _∷_, _++_}
 use lib.Bits.{bitAnd}
 use lib.Dec.{leb, ltb, eqb}
@@ -29,6 +29,10 @@ activeAt causes tripped i = ltb 0 (activeIn causes tripped i)
 
 abbrev pub dueAt : (timers : List ℕ) (period : ℕ) → ℕ → Bool
 dueAt timers period i = leb (getD timers i 0) period
+
+-- the same of the effects in Delayed alone
+abbrev pub dueIn : (timers : List ℕ) (period delayed : ℕ) → ℕ → Bool
+dueIn timers period delayed i = bitOf delayed i && dueAt timers period i
 
 -- the timer of effect i after a scan. was, is: the effects in Delayed before it and after it
 abbrev pub timerBy : (timers delays : List ℕ) (period was is : ℕ) → ℕ → ℕ
@@ -62,6 +66,10 @@ pub record Blank (n normal : ℕ) (firsts : List ℕ) : Type 0 where
 pub record Settled (n : ℕ) (b : Table) : Type 0 where
   pub still : Still n (b .planes .delayed) (b .timers)
   pub blank : Blank n (b .planes .normal) (b .firsts)
+
+-- only the first n effects are in Delayed or in Normal
+abbrev pub Within : ℕ → Planes → Type 0
+Within n p = (p .delayed < 2 ^ n) × (p .normal < 2 ^ n)
 
 -- ## The slots and what is asked, as words
 

@@ -8,7 +8,6 @@ ghost use mathlib.Core.Bool.{cond};
 ghost use mathlib.Core.List.{[], _∷_, _++_};
 ghost use Prim.Native.Nat.{_+_, _-_, _*_, _/_, _%_, _^_, _<_, _≤_, min};
 ghost use lib.Count.{trailingZeros};
-ghost use lib.Dec.{eqb};
 ghost use lib.ListN.{drop, getD, length, replicate};
 ghost use lib.Seq.{sets};
 ghost use Rattle.bits.specs.Lists.{tabulate};
@@ -18,7 +17,7 @@ ghost use Rattle.rules.specs.Rules.{noSlot, same};
 ghost use Rattle.effects.specs.Records.{bytes};
 ghost use Rattle.rounds.specs.Steps.{held, progressOf};
 ghost use Rattle.planes.specs.Planes.{planesAfter, changedOf, oneOf, codeAt, stateAt};
-ghost use Rattle.planes.specs.Table.{activeAt, dueAt, timerBy, firstBy, Still, Blank, Settled, lowTo, quietsBy, entriesTo, joined, tableOf, slotAt, slotsOf};
+ghost use Rattle.planes.specs.Table.{activeAt, dueIn, timerBy, firstBy, Still, Blank, Settled, Within, lowTo, quietsBy, entriesTo, joined, tableOf, slotAt, slotsOf};
 ghost use Rattle.planes.specs.Board.{boardAt, markOf, entriesOf, scanned, unset as unsetOf, begun, Right, signalsIn, runOf, boardOf};
 use rules::EffectState;
 use rules::Slot;
@@ -123,29 +122,19 @@ pub fn active_word(count: usize, causes: &[u16; 16], tripped: u16) -> u16
     word
 }
 
-// The effects whose timer is at most the period.
-fn due_word(count: usize, timers: &[u32; 16], period: u32) -> u16
-    requires { ⌜ count ≤ 16 ⌝ }
-    ensures { λ r. ⌜ r ≡ wordOf (dueAt (now (timers .entry)) period) count ⌝ }
+// The effects in Delayed whose timer is at most the period: nothing asks for it elsewhere.
+fn due_of(count: usize, timers: &[u32; 16], period: u32, delayed: u16) -> u16
+    requires { ⌜ (count ≤ 16) × (delayed < 2 ^ count) ⌝ }
+    ensures { λ r. ⌜ r ≡ wordOf (dueIn (now (timers .entry)) period delayed) count ⌝ }
 {
     let mut word: u16 = 0;
-    let mut i: usize = 0;
-    while i < count {
+    let mut rest = delayed;
+    while 0 < rest {
+        let i = lowest(rest);
         word = bits::put_bit(word, i, timers[i] <= period);
-        i += 1;
+        rest &= rest - 1;
     }
     word
-}
-
-// The same where some effect is in Delayed: nothing asks for it elsewhere.
-fn due_of(count: usize, timers: &[u32; 16], period: u32, delayed: u16) -> u16
-    requires { ⌜ count ≤ 16 ⌝ }
-    ensures { λ r. ⌜ r ≡ cond (eqb delayed 0) 0 (wordOf (dueAt (now (timers .entry)) period) count) ⌝ }
-{
-    if delayed == 0 {
-        return 0;
-    }
-    due_word(count, timers, period)
 }
 
 // ---- timers and first-outs
@@ -171,14 +160,12 @@ fn set_timers(
     was: u16,
     is: u16,
 )
-    requires { ⌜ (count ≤ 16) × Still count was (now timers) ⌝ }
+    requires { ⌜ (count ≤ 16) × (was < 2 ^ count) × (is < 2 ^ count) × Still count was (now timers) ⌝ }
     ensures { λ _. ⌜ now (timers .exit) ≡ tabulate (timerBy (now (timers .entry)) (now (delays .entry)) period was is) count ++ drop count (now (timers .entry)) ⌝ }
 {
-    if (was == 0) & (is == 0) {
-        return;
-    }
-    let mut i: usize = 0;
-    while i < count {
+    let mut rest = was | is;
+    while 0 < rest {
+        let i = lowest(rest);
         let t = timers[i];
         let d = delays[i];
         timers[i] = pick32(
@@ -186,7 +173,7 @@ fn set_timers(
             pick32(bits::bit(was, i), rules::less(t, period), d),
             0,
         );
-        i += 1;
+        rest &= rest - 1;
     }
 }
 
@@ -199,22 +186,15 @@ fn set_firsts(
     was: u16,
     is: u16,
 )
-    requires { ⌜ (count ≤ 16) × Blank count was (now firsts) ⌝ }
+    requires { ⌜ (count ≤ 16) × (was < 2 ^ count) × (is < 2 ^ count) × Blank count was (now firsts) ⌝ }
     ensures { λ _. ⌜ now (firsts .exit) ≡ tabulate (firstBy (now (firsts .entry)) (now (causes .entry)) tripped was is) count ++ drop count (now (firsts .entry)) ⌝ }
 {
-    if was == is {
-        return;
-    }
-    let mut i: usize = 0;
-    while i < count {
-        let f = firsts[i];
+    let mut rest = was ^ is;
+    while 0 < rest {
+        let i = lowest(rest);
         let c = causes[i];
-        firsts[i] = pick16(
-            bits::bit(is, i),
-            0,
-            pick16(bits::bit(was, i), c & tripped, f),
-        );
-        i += 1;
+        firsts[i] = pick16(bits::bit(is, i), 0, c & tripped);
+        rest &= rest - 1;
     }
 }
 
@@ -228,21 +208,22 @@ fn least(a: u32, b: u32) -> u32
 
 // The least timer of the effects in Delayed.
 fn low_timer(count: usize, timers: &[u32; 16], delayed: u16) -> u32
-    requires { ⌜ count ≤ 16 ⌝ }
+    requires { ⌜ (count ≤ 16) × (delayed < 2 ^ count) ⌝ }
     ensures { λ r. ⌜ r ≡ lowTo (bitOf delayed) (λ i. getD (now (timers .entry)) i 0) count ⌝ }
 {
     let mut low: u32 = 4294967295;
-    let mut i: usize = 0;
-    while i < count {
-        low = pick32(bits::bit(delayed, i), least(low, timers[i]), low);
-        i += 1;
+    let mut rest = delayed;
+    while 0 < rest {
+        let i = lowest(rest);
+        low = least(low, timers[i]);
+        rest &= rest - 1;
     }
     low
 }
 
 // How many of the next n scans leave every state as it is.
 fn quiets(n: u32, count: usize, period: u32, w: Asked, p: Planes, timers: &[u32; 16]) -> u32
-    requires { ⌜ (count ≤ 16) × (n ≤ 1000000) × (0 < period) × (period ≤ 1000) ⌝ }
+    requires { ⌜ (count ≤ 16) × (n ≤ 1000000) × (0 < period) × (period ≤ 1000) × (p .delayed < 2 ^ count) ⌝ }
     ensures { λ r. ⌜ r ≡ quietsBy n count period w p (now (timers .entry)) ⌝ }
 {
     if n == 0 {
@@ -264,21 +245,19 @@ fn quiets(n: u32, count: usize, period: u32, w: Asked, p: Planes, timers: &[u32;
 
 // The timers after k such scans, in place.
 fn timers_later(k: u32, count: usize, period: u32, timers: &mut [u32; 16], delayed: u16)
-    requires { ⌜ (count ≤ 16) × (k ≤ 1000000) × (period ≤ 1000) × Still count delayed (now timers) ⌝ }
+    requires { ⌜ (count ≤ 16) × (k ≤ 1000000) × (period ≤ 1000) × (delayed < 2 ^ count) × Still count delayed (now timers) ⌝ }
     ensures { λ _. ⌜ now (timers .exit) ≡ tabulate (λ i. getD (now (timers .entry)) i 0 - k * period) count ++ drop count (now (timers .entry)) ⌝ }
 {
     if k == 0 {
         return;
     }
-    if delayed == 0 {
-        return;
-    }
     let by = k * period;
-    let mut i: usize = 0;
-    while i < count {
+    let mut rest = delayed;
+    while 0 < rest {
+        let i = lowest(rest);
         let t = timers[i];
         timers[i] = rules::less(t, by);
-        i += 1;
+        rest &= rest - 1;
     }
 }
 
@@ -305,7 +284,8 @@ fn code_at(p: Planes, i: usize) -> u8
 
 // The lowest set bit of a word that is not 0.
 fn lowest(w: u16) -> usize
-    ensures { λ r. ⌜ r ≡ trailingZeros 16 w ⌝ }
+    requires { ⌜ 0 < w ⌝ }
+    ensures { λ r. ⌜ (r ≡ trailingZeros 16 w) × (r < 16) ⌝ }
 {
     u16::trailing_zeros(w) as usize
 }
@@ -376,7 +356,7 @@ fn scan(
     timers: &mut [u32; 16],
     firsts: &mut [u16; 16],
 ) -> Mark
-    requires { ⌜ (count ≤ 16) × (x .done < 1000000000) × (x .live < 1000000) × Settled count (boardAt x (now timers) (now firsts) .table) × (x .at + 12 * length (entriesOf count (now causes) (now delays) period tripped w (boardAt x (now timers) (now firsts))) ≤ length (now buf)) ⌝ }
+    requires { ⌜ (count ≤ 16) × (x .done < 1000000000) × (x .live < 1000000) × Settled count (boardAt x (now timers) (now firsts) .table) × Within count (x .planes) × Within count (scanned count (now causes) (now delays) period tripped w (boardAt x (now timers) (now firsts)) .table .planes) × (x .at + 12 * length (entriesOf count (now causes) (now delays) period tripped w (boardAt x (now timers) (now firsts))) ≤ length (now buf)) ⌝ }
     ensures { λ r. ⌜ (boardAt r (now (timers .exit)) (now (firsts .exit)) ≡ scanned count (now (causes .entry)) (now (delays .entry)) period tripped w (boardAt x (now (timers .entry)) (now (firsts .entry)))) × (now (buf .exit) ≡ sets (now (buf .entry)) (x .at) (joined (entriesOf count (now (causes .entry)) (now (delays .entry)) period tripped w (boardAt x (now (timers .entry)) (now (firsts .entry)))))) ⌝ }
 {
     let was = x.planes;
@@ -449,7 +429,7 @@ pub fn stroke(
     timers: &mut [u32; 16],
     firsts: &mut [u16; 16],
 ) -> Mark
-    requires { ⌜ (count ≤ 16) × (hold ≤ 1000000) × (0 < period) × (period ≤ 1000) × (from .done + hold ≤ 1000000000) × Right count (now causes) (now delays) period tripped asked (boardAt from (now timers) (now firsts)) × (24 * count ≤ length (now buf)) ⌝ }
+    requires { ⌜ (count ≤ 16) × (hold ≤ 1000000) × (0 < period) × (period ≤ 1000) × (from .done + hold ≤ 1000000000) × Right count (now causes) (now delays) period tripped asked (boardAt from (now timers) (now firsts)) × (12 * length (held (signalsIn count (now causes) (now delays) period tripped asked) hold (runOf count (boardAt from (now timers) (now firsts))) .events) ≤ length (now buf)) ⌝ }
     ensures { λ r. ⌜ (boardAt r (now (timers .exit)) (now (firsts .exit)) ≡ boardOf count (progressOf (held (signalsIn count (now (causes .entry)) (now (delays .entry)) period tripped asked) hold (runOf count (boardAt from (now (timers .entry)) (now (firsts .entry))))))) × (now (buf .exit) ≡ sets (now (buf .entry)) 0 (bytes (held (signalsIn count (now (causes .entry)) (now (delays .entry)) period tripped asked) hold (runOf count (boardAt from (now (timers .entry)) (now (firsts .entry)))) .events))) ⌝ }
 {
     let mut w = asked;

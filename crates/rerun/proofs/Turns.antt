@@ -7,10 +7,9 @@ use native.Mathlib.Numerals.{add-one}
 use native.Mathlib.Omega.{arith}
 use borrow.Author.Tests.{leb-true}
 use lib.Dec.{leb}
-use lib.ListN.{length, take, length-append}
+use lib.ListN.{length, length-append}
 use lib.Seq.{sets, length-sets}
 use Rattle.effects.specs.Records.{bytes}
-use Rattle.effects.proofs.Records.{front-bytes}
 use Rattle.settings.specs.declared.Row.{Row}
 use Rattle.settings.specs.declared.Settings.{Settings}
 use Rattle.settings.specs.Limits.{mostScans}
@@ -40,7 +39,7 @@ use Rattle.rerun.specs.declared.Tally.{Tally}
 use Rattle.rerun.specs.declared.Totals.{Totals}
 use Rattle.rerun.specs.declared.Turn.{Turn}
 use Rattle.rerun.specs.Replay.{Replay, Outcome, whole, joined, refusedAt, started, replay, answered, firstRows, rowOf, rowPlace, rowRun}
-use Rattle.rerun.specs.Turn.{tallyAfter, totalsWith, turnWith, tallyOf, answerBy, totalsAt, totalsOf, totalsAfter, Going, turnOf, turnInto}
+use Rattle.rerun.specs.Turn.{Fits, tallyAfter, totalsWith, turnWith, tallyOf, answerBy, totalsAt, totalsOf, totalsAfter, Going, turnOf, turnInto}
 use Rattle.rerun.proofs.Rows.{unless-refuses, granted-none, granted-refused, granted-either}
 use Rattle.rerun.proofs.Files.{no-rows, one-row-more, ends-at-refusal, all-the-rows, whole-so-far, counted, settings-right, row-right, few-rows, sound, sound-next, scans-next, records-next}
 
@@ -109,10 +108,6 @@ module _ (s : List ℕ) (st : Settings) (width : ℕ) (t : Totals) (g : Going s 
   count-is : st .count ≡ n
   count-is = ap (λ (z : Settings). z .count) (g .settings)
 
-  -- 384 bytes hold the records of any row
-  pub row-fits : 24 * st .count ≤ 384
-  row-fits = omega (arith, count-is, count-few (reading s .settings) (settings-right s (g .accepted)))
-
   -- the words show the slots of the state
   slots-shown : slotsOf n (tableOf n (so-far .state .slots)) ≡ so-far .state .slots
   slots-shown =
@@ -172,6 +167,10 @@ module _ (s : List ℕ) (st : Settings) (width : ℕ) (t : Totals) (g : Going s 
     number-next : firstRows s (t .rows + 1) .number ≡ next-number
     number-next = ap (λ (o : Outcome). o .number) next-is ∙ granted-number next-number (rowPlace s (t .rows)) (joined so-far (rowRun s (t .rows))) so-far
 
+    -- where it runs, its records fit in 384 bytes, two an effect
+    pub fits-any : Fits s (t .rows) 384
+    fits-any none = omega (arith, records-next s (g .accepted) (t .rows) more (sym number-next ∙ none), count-few (reading s .settings) (settings-right s (g .accepted)))
+
     -- ## What a caller has after it
 
     module _ (u : Turn) (is : u ≡ turnOf s (t .rows)) where
@@ -194,15 +193,9 @@ module _ (s : List ℕ) (st : Settings) (width : ℕ) (t : Totals) (g : Going s 
         pub one-row : u .totals .rows ≡ t .rows + 1
         one-row = ap (λ (v : Turn). v .totals .rows) is ∙ counted s (t .rows + 1) (omega (arith, more)) next-none
 
-        -- its records, and their bytes at the front of the lent ones
+        -- its records
         pub records-are : u .records ≡ length (rowRun s (t .rows) .events)
         records-are = ap (λ (v : Turn). v .records) is ∙ granted-none (length (rowRun s (t .rows) .events)) (λ k. 0) (firstRows s (t .rows + 1) .number) next-none
-
-        pub bytes-are : (buf : List ℕ) → 24 * st .count ≤ length buf → take (12 * u .records) (turnInto s (t .rows) buf) ≡ bytes (rowRun s (t .rows) .events)
-        bytes-are buf l =
-            let es = rowRun s (t .rows) .events in
-            rw (records-are, granted-none (sets buf 0 (bytes es)) (λ k. buf) (firstRows s (t .rows + 1) .number) next-none)
-            (front-bytes es buf (omega (arith, l, count-is, records-next s (g .accepted) (t .rows) more (sym from-number ∙ z))))
 
         pub goes-on : Going s st width (u .totals)
         goes-on =
@@ -288,6 +281,10 @@ module _ (s : List ℕ) (st : Settings) (width : ℕ) (t : Totals) (g : Going s 
 
         granted-is : firstRows s (t .rows + 1) ≡ whole (joined so-far (rowRun s (t .rows)))
         granted-is = next-granted (sym same-number ∙ z)
+
+        -- its records fit where those of the row do
+        pub run-fits : (room : ℕ) → Fits s (t .rows) room → 12 * length (run st row shown .events) ≤ room
+        run-fits room f = rw run-is (f (ap (λ (o : Outcome). o .number) granted-is))
 
         module _ (ran : KeptWords) (ran-is : ran ≡ keptOf (st .count) (run st row shown)) where
           ran-row : ran ≡ keptOf n (rowRun s (t .rows))

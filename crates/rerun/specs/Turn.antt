@@ -1,6 +1,7 @@
 -- What the code carries from row to row, and what one row more comes to. No entry point's contract
 -- cites this page.
-use Prim.Native.Nat.{ℕ, _+_, _≤_}
+use Prim.Native.Nat.{ℕ, _+_, _*_, _≤_}
+use mathlib.Core.Bool.{Bool, cond}
 use mathlib.Core.Path.{_≡_}
 use mathlib.Core.List.{List}
 use lib.ListN.{length}
@@ -20,7 +21,7 @@ use Rattle.rerun.specs.declared.Went.{Went}
 use Rattle.rerun.specs.declared.Turn.{Turn}
 use Rattle.rerun.specs.declared.Replayed.{Replayed}
 use Rattle.rerun.specs.declared.Stop.{Stop}
-use Rattle.rerun.specs.Replay.{Replay, Outcome, firstRows, rowPlace, rowRun}
+use Rattle.rerun.specs.Replay.{Replay, Outcome, replay, firstRows, rowPlace, rowRun}
 
 -- a fresh state of n effects, by their words
 abbrev pub totalsAt : (n first : ℕ) → Totals
@@ -89,6 +90,16 @@ turnOf s i =
 -- the lent bytes after it
 abbrev pub turnInto : List ℕ → ℕ → List ℕ → List ℕ
 turnInto s i buf = granted (firstRows s (i + 1) .number) (sets buf 0 (bytes (rowRun s i .events))) (λ n. buf)
+
+-- ## Room
+
+-- the records of row i fit, if it runs
+abbrev pub Fits : List ℕ → (i room : ℕ) → Type 0
+Fits s i room = firstRows s (i + 1) .number ≡ 0 → 12 * length (rowRun s i .events) ≤ room
+
+-- the room of all rows: that of their records where they are kept, one after the other, and else that of any one row
+abbrev pub roomOf : List ℕ → (keep : Bool) → ℕ
+roomOf s keep = cond keep (12 * length (replay s .replay .events)) 384
 
 -- ## Where the timers and first-outs are lent
 

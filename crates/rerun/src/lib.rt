@@ -4,14 +4,17 @@
 // `Tally`) may change without moving the contract of `replay`; callers that go row by row see it through `Going` and the laws of
 // proofs/Turns alone.
 ghost use mathlib.Core.Path.{_≡_};
+ghost use mathlib.Core.Bool.{cond, true};
 ghost use Prim.Native.Nat.{_+_, _*_, _≤_, _<_};
 ghost use lib.ListN.{length};
+ghost use lib.Seq.{sets};
+ghost use Rattle.effects.specs.Records.{bytes};
 ghost use Rattle.recording.specs.declared.Answer.the-variants.{Accepted};
 ghost use Rattle.recording.specs.Answers.{rowCount};
 ghost use Rattle.recording.specs.Reader.{reading};
 ghost use Rattle.wiring.specs.Wiring.{Wired};
 ghost use Rattle.rerun.specs.Replay.{started, refusedAt, replay as wholeReplay, answered};
-ghost use Rattle.rerun.specs.Turn.{answerBy, totalsAt, tallyAfter, tallyOf, totalsWith, turnWith, stopOf, Going, turnOf, turnInto};
+ghost use Rattle.rerun.specs.Turn.{answerBy, totalsAt, tallyAfter, tallyOf, totalsWith, turnWith, stopOf, Going, Fits, roomOf, turnOf, turnInto};
 use block::Kept;
 use planes::Board;
 use planes::Mark;
@@ -118,7 +121,7 @@ pub fn row_in_place(
     firsts: &mut [u16; 16],
     buf: &mut [u8],
 ) -> Went
-    requires { ⌜ Going (now s) st width (totalsWith t (now timers) (now firsts)) × (t .rows < rowCount (reading (now s) .answer)) × (24 * st .count ≤ length (now buf)) × Wired st x (now causes) (now times) ⌝ }
+    requires { ⌜ Going (now s) st width (totalsWith t (now timers) (now firsts)) × (t .rows < rowCount (reading (now s) .answer)) × Fits (now s) (t .rows) (length (now buf)) × Wired st x (now causes) (now times) ⌝ }
     ensures { λ r. ⌜ turnWith r (now (timers .exit)) (now (firsts .exit)) ≡ turnOf (now (s .entry)) (t .rows) ⌝ }
     ensures { λ _. ⌜ now (buf .exit) ≡ turnInto (now (s .entry)) (t .rows) (now (buf .entry)) ⌝ }
 {
@@ -181,7 +184,7 @@ pub fn row(
     t: Totals,
     buf: &mut [u8],
 ) -> Turn
-    requires { ⌜ Going (now s) st width t × (t .rows < rowCount (reading (now s) .answer)) × (24 * st .count ≤ length (now buf)) × Wired st x (now causes) (now times) ⌝ }
+    requires { ⌜ Going (now s) st width t × (t .rows < rowCount (reading (now s) .answer)) × Fits (now s) (t .rows) (length (now buf)) × Wired st x (now causes) (now times) ⌝ }
     ensures { λ r. ⌜ r ≡ turnOf (now (s .entry)) (t .rows) ⌝ }
     ensures { λ _. ⌜ now (buf .exit) ≡ turnInto (now (s .entry)) (t .rows) (now (buf .entry)) ⌝ }
 {
@@ -264,7 +267,16 @@ fn not_run(number: u8, place: usize) -> Replayed
     answer_by(number, place, tally_of(start(0, 0)))
 }
 
-// A file that the reader accepted: its rows, up to one that is refused.
+// Where the records of the next row go: after those so far where they are kept, else over them.
+fn place_of(keep: bool, records: u32) -> usize
+    ensures { λ r. ⌜ r ≡ cond keep (12 * records) 0 ⌝ }
+{
+    if keep { 12 * records as usize } else { 0 }
+}
+
+// A file that the reader accepted: its rows, up to one that is refused. Their records go to the front of `buf`, one after the
+// other, if they are to be kept; else each row's go over those of the row before. This is the one loop over the rows of a
+// replay, so that all below it is compiled into it.
 pub fn replay_rows(
     s: &[u8],
     st: Settings,
@@ -274,19 +286,22 @@ pub fn replay_rows(
     rows: u16,
     first: usize,
     width: usize,
+    buf: &mut [u8],
+    keep: bool,
 ) -> Replayed
-    requires { ⌜ (reading (now s) .answer ≡ Accepted rows first width) × (st ≡ reading (now s) .settings) × Wired st x (now causes) (now times) ⌝ }
+    requires { ⌜ (reading (now s) .answer ≡ Accepted rows first width) × (st ≡ reading (now s) .settings) × Wired st x (now causes) (now times) × (roomOf (now s) keep ≤ length (now buf)) ⌝ }
     ensures { λ r. ⌜ r ≡ answered (wholeReplay (now (s .entry))) ⌝ }
+    ensures { λ _. ⌜ (keep ≡ true → now (buf .exit) ≡ sets (now (buf .entry)) 0 (bytes (wholeReplay (now (s .entry)) .replay .events))) ⌝ }
 {
     let begun = start(x.count, first);
     let board = begun.board;
     let table = board.table;
     let mut timers = table.timers;
     let mut firsts = table.firsts;
-    let mut buf = [0u8; 384];
     let mut t = tally_of(begun);
     let mut i = 0;
     while i < rows {
+        let at = place_of(keep, t.records);
         let u = row_in_place(
             s,
             st,
@@ -297,7 +312,7 @@ pub fn replay_rows(
             t,
             &mut timers,
             &mut firsts,
-            &mut buf,
+            &mut buf[at..],
         );
         let next = u.tally;
         if u.number != 0 {
@@ -317,7 +332,19 @@ fn replay_accepted(s: &[u8], st: Settings, rows: u16, first: usize, width: usize
     let causes = wiring::associations(st);
     let times = wiring::delays(st);
     let x = wiring::wiring_of(st, &times);
-    replay_rows(s, st, x, &causes, &times, rows, first, width)
+    let mut space = [0u8; 384];
+    replay_rows(
+        s,
+        st,
+        x,
+        &causes,
+        &times,
+        rows,
+        first,
+        width,
+        &mut space,
+        false,
+    )
 }
 
 // Replays a whole recording: where it stopped, and what it gave. Its records go nowhere.

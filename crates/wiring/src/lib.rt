@@ -160,7 +160,7 @@ pub fn stroke(
     timers: &mut [u32; 16],
     firsts: &mut [u16; 16],
 ) -> Struck
-    requires { ⌜ (settingsNumber st ≡ 0) × Wired st x (now causes) (now times) × (rowNumber (limitsOf st) row ≡ 0) × (from .done + row .hold ≤ mostScans) × Shown (st .count) (boardAt from (now timers) (now firsts) .table) × (24 * st .count ≤ length (now buf)) ⌝ }
+    requires { ⌜ (settingsNumber st ≡ 0) × Wired st x (now causes) (now times) × (rowNumber (limitsOf st) row ≡ 0) × (from .done + row .hold ≤ mostScans) × Shown (st .count) (boardAt from (now timers) (now firsts) .table) × (12 * length (held (signals st (row .words)) (row .hold) (runOf (st .count) (boardAt from (now timers) (now firsts))) .events) ≤ length (now buf)) ⌝ }
     ensures { λ r. ⌜ (strokedAt r (now (timers .exit)) (now (firsts .exit)) ≡ strokedBy st (row .words) (held (signals st (row .words)) (row .hold) (runOf (st .count) (boardAt from (now (timers .entry)) (now (firsts .entry)))))) × (now (buf .exit) ≡ sets (now (buf .entry)) 0 (bytes (held (signals st (row .words)) (row .hold) (runOf (st .count) (boardAt from (now (timers .entry)) (now (firsts .entry)))) .events))) ⌝ }
 {
     let words = row.words;

@@ -9,7 +9,7 @@ use Rattle.planes.proofs.Slots.{length-slots}
 use Rattle.block.specs.Run.{reachedBy}
 use Rattle.block.proofs.Answers.{settings-right, row-right, state-right, few, countable}
 use Rattle.block.proofs.Boards.{settled}
-use Rattle.block.proofs.Runs.{kept-laid, kept-run}
+use Rattle.block.proofs.Runs.{kept-fits, kept-laid, kept-run}
 use Rattle.block.proofs.run_kept.Statement.{statement}
 use Rattle.block.proofs.run_kept.Tie as tie
 
@@ -22,7 +22,7 @@ stroke-requires c κs =
     let input = s .pre .1 .0 in
     let right = settings-right (a .st) (a .row) x _ refl input in
     let rests = settled (a .st) x (state-right (a .st) (a .row) x _ refl input) (length-slots (a .st .count) (few (a .st) (a .row) x _ refl input) (from .table)) right in
-    (right, s .pre .0 .0, row-right (a .st) (a .row) x _ refl input, countable (a .st) (a .row) x _ refl input, record { slots = s .pre .0 .1; settled = subst (λ (b : Table). Settled (a .st .count) b) (sym (s .pre .0 .1)) rests }, s .pre .1 .1)
+    (right, s .pre .0 .0, row-right (a .st) (a .row) x _ refl input, countable (a .st) (a .row) x _ refl input, record { slots = s .pre .0 .1; settled = subst (λ (b : Table). Settled (a .st .count) b) (sym (s .pre .0 .1)) rests }, kept-fits (a .st) (a .row) from input _ (s .pre .1 .1))
 
 returns : tie.Need-returns
 returns c =

@@ -7,7 +7,7 @@ use lib.ListN.{length}
 use Rattle.bits.proofs.Lists.{length-mapped}
 use Rattle.block.specs.Run.{reachedBy}
 use Rattle.block.proofs.Answers.{settings-right, row-right, few, countable}
-use Rattle.block.proofs.Runs.{starts-right, laid, ran-is}
+use Rattle.block.proofs.Runs.{starts-right, starts-fits, laid, ran-is}
 use Rattle.block.proofs.run_right.Statement.{statement}
 use Rattle.block.proofs.run_right.Tie as tie
 
@@ -34,7 +34,7 @@ stroke-requires c κs =
       row-right (a .st) (a .row) (a .x) _ refl input,
       countable (a .st) (a .row) (a .x) _ refl input,
       starts-right (a .st) (a .row) (a .x) input (long s),
-      s .pre .1,
+      starts-fits (a .st) (a .row) (a .x) input (long s) _ (s .pre .1),
     )
 
 reached-requires : tie.Need-reached-requires

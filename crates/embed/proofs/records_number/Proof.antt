@@ -50,19 +50,22 @@ returns c =
     let a = c .before .before .before .args in
     sym (piece-fits (12 * length (replay (now (a .s)) .replay .events)) (a .room) (omega (arith, ample (c .before .before .before), c .if1 .taken)))
 
+replay-rows-requires : tie.Need-replay-rows-requires
+replay-rows-requires c κs = let p = c .before .before .before .before .pre in (p .0, p .1, p .2, omega arith)
+
 -- the records that were counted are those that are due
-counted : (k : tie.After-replay-rows) → k .replay-rows .result .records ≡ length (replay (now (k .before .before .before .before .args .s)) .replay .events)
-counted k = ap (λ (r : Replayed). r .records) (k .replay-rows .ensures)
+counted : (k : tie.After-replay-rows) → k .replay-rows .result .records ≡ length (replay (now (k .before .before .before .before .before .args .s)) .replay .events)
+counted k = ap (λ (r : Replayed). r .records) (k .replay-rows .ensures .0)
 
 returns-2 : tie.Need-returns-2
 returns-2 c =
-    let a = c .before .before .before .before .before .before .args in
-    sym (piece-fits (12 * length (replay (now (a .s)) .replay .events)) (a .room) (omega (arith, counted (c .before .before), c .if2 .taken)))
+    let a = c .before .before .before .before .before .before .before .before .args in
+    sym (piece-fits (12 * length (replay (now (a .s)) .replay .events)) (a .room) (omega (arith, counted (c .before .before .before), c .if2 .taken)))
 
 returns-3 : tie.Need-returns-3
 returns-3 c =
-    let a = c .before .before .before .before .before .before .args in
-    sym (piece-too-long (12 * length (replay (now (a .s)) .replay .events)) (a .room) (omega (arith, counted (c .before .before), c .if2 .left)))
+    let a = c .before .before .before .before .before .before .before .before .args in
+    sym (piece-too-long (12 * length (replay (now (a .s)) .replay .events)) (a .room) (omega (arith, counted (c .before .before .before), c .if2 .left)))
 
 pub records-number-spec : {M : Type 1} → statement M
-records-number-spec = tie.close (tie.spec mul-if1 mul-if1-2 returns (λ c κs. search needs) (λ c. search needs) (λ c. search needs) returns-2 returns-3)
+records-number-spec = tie.close (tie.spec mul-if1 mul-if1-2 returns (λ c. search needs) replay-rows-requires (λ c. search needs) (λ c. search needs) returns-2 returns-3)

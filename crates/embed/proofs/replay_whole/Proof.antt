@@ -1,5 +1,5 @@
 -- `embed::replay_whole` meets its contract: 10 where the totals or the records do not fit, else all of both.
-use mathlib.Core.Path.{sym, ap, _∙_}
+use mathlib.Core.Path.{refl, sym, ap, _∙_}
 use denote.Ref.{now}
 use lib.ListN.{length}
 use borrow.Author.Needs.{needs}
@@ -36,21 +36,21 @@ returns-2 c =
     refused s (now (a .records)) (now (a .totals)) _ (c .before .before .before .before .before .records-number .result) 0 _ (c .before .before .refuse .ensures .0)
     (is ∙ sym (records-do-not-fit s (length (now (a .records))) (length (now (a .totals))) (p .2) (λ z. not-0 (is ∙ z)))) not-0 (sym (place-of-whole s (ap number (p .0)) (p .2))) (c .before .before .refuse .ensures .1)
 
-put-rows-requires : tie.Need-put-rows-requires
-put-rows-requires c κs =
+replay-rows-requires : tie.Need-replay-rows-requires
+replay-rows-requires c κs =
     let a = c .before .before .before .before .before .before .before .before .before .before .before .before .before .before .before .args in
     let p = c .before .before .before .before .before .before .before .before .before .before .before .before .before .before .before .pre in
     let fit = records-fit (length (replay (now (a .s)) .replay .events)) (length (now (a .records))) (sym (c .before .before .before .before .records-number .ensures) ∙ c .before .before .before .if2 .left) in
-    ((p .0, p .1, record { wiring = c .before .before .before .before .before .before .before .wiring-of .ensures; causes-are = c .before .before .before .before .before .before .before .before .before .before .associations .ensures; delays-are = c .before .before .before .before .before .before .before .before .before .delays .ensures }), (p .2, fit))
+    (p .0, p .1, record { wiring = c .before .before .before .before .before .before .before .wiring-of .ensures; causes-are = c .before .before .before .before .before .before .before .before .before .before .associations .ensures; delays-are = c .before .before .before .before .before .before .before .before .before .delays .ensures }, fit)
 
 returns-3 : tie.Need-returns-3
 returns-3 c =
     let a = c .before .before .before .before .before .before .before .before .before .before .before .before .before .before .before .before .before .before .before .before .before .before .args in
     let p = c .before .before .before .before .before .before .before .before .before .before .before .before .before .before .before .before .before .before .before .before .before .before .pre in
     let s = now (a .s) in
-    let put = c .before .before .before .before .before .before .put-rows .ensures in
+    let put = c .before .before .before .before .before .before .replay-rows .ensures in
     crosses s (now (a .records)) (now (a .totals)) _ _ _
-    (all-fits s (length (now (a .records))) (length (now (a .totals))) (p .2) (sym (c .before .before .before .before .before .before .before .before .before .before .before .records-number .ensures) ∙ c .before .before .before .before .before .before .before .before .before .before .if2 .left) (c .before .before .before .before .before .before .before .before .before .before .before .before .before .before .before .before .before .before .if1 .left)) (put .0) (put .1) (c .before .before .put-totals .ensures)
+    (all-fits s (length (now (a .records))) (length (now (a .totals))) (p .2) (sym (c .before .before .before .before .before .before .before .before .before .before .before .records-number .ensures) ∙ c .before .before .before .before .before .before .before .before .before .before .if2 .left) (c .before .before .before .before .before .before .before .before .before .before .before .before .before .before .before .before .before .before .if1 .left)) (put .0) (put .1 refl) (c .before .before .put-totals .ensures)
 
 pub replay-whole-spec : {M : Type 1} → statement M
 replay-whole-spec =
@@ -64,7 +64,7 @@ replay-whole-spec =
     (λ c κs. search needs)
     (λ c. search needs)
     returns-2
-    put-rows-requires
+    replay-rows-requires
     (λ c κs. search needs)
     (λ c. search needs)
     (λ c. search needs)

@@ -3,7 +3,7 @@ use native.Mathlib.Omega.{arith}
 use denote.Ref.{now}
 use lib.ListN.{replicate}
 use borrow.Author.Needs.{needs}
-use Rattle.rerun.proofs.Turns.{few-records, row-fits}
+use Rattle.rerun.proofs.Turns.{few-records, fits-any}
 use Rattle.listing.proofs.Placing.{fits, full-row, whole-row, lines-of-turn}
 use Rattle.listing.proofs.row.Statement.{statement}
 use Rattle.listing.proofs.row.Tie as tie
@@ -18,8 +18,7 @@ row-requires : tie.Need-row-requires
 row-requires c κs =
     let start = c .before .before .before .before .before in
     let a = start .args in
-    let room = row-fits (now (a .s)) (a .st) (a .width) (a .t) (start .pre .0) in
-    (start .pre .0, start .pre .1, omega (arith, room), start .pre .2)
+    (start .pre .0, start .pre .1, fits-any (now (a .s)) (a .st) (a .width) (a .t) (start .pre .0) (start .pre .1), start .pre .2)
 
 put-lines-requires : tie.Need-put-lines-requires
 put-lines-requires c κs =

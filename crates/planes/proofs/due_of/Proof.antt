@@ -1,14 +1,49 @@
--- `planes::due_of` meets its contract, from what its callee ensures.
+-- `planes::due_of` meets its contract. The loop's invariant: the word of what is due below some m, and the word holds the effects from m on.
+use mathlib.Core.Path.{refl}
+use Prim.Native.Nat.{_-_}
+use native.Mathlib.Omega.{arith}
 use borrow.Author.Needs.{needs}
-use borrow.Author.Tests.{eq-eqb, ne-eqb}
+use denote.Ref.{now}
+use lib.Bits.{and-le-r}
+use Rattle.bits.specs.Words.{wordOf}
+use Rattle.planes.specs.Table.{dueAt, dueIn}
+use Rattle.planes.proofs.Bits.{Done, started, ended}
+use Rattle.planes.proofs.Due.{word-rest, no-higher, put}
 use Rattle.planes.proofs.due_of.Statement.{statement}
 use Rattle.planes.proofs.due_of.Tie as tie
 
-returns : tie.Need-returns
-returns c = rw (eq-eqb _ 0 (c .if1 .taken))
+abbrev Inv-loop : tie.InvT-loop
+Inv-loop count timers period delayed word₀ rest₀ word rest = Done count delayed (wordOf (dueIn timers period delayed)) word rest
 
-returns-2 : tie.Need-returns-2
-returns-2 c = rw (c .due-word .ensures, ne-eqb _ 0 (c .before .if1 .left))
+abbrev μ-loop : tie.MeasureT-loop
+μ-loop count timers period delayed word₀ rest₀ word rest = rest
+
+loop-holds : tie.Need-loop-holds Inv-loop μ-loop
+unfolding wordOf
+loop-holds c = started _ _ _ (word-rest _ _ (dueAt (now (c .args .timers)) (c .args .period)) (c .pre .0) (c .pre .1)) refl
+
+put-bit-requires : tie.Need-put-bit-requires Inv-loop μ-loop
+put-bit-requires c κs =
+    let l = c .before .lowest .ensures in
+    (l .1, rw (l .0) (no-higher _ _ _ (c .before .before .before .loop .inv) (omega arith)))
+
+loop-less : tie.Need-loop-less Inv-loop μ-loop
+loop-less c =
+    let r = c .before .before .before .before .loop .rest in
+    omega (arith, and-le-r r (r - 1))
+
+loop-again : tie.Need-loop-again Inv-loop μ-loop
+loop-again c =
+    let a = c .before .before .before .before .before .args in
+    rw (c .put-bit .ensures, c .before .before .lowest .ensures .0)
+    (put _ _ (dueAt (now (a .timers)) (a .period)) (c .before .before .before .before .loop .inv) (omega arith))
+
+returns : tie.Need-returns Inv-loop μ-loop
+returns c = ended _ _ _ (c .before .loop .inv) (omega arith)
 
 pub due-of-spec : {M : Type 1} → statement M
-due-of-spec = tie.close (tie.spec returns (λ c κs. search needs) returns-2)
+due-of-spec =
+    tie.close
+    (tie.spec Inv-loop μ-loop loop-holds
+    (λ c κs. search needs) (λ c. search needs) (λ c. search needs)
+    put-bit-requires (λ c. search needs) loop-less loop-again returns)

@@ -1,17 +1,12 @@
 -- `planes::put_scan` meets its contract. The loop's invariant: the records of the effects below some m are written, and the word holds those from m on.
-use mathlib.Core.Path.{_≡_, refl, sym, _∙_, ap}
-use Prim.Native.Nat.{ℕ, _<_, _≤_, _+_, _-_, _*_}
+use Prim.Native.Nat.{_-_}
 use native.Mathlib.Omega.{arith}
 use borrow.Author.Needs.{needs}
-use lib.Bits.{bitAnd, and-le-r}
-use lib.ListN.{length}
-use lib.Seq.{length-sets}
-use Rattle.planes.specs.Table.{entry, entryAt}
-use Rattle.planes.proofs.Records.{Put, started, finished, inside, roomy, as-long, put-one}
+use lib.Bits.{and-le-r}
+use Rattle.planes.specs.Table.{entry}
+use Rattle.planes.proofs.Records.{Put, begun, finished, roomy, as-long, put-one}
 use Rattle.planes.proofs.put_scan.Statement.{statement}
 use Rattle.planes.proofs.put_scan.Tie as tie
-use Rattle.planes.proofs.put_scan.Reads as reads
-use Rattle.planes.proofs.put_scan.Lts as lts
 
 abbrev Inv-loop : tie.InvT-loop
 Inv-loop buf₀ at0 q0 number ch was is firsts at₀ q₀ rest₀ buf at q rest = Put buf₀ at0 q0 number ch was is firsts buf at q rest
@@ -20,31 +15,7 @@ abbrev μ-loop : tie.MeasureT-loop
 μ-loop buf₀ at0 q0 number ch was is firsts at₀ q₀ rest₀ buf at q rest = rest
 
 loop-holds : tie.Need-loop-holds Inv-loop μ-loop
-loop-holds c = started _ _ _ _ _ _ _ _ (omega (arith, c .before .fits .q0)) (omega (arith, c .before .fits .ch))
-
-cast-put-record : tie.Need-cast-put-record Inv-loop μ-loop
-cast-put-record c =
-    let h : c .before .lowest .result < 16 = rw (c .before .lowest .ensures) (inside _ _ _ _ _ _ _ _ (c .before .before .before .loop .inv) (omega arith)) in
-    record { fits = omega arith }
-
-add-put-record : tie.Need-add-put-record Inv-loop μ-loop
-add-put-record c =
-    let h : c .before .lowest .result < 16 = rw (c .before .lowest .ensures) (inside _ _ _ _ _ _ _ _ (c .before .before .before .loop .inv) (omega arith)) in
-    record { fits = omega arith }
-
-code-at-requires : tie.Need-code-at-requires Inv-loop μ-loop
-code-at-requires c κs = rw (c .before .lowest .ensures) (inside _ _ _ _ _ _ _ _ (c .before .before .before .loop .inv) (omega arith))
-
-code-at-requires-2 : tie.Need-code-at-requires-2 Inv-loop μ-loop
-code-at-requires-2 c κs = rw (c .before .before .lowest .ensures) (inside _ _ _ _ _ _ _ _ (c .before .before .before .before .loop .inv) (omega arith))
-
-mul-put-record : tie.Need-mul-put-record Inv-loop μ-loop
-mul-put-record c =
-    let h : c .before .before .before .lowest .result < 16 = rw (c .before .before .before .lowest .ensures) (inside _ _ _ _ _ _ _ _ (c .before .before .before .before .before .loop .inv) (omega arith)) in
-    record { fits = omega arith }
-
-element-copy-out-put-record : tie.Need-element-copy-out-put-record Inv-loop μ-loop
-element-copy-out-put-record c = rw (c .before .before .before .lowest .ensures) (inside _ _ _ _ _ _ _ _ (c .before .before .before .before .before .loop .inv) (omega arith))
+loop-holds c = begun _ _ _ _ _ _ _ _ (omega (arith, c .before .fits .q0)) (omega (arith, c .before .fits .ch))
 
 put-record-requires : tie.Need-put-record-requires Inv-loop μ-loop
 put-record-requires c κs = roomy _ _ _ _ _ _ _ _ (c .before .before .before .before .before .before .loop .inv) (omega arith) (c .before .before .before .before .before .before .before .before .pre)
@@ -65,7 +36,7 @@ loop-less c =
 loop-again : tie.Need-loop-again Inv-loop μ-loop
 unfolding entry
 loop-again c =
-    rw (c .wrapping-add-u16 .ensures, c .before .before .before .put-record .ensures, c .before .before .before .before .before .code-at2 .ensures, c .before .before .before .before .before .before .code-at .ensures, c .before .before .before .before .before .before .before .before .lowest .ensures)
+    rw (c .wrapping-add-u16 .ensures, c .before .before .before .put-record .ensures, c .before .before .before .before .before .code-at2 .ensures, c .before .before .before .before .before .before .code-at .ensures, c .before .before .before .before .before .before .before .before .lowest .ensures .0)
     (put-one _ _ _ _ _ _ _ _ (c .before .before .before .before .before .before .before .before .before .before .loop .inv) (omega arith))
 
 same-length : tie.Need-same-length Inv-loop μ-loop
@@ -75,7 +46,7 @@ returns : tie.Need-returns Inv-loop μ-loop
 returns c =
     let v = c .before .loop .inv in
     let e = finished _ _ _ _ _ _ _ _ v (omega arith) in
-    (rw e (v .place), rw e (v .wrote))
+    (rw (← e) (v .place), rw (← e) (v .wrote))
 
 pub put-scan-spec : {M : Type 1} → statement M
 put-scan-spec =
@@ -85,12 +56,12 @@ put-scan-spec =
     μ-loop
     loop-holds
     (λ c κs. search needs)
-    cast-put-record
-    add-put-record
-    code-at-requires
-    code-at-requires-2
-    mul-put-record
-    element-copy-out-put-record
+    (λ c. search needs)
+    (λ c. search needs)
+    (λ c κs. search needs)
+    (λ c κs. search needs)
+    (λ c. search needs)
+    (λ c. search needs)
     put-record-requires
     add-at
     (λ c κs. search needs)

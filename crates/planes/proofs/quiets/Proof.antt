@@ -7,8 +7,9 @@ use denote.Ref.{now}
 use Rattle.bits.specs.Words.{wordOf}
 use Rattle.planes.specs.Planes.{planesAfter, changedOf}
 use Rattle.planes.specs.Table.{dueAt, quietsBy}
+use Rattle.planes.proofs.Due.{changed-due}
 use Rattle.planes.proofs.Quiet.{quiets-by-le}
-use Rattle.planes.proofs.Rest.{changed-due, none-low}
+use Rattle.planes.proofs.Rest.{none-low}
 use Rattle.planes.proofs.quiets.Statement.{statement}
 use Rattle.planes.proofs.quiets.Tie as tie
 
@@ -20,7 +21,10 @@ returns c =
 
 -- the effects that the next scan changes
 changes : (k : tie.After-changed) → changedOf (k .before .before .before .before .args .p) (planesAfter (k .before .before .before .before .args .w) (wordOf (dueAt (now (k .before .before .before .before .args .timers)) (k .before .before .before .before .args .period)) (k .before .before .before .before .args .count)) (k .before .before .before .before .args .p)) ≡ k .changed .result
-changes k = changed-due _ _ _ _ _ _ (k .before .before .due-of .ensures) (k .before .planes-after .ensures) (k .changed .ensures)
+changes k =
+    let s = k .before .before .before .before in
+    let a = s .args in
+    changed-due (a .count) (a .period) (now (a .timers)) (a .w) (a .p) (s .pre .0) (s .pre .4) _ _ _ (k .before .before .due-of .ensures) (k .before .planes-after .ensures) (k .changed .ensures)
 
 -- the next scan is live
 returns-2 : tie.Need-returns-2

@@ -1,44 +1,48 @@
--- `planes::set_firsts` meets its contract. The loop's invariant: what stands before i is that after, and the rest as it was.
-use mathlib.Core.Path.{_≡_, refl}
+-- `planes::set_firsts` meets its contract. The loop's invariant: the effects in the word below some m have their first-outs, and the word holds those from m on.
+use mathlib.Core.Path.{refl, sym, _∙_}
 use mathlib.Core.List.{_++_}
-use Prim.Native.Nat.{_≤_, _<_, _-_}
+use Prim.Native.Nat.{_-_}
 use native.Mathlib.Omega.{arith}
 use borrow.Author.Needs.{needs}
 use denote.Ref.{now}
-use lib.ListN.{drop, getD, length}
+use lib.Bits.{bitXor, and-le-r}
+use lib.ListN.{drop}
 use Rattle.bits.specs.Lists.{tabulate}
 use Rattle.planes.specs.Table.{firstBy}
-use Rattle.planes.proofs.Rest.{refill, firsts-rest}
+use Rattle.planes.proofs.Bits.{Done, bit-xor, started, ended}
+use Rattle.planes.proofs.Rest.{stored, new-first, firsts-rest}
 use Rattle.planes.proofs.set_firsts.Statement.{statement}
 use Rattle.planes.proofs.set_firsts.Tie as tie
 
 abbrev Inv-loop : tie.InvT-loop
-Inv-loop count firsts₀ causes tripped was is i₀ firsts i = (i ≤ count) × (firsts ≡ tabulate (firstBy firsts₀ causes tripped was is) i ++ drop i firsts₀)
+Inv-loop count firsts₀ causes tripped was is rest₀ firsts rest =
+    Done count (bitXor was is) (λ m. tabulate (firstBy firsts₀ causes tripped was is) m ++ drop m firsts₀) firsts rest
 
 abbrev μ-loop : tie.MeasureT-loop
-μ-loop count firsts₀ causes tripped was is i₀ firsts i = count - i
-
-returns : tie.Need-returns Inv-loop μ-loop
-returns c =
-    let s = c .before in
-    let a = s .args in
-    firsts-rest (a .count) (now (a .firsts)) (now (a .causes)) (a .tripped) (a .was) (a .is) (s .pre .1) (c .if1 .taken)
+μ-loop count firsts₀ causes tripped was is rest₀ firsts rest = rest
 
 loop-holds : tie.Need-loop-holds Inv-loop μ-loop
 unfolding tabulate
-loop-holds c = (search needs, refl)
+loop-holds c =
+    let a = c .args in
+    started _ _ _ (firsts-rest (a .count) (now (a .firsts)) (now (a .causes)) (a .tripped) (a .was) (a .is) (c .pre .0) (c .pre .1) (c .pre .2) (c .pre .3)) refl
+
+loop-less : tie.Need-loop-less Inv-loop μ-loop
+loop-less c =
+    let r = c .before .before .before .before .before .loop .rest in
+    omega (arith, and-le-r r (r - 1))
 
 loop-again : tie.Need-loop-again Inv-loop μ-loop
 loop-again c =
-    let k = c .before .before .before .before .before .before .before in
-    let xs = now (k .before .before .args .firsts) in
-    let h : k .loop .i < length xs = omega (arith, k .before .before .pre .1 .long) in
-    (omega arith, refill _ xs _ (k .loop .i) _ h (k .loop .inv .1) (λ e. rw (c .pick162 .ensures, c .before .pick16 .ensures, c .before .before .bit2 .ensures, c .before .before .before .bit .ensures, e)))
+    let k = c .before .before .before .before .before in
+    let a = k .before .args in
+    let low = c .before .before .before .lowest .ensures .0 in
+    rw low
+    (stored _ _ _ _ (k .before .pre .3 .long) (k .loop .inv) (omega arith) _
+    (λ b e. rw (c .pick16 .ensures, c .before .bit .ensures, low) (new-first _ _ _ _ (sym (bit-xor (a .was) (a .is) _) ∙ b))))
 
-returns-2 : tie.Need-returns-2 Inv-loop μ-loop
-returns-2 c =
-    let e : c .before .loop .i ≡ c .before .before .before .args .count = omega arith in
-    rw (c .before .loop .inv .1, e)
+returns : tie.Need-returns Inv-loop μ-loop
+returns c = ended _ _ _ (c .before .loop .inv) (omega arith)
 
 pub set-firsts-spec : {M : Type 1} → statement M
 set-firsts-spec =
@@ -46,19 +50,15 @@ set-firsts-spec =
     (tie.spec
     Inv-loop
     μ-loop
-    returns
     loop-holds
-    (λ c. search needs)
-    (λ c. search needs)
-    (λ c. search needs)
-    (λ c. search needs)
     (λ c κs. search needs)
-    (λ c κs. search needs)
+    (λ c. search needs)
+    (λ c. search needs)
     (λ c κs. search needs)
     (λ c κs. search needs)
     (λ c. search needs)
     (λ c. search needs)
     (λ c. search needs)
-    (λ c. search needs)
+    loop-less
     loop-again
-    returns-2)
+    returns)

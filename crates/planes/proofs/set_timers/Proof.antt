@@ -1,47 +1,47 @@
--- `planes::set_timers` meets its contract. The loop's invariant: what stands before i is that after, and the rest as it was.
-use mathlib.Core.Path.{_≡_, refl}
+-- `planes::set_timers` meets its contract. The loop's invariant: the effects in the word below some m have their timers, and the word holds those from m on.
+use mathlib.Core.Path.{refl}
 use mathlib.Core.List.{_++_}
-use Prim.Native.Nat.{_≤_, _<_, _-_}
+use Prim.Native.Nat.{_-_}
 use native.Mathlib.Omega.{arith}
 use borrow.Author.Needs.{needs}
-use borrow.Author.Tests.{eqb-true}
 use denote.Ref.{now}
-use lib.Dec.{eqb}
-use lib.ListN.{drop, getD, length}
+use lib.Bits.{bitOr, and-le-r}
+use lib.ListN.{drop}
 use Rattle.bits.specs.Lists.{tabulate}
-use Rattle.bits.proofs.Lists.{and-left, and-right}
 use Rattle.planes.specs.Table.{timerBy}
-use Rattle.planes.proofs.Rest.{refill, timers-rest}
+use Rattle.planes.proofs.Bits.{Done, started, ended}
+use Rattle.planes.proofs.Rest.{stored, timers-rest}
 use Rattle.planes.proofs.set_timers.Statement.{statement}
 use Rattle.planes.proofs.set_timers.Tie as tie
 
 abbrev Inv-loop : tie.InvT-loop
-Inv-loop count timers₀ delays period was is i₀ timers i = (i ≤ count) × (timers ≡ tabulate (timerBy timers₀ delays period was is) i ++ drop i timers₀)
+Inv-loop count timers₀ delays period was is rest₀ timers rest =
+    Done count (bitOr was is) (λ m. tabulate (timerBy timers₀ delays period was is) m ++ drop m timers₀) timers rest
 
 abbrev μ-loop : tie.MeasureT-loop
-μ-loop count timers₀ delays period was is i₀ timers i = count - i
-
-returns : tie.Need-returns Inv-loop μ-loop
-returns c =
-    let s = c .before in
-    let a = s .args in
-    timers-rest (a .count) (now (a .timers)) (now (a .delays)) (a .period) (a .was) (a .is) (s .pre .1) (eqb-true (a .was) 0 (and-left (eqb (a .was) 0) (eqb (a .is) 0) (c .if1 .taken))) (eqb-true (a .is) 0 (and-right (eqb (a .was) 0) (eqb (a .is) 0) (c .if1 .taken)))
+μ-loop count timers₀ delays period was is rest₀ timers rest = rest
 
 loop-holds : tie.Need-loop-holds Inv-loop μ-loop
 unfolding tabulate
-loop-holds c = (search needs, refl)
+loop-holds c =
+    let a = c .args in
+    started _ _ _ (timers-rest (a .count) (now (a .timers)) (now (a .delays)) (a .period) (a .was) (a .is) (c .pre .0) (c .pre .1) (c .pre .2) (c .pre .3)) refl
+
+loop-less : tie.Need-loop-less Inv-loop μ-loop
+loop-less c =
+    let r = c .before .before .before .before .before .before .before .before .before .loop .rest in
+    omega (arith, and-le-r r (r - 1))
 
 loop-again : tie.Need-loop-again Inv-loop μ-loop
 loop-again c =
-    let k = c .before .before .before .before .before .before .before .before in
-    let xs = now (k .before .before .args .timers) in
-    let h : k .loop .i < length xs = omega (arith, k .before .before .pre .1 .long) in
-    (omega arith, refill _ xs _ (k .loop .i) _ h (k .loop .inv .1) (λ e. rw (c .pick322 .ensures, c .before .pick32 .ensures, c .before .before .less .ensures, c .before .before .before .bit2 .ensures, c .before .before .before .before .bit .ensures, e)))
+    let k = c .before .before .before .before .before .before .before .before .before in
+    let low = c .before .before .before .before .before .before .before .lowest .ensures .0 in
+    rw low
+    (stored _ _ _ _ (k .before .pre .3 .long) (k .loop .inv) (omega arith) _
+    (λ b e. rw (c .pick322 .ensures, c .before .pick32 .ensures, c .before .before .less .ensures, c .before .before .before .bit2 .ensures, c .before .before .before .before .bit .ensures, low, e)))
 
-returns-2 : tie.Need-returns-2 Inv-loop μ-loop
-returns-2 c =
-    let e : c .before .loop .i ≡ c .before .before .before .args .count = omega arith in
-    rw (c .before .loop .inv .1, e)
+returns : tie.Need-returns Inv-loop μ-loop
+returns c = ended _ _ _ (c .before .loop .inv) (omega arith)
 
 pub set-timers-spec : {M : Type 1} → statement M
 set-timers-spec =
@@ -49,8 +49,8 @@ set-timers-spec =
     (tie.spec
     Inv-loop
     μ-loop
-    returns
     loop-holds
+    (λ c κs. search needs)
     (λ c. search needs)
     (λ c. search needs)
     (λ c. search needs)
@@ -63,6 +63,6 @@ set-timers-spec =
     (λ c. search needs)
     (λ c. search needs)
     (λ c. search needs)
-    (λ c. search needs)
+    loop-less
     loop-again
-    returns-2)
+    returns)

@@ -7,8 +7,8 @@ use denote.Ref.{now}
 use Rattle.planes.specs.declared.Board.{Board}
 use Rattle.planes.specs.Board.{boardAt, scanned}
 use Rattle.planes.proofs.Quiet.{quiets-few}
-use Rattle.planes.proofs.Marks.{still-scanned, skipped-is}
-use Rattle.planes.proofs.Turn.{Kept, starts, turned, fits, ended, as-long, done-fits, live-fits}
+use Rattle.planes.proofs.Marks.{still-scanned, within-scanned, skipped-is}
+use Rattle.planes.proofs.Turn.{Kept, starts, turned, within, within-then, fits, ended, as-long, done-fits, live-fits}
 use Rattle.planes.proofs.stroke.Statement.{statement}
 use Rattle.planes.proofs.stroke.Tie as tie
 
@@ -33,13 +33,14 @@ scan-requires c κs =
     let a = c .before .before .before .before .before .before .before in
     let h = c .before .before .before .before .loop .inv in
     let v = c .before .before .before .loop-test .taken in
-    (a .pre .0, omega (arith, done-fits _ (a .pre .0) _ _ _ _ (a .pre .2) (a .pre .3) _ _ _ _ h, v), omega (arith, live-fits _ (a .pre .0) _ _ _ _ (a .pre .2) (a .pre .3) _ _ _ _ h, v), h .settled, fits _ (a .pre .0) _ _ _ _ (a .pre .2) (a .pre .3) _ _ _ _ h v (a .pre .6))
+    (a .pre .0, omega (arith, done-fits _ (a .pre .0) _ _ _ _ (a .pre .2) (a .pre .3) _ _ _ _ h, v), omega (arith, live-fits _ (a .pre .0) _ _ _ _ (a .pre .2) (a .pre .3) _ _ _ _ h, v), h .settled, within _ (a .pre .0) _ _ _ _ (a .pre .2) (a .pre .3) _ _ _ _ h, within-then _ (a .pre .0) _ _ _ _ (a .pre .2) (a .pre .3) _ _ _ _ h, fits _ (a .pre .0) _ _ _ _ (a .pre .2) (a .pre .3) _ _ _ _ h v (rw (c .before .before .before .before .before .begin .ensures) (a .pre .6)))
 
 quiets-requires : tie.Need-quiets-requires Inv-loop μ-loop
 quiets-requires c κs =
     let a = c .before .before .before .before .before .before .before .before .before .before .before .before .before in
     let h = c .before .before .before .before .before .before .before .before .before .before .loop .inv in
-    (a .pre .0, omega (arith, live-fits _ (a .pre .0) _ _ _ _ (a .pre .2) (a .pre .3) _ _ _ _ h), a .pre .2, a .pre .3)
+    let v = within-scanned _ _ _ _ _ (c .before .before .before .before .before .scan .ensures .0) (within-then _ (a .pre .0) _ _ _ _ (a .pre .2) (a .pre .3) _ _ _ _ h) in
+    (a .pre .0, omega (arith, live-fits _ (a .pre .0) _ _ _ _ (a .pre .2) (a .pre .3) _ _ _ _ h), a .pre .2, a .pre .3, v .0)
 
 -- the scans that are skipped are some of those left
 few : (c : tie.After-quiets Inv-loop μ-loop) → c .quiets .result ≤ c .before .before .before .before .before .before .before .before .before .before .before .loop .left - 1
@@ -49,7 +50,9 @@ timers-later-requires : tie.Need-timers-later-requires Inv-loop μ-loop
 timers-later-requires c κs =
     let a = c .before .before .before .before .before .before .before .before .before .before .before .before .before .before .before in
     let h = c .before .before .before .before .before .before .before .before .before .before .before .before .loop .inv in
-    (a .pre .0, omega (arith, few (c .before), live-fits _ (a .pre .0) _ _ _ _ (a .pre .2) (a .pre .3) _ _ _ _ h), a .pre .3, still-scanned _ _ _ _ _ _ _ _ _ _ (c .before .before .before .before .before .before .before .scan .ensures .0))
+    let e = c .before .before .before .before .before .before .before .scan .ensures .0 in
+    let v = within-scanned _ _ _ _ _ e (within-then _ (a .pre .0) _ _ _ _ (a .pre .2) (a .pre .3) _ _ _ _ h) in
+    (a .pre .0, omega (arith, few (c .before), live-fits _ (a .pre .0) _ _ _ _ (a .pre .2) (a .pre .3) _ _ _ _ h), a .pre .3, v .0, still-scanned _ _ _ _ _ _ _ _ _ _ e)
 
 later-requires : tie.Need-later-requires Inv-loop μ-loop
 unfolding scanned

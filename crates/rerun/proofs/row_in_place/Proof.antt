@@ -4,7 +4,7 @@ use borrow.Author.Needs.{needs}
 use denote.Ref.{now}
 use Rattle.rerun.specs.declared.Totals.{Totals}
 use Rattle.rerun.specs.Turn.{totalsWith}
-use Rattle.rerun.proofs.Turns.{row-there, refused-turn, words-right, right-input, sums, granted-went}
+use Rattle.rerun.proofs.Turns.{row-there, refused-turn, words-right, right-input, run-fits, sums, granted-went}
 use Rattle.rerun.proofs.row_in_place.Statement.{statement}
 use Rattle.rerun.proofs.row_in_place.Tie as tie
 
@@ -29,7 +29,7 @@ run-kept-requires c κs =
     let n = c .before .before .before .before .scans-number .ensures in
     let z = c .before .before .before .if1 .left in (
       (s .pre .3, words-right (now (a .s)) (a .st) (a .width) (totals s) (s .pre .0)),
-      (right-input (now (a .s)) (a .st) (a .width) (totals s) (s .pre .0) (s .pre .1) _ is _ n z, s .pre .2),
+      (right-input (now (a .s)) (a .st) (a .width) (totals s) (s .pre .0) (s .pre .1) _ is _ n z, run-fits (now (a .s)) (a .st) (a .width) (totals s) (s .pre .0) (s .pre .1) _ is _ n z _ (s .pre .2)),
     )
 
 after-row-requires : tie.Need-after-row-requires

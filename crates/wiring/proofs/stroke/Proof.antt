@@ -25,15 +25,15 @@ stroke-requires : tie.Need-stroke-requires
 stroke-requires c κs =
     let s = c .before .before .before .before .before .before .before in
     let a = s .args in
-    let n = count-of (a .st) (a .x) (s .pre .1 .wiring) in
+    let from = boardAt (a .from) (now (a .timers)) (now (a .firsts)) in
     let p = period-of (a .st) (a .x) (s .pre .1 .wiring) in (
       few s,
       hold-most (limitsOf (a .st)) (a .row) (s .pre .2),
       omega (arith, p, period-some (a .st) (s .pre .0)),
       omega (arith, p, period-most (a .st) (s .pre .0)),
       s .pre .3,
-      right-words (a .st) (s .pre .0) (a .row) (s .pre .2) (a .x) _ _ (s .pre .1) _ (c .before .before .before .before .asked-by .ensures) _ (c .before .before .tripped-causes .ensures) (boardAt (a .from) (now (a .timers)) (now (a .firsts))) (s .pre .4),
-      omega (arith, n, s .pre .5),
+      right-words (a .st) (s .pre .0) (a .row) (s .pre .2) (a .x) _ _ (s .pre .1) _ (c .before .before .before .before .asked-by .ensures) _ (c .before .before .tripped-causes .ensures) from (s .pre .4),
+      rw (held-is (a .st) (s .pre .0) (a .row) (s .pre .2) (a .x) _ _ (s .pre .1) _ (c .before .before .before .before .asked-by .ensures) _ (c .before .before .tripped-causes .ensures) from) (s .pre .5),
     )
 
 returns : tie.Need-returns

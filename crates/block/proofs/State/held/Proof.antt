@@ -11,7 +11,7 @@ use Rattle.block.specs.declared.Ran.{Ran}
 use Rattle.block.specs.Scan.{inputNumber, atFront}
 use Rattle.block.specs.Held.{run, grantedHeld, refusedHeld, heldNumber, heldOf, heldInto}
 use Rattle.block.specs.Run.{heldBy}
-use Rattle.block.proofs.Answers.{answers-refused, answers-no-room, answers-granted, copied, few}
+use Rattle.block.proofs.Answers.{answers-refused, answers-no-room, answers-granted, copied}
 use Rattle.block.proofs.Runs.{due-bytes}
 use Rattle.block.proofs.State.held.Statement.{statement}
 use Rattle.block.proofs.State.held.Tie as tie
@@ -31,7 +31,7 @@ input c = sym (c .before .before .input-number .ensures) ∙ c .before .if1 .lef
 run-right-requires : tie.Need-run-right-requires
 run-right-requires c κs =
     let a = c .before .before .before .before .args in
-    (input c, omega (arith, few (a .st) (a .row) (a .self) _ refl (input c)))
+    (input c, due-bytes (a .st) (a .row) (a .self) (input c))
 
 -- the records that the run gave, and their bytes
 due : (c : tie.After-run-right) → let a = c .before .before .before .before .before .args in

@@ -1,92 +1,16 @@
--- `block::State::scan` meets its contract: the run's records, laid apart, are those of the definitions, so they fit or do not,
--- and the cases of the answer are those of the code.
-use mathlib.Core.Path.{_≡_, refl, ap, sym, _∙_}
-use Prim.Native.Nat.{_*_, _≤_}
-use native.Mathlib.Omega.{arith}
+-- `block::State::scan` meets its contract: it is a held run of hold 1.
+use mathlib.Core.Path.{_∙_}
 use borrow.Author.Needs.{needs}
 use denote.Ref.{now}
-use lib.ListN.{length, replicate}
-use lib.Seq.{length-sets}
-use Rattle.block.specs.declared.Ran.{Ran}
-use Rattle.block.specs.Scan.{inputNumber, once, events, atFront, grantedScan, refusedScan, scanNumber, scanOf, scanInto}
-use Rattle.block.specs.Run.{scannedBy}
-use Rattle.block.proofs.Answers.{answers-refused, answers-no-room, answers-granted, copied, few}
-use Rattle.block.proofs.Runs.{due-bytes}
-use Rattle.block.proofs.Scans.{once-events, once-answer}
+use Rattle.block.proofs.Scans.{scan-is-held, scan-into-held}
 use Rattle.block.proofs.State.scan.Statement.{statement}
 use Rattle.block.proofs.State.scan.Tie as tie
 
 returns : tie.Need-returns
-unfolding scanOf scanInto scanNumber
 returns c =
-    let i = c .before .before in
-    let a = i .before .before .args in
-    answers-refused _ (length (events (a .st) (a .w) (a .self))) (now (a .out)) (atFront (events (a .st) (a .w) (a .self)) (now (a .out))) (grantedScan (a .st) (a .w) (a .self)) (refusedScan (a .self)) _ (i .input-number .ensures)
-    (c .refused-scan .result) (c .refused-scan .ensures) (c .before .if1 .taken)
-
--- what the tests before the run found
-input : (c : tie.After-space) → let a = c .before .before .before .before .args in inputNumber (a .st) (a .self) (once (a .w)) ≡ 0
-input c = sym (c .before .before .input-number .ensures) ∙ c .before .if1 .left
-
-run-right-requires : tie.Need-run-right-requires
-run-right-requires c κs =
-    let a = c .before .before .before .before .args in
-    (input c, omega (arith, few (a .st) (once (a .w)) (a .self) _ refl (input c)))
-
--- the records that the run gave, and their bytes
-due : (c : tie.After-run-right) → let a = c .before .before .before .before .before .args in
-    (c .run-right .result .records ≡ length (events (a .st) (a .w) (a .self))) × (12 * length (events (a .st) (a .w) (a .self)) ≤ 384)
-due c =
-    let a = c .before .before .before .before .before .args in
-    let e = ap length (once-events (a .st) (a .w) (a .self)) in
-    (ap (λ (r : Ran). r .records) (c .run-right .ensures .0) ∙ e, omega (arith, e, due-bytes (a .st) (once (a .w)) (a .self) (input (c .before))))
-
-mul-at : tie.Need-mul-at
-mul-at c = let d = due (c .before .before) in omega (arith, d .0, d .1)
-
-returns-2 : tie.Need-returns-2
-unfolding scanOf scanInto scanNumber
-returns-2 c =
-    let k = c .before .before .before .before in
-    let i = k .before .before .before in
-    let a = i .before .before .args in
-    answers-no-room _ (length (events (a .st) (a .w) (a .self))) (now (a .out)) (atFront (events (a .st) (a .w) (a .self)) (now (a .out))) (grantedScan (a .st) (a .w) (a .self)) (refusedScan (a .self)) _ (i .input-number .ensures)
-    (c .refused-scan2 .result) (c .refused-scan2 .ensures) (k .before .before .if1 .left) (omega (arith, due k .0, c .before .if2 .taken))
-
-copy-front-requires : tie.Need-copy-front-requires
-copy-front-requires c κs =
-    let k = c .before .before .before .before .before in
-    let d = due k in
-    let len : length (k .run-right .last .0) ≡ 384 = ap length (k .run-right .ensures .1) ∙ simp length-sets in
-    (omega (arith, d .0, d .1, len), omega arith)
-
-returns-3 : tie.Need-returns-3
-unfolding scanOf scanInto scanNumber
-returns-3 c =
-    let k = c .before .before .before .before .before .before .before .before .before in
-    let i = k .before .before .before in
-    let a = i .before .before .args in
-    let d = due k in
-    let e : 12 * k .run-right .result .records ≡ 12 * length (events (a .st) (a .w) (a .self)) = ap (λ n. 12 * n) (d .0) in
-    answers-granted _ (length (events (a .st) (a .w) (a .self))) (now (a .out)) (atFront (events (a .st) (a .w) (a .self)) (now (a .out))) (grantedScan (a .st) (a .w) (a .self)) (refusedScan (a .self)) _ (i .input-number .ensures) _ _
-    (c .granted-scan .ensures ∙ ap scannedBy (k .run-right .ensures .0) ∙ once-answer (a .st) (a .w) (a .self) (input (k .before)))
-    (copied (events (a .st) (a .w) (a .self)) _ (replicate 384 0) _ (now (a .out)) _ e (d .1) (rw (once-events (a .st) (a .w) (a .self)) at (k .run-right .ensures .1)) (c .before .before .before .copy-front .ensures))
-    (k .before .before .if1 .left) (omega (arith, d .0, c .before .before .before .before .before .before .if2 .left))
+    let a = c .before .before .before .before .before .before .args in
+    let held = c .before .before .before .held .ensures in
+    (c .scan-of .ensures ∙ scan-is-held (a .st) (a .w) (a .self) _ _ (held .0), held .1 ∙ scan-into-held (a .st) (a .w) (a .self) (now (a .out)))
 
 pub scan-spec : {M : Type 1} → statement M
-scan-spec =
-    tie.close
-    (tie.spec
-    (λ c κs. search needs)
-    (λ c κs. search needs)
-    returns
-    (λ c. search needs)
-    run-right-requires
-    mul-at
-    (λ c κs. search needs)
-    returns-2
-    (λ c. search needs)
-    copy-front-requires
-    (λ c κs. search needs)
-    (λ c. search needs)
-    returns-3)
+scan-spec = tie.close (tie.spec (λ c κs. search needs) (λ c κs. search needs) (λ c. search needs) returns)
