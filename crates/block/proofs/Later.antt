@@ -13,7 +13,7 @@ use Rattle.bits.specs.Lists.{tabulate}
 use Rattle.bits.specs.Words.{bitOf}
 use Rattle.bits.proofs.Lists.{and-left, and-right, map-tabulate, tabulate-ext}
 use Rattle.bits.proofs.Words.{wordOf-ext}
-use Rattle.rules.specs.declared.Signals.{Signals}
+use Rattle.rules.specs.Signals.{Signals}
 use Rattle.rules.specs.Rules.{isLatent, isExercised, noSignals}
 use Rattle.effects.specs.Scan.{latentWord, anyExercised}
 use Rattle.rounds.specs.Steps.{clear}

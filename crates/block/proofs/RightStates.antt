@@ -15,9 +15,8 @@ use Rattle.bits.proofs.Lists.{and-left, and-right, both as both-true, all-at, a
 use Rattle.bits.proofs.Words.{less-inside}
 use Rattle.rules.specs.declared.EffectState.{EffectState}
 use Rattle.rules.specs.declared.EffectState.the-variants.{Normal, Delayed}
-use Rattle.rules.specs.declared.Signals.{Signals}
+use Rattle.rules.specs.Signals.{Signals, Asks}
 use Rattle.rules.specs.declared.Slot.{Slot}
-use Rattle.rules.specs.declared.Asks.{Asks}
 use Rattle.rules.specs.Rules.{same, rule, asks, after as stateAfter, next, noSlot, noSignals}
 use Rattle.rules.proofs.Answers.{both, allStates, every, every-at}
 use Rattle.effects.specs.Scan.{steps}

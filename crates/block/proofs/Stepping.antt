@@ -7,7 +7,7 @@ use native.Mathlib.Omega.{arith}
 use borrow.Author.Tests.{le-leb}
 use lib.ListN.{length}
 use Rattle.bits.specs.Words.{one}
-use Rattle.rules.specs.declared.Signals.{Signals}
+use Rattle.rules.specs.Signals.{Signals}
 use Rattle.effects.specs.Scan.{effectWord, latentWord, anyExercised}
 use Rattle.rounds.specs.Steps.{Run, scan, held}
 use Rattle.settings.specs.declared.Settings.{Settings}

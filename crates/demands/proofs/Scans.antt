@@ -8,7 +8,7 @@ use lib.ListN.{length, getD}
 use Rattle.bits.specs.Words.{bitOf}
 use Rattle.bits.proofs.Lists.{length-tabulate, getD-tabulate}
 use Rattle.bits.proofs.Words.{wordOf-lt, bit-wordOf}
-use Rattle.rules.specs.declared.Signals.{Signals}
+use Rattle.rules.specs.Signals.{Signals}
 use Rattle.rules.specs.Rules.{noSlot, noSignals, next, isLatent}
 use Rattle.effects.specs.Scan.{latentWord}
 use Rattle.effects.proofs.Laws.{step-at, step-past}

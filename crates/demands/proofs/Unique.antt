@@ -45,13 +45,7 @@ use Rattle.settings.proofs.bad_trip.Reads as settings·bad-trip
 use Rattle.rules.proofs.code.Reads as rules·code
 use Rattle.rules.proofs.state_of.Reads as rules·state-of
 use Rattle.rules.proofs.same.Reads as rules·same
-use Rattle.rules.proofs.after.Reads as rules·after
-use Rattle.rules.proofs.next.Reads as rules·next
-use Rattle.rules.proofs.moved.Reads as rules·moved
 use Rattle.rules.proofs.less.Reads as rules·less
-use Rattle.rules.proofs.is_on.Reads as rules·is-on
-use Rattle.rules.proofs.is_latent.Reads as rules·is-latent
-use Rattle.rules.proofs.is_exercised.Reads as rules·is-exercised
 use Rattle.bits.proofs.within.Reads as bits·within
 use Rattle.bits.proofs.count_bits.Reads as bits·count-bits
 use Rattle.walk.specs.Walks.{startOf, nextOf, movedOn}
@@ -168,26 +162,8 @@ rules-state-of κs = record { nothing-asked = λ a. tt; unique = by-equation (ru
 pub rules-same : (κs : Lfts 0) → OneAnswer (rules·same.Asked κs) (rules·same.Learnt κs) none
 rules-same κs = record { nothing-asked = λ a. tt; unique = by-equation (rules·same.Learnt κs) _ (λ a r e h. h) }
 
-pub rules-after : (κs : Lfts 0) → OneAnswer (rules·after.Asked κs) (rules·after.Learnt κs) none
-rules-after κs = record { nothing-asked = λ a. tt; unique = by-equation (rules·after.Learnt κs) _ (λ a r e h. h) }
-
-pub rules-next : (κs : Lfts 0) → OneAnswer (rules·next.Asked κs) (rules·next.Learnt κs) none
-rules-next κs = record { nothing-asked = λ a. tt; unique = by-equation (rules·next.Learnt κs) _ (λ a r e h. h) }
-
-pub rules-moved : (κs : Lfts 0) → OneAnswer (rules·moved.Asked κs) (rules·moved.Learnt κs) none
-rules-moved κs = record { nothing-asked = λ a. tt; unique = by-equation (rules·moved.Learnt κs) _ (λ a r e h. h) }
-
 pub rules-less : (κs : Lfts 0) → OneAnswer (rules·less.Asked κs) (rules·less.Learnt κs) none
 rules-less κs = record { nothing-asked = λ a. tt; unique = by-equation (rules·less.Learnt κs) _ (λ a r e h. h) }
-
-pub rules-is-on : (κs : Lfts 0) → OneAnswer (rules·is-on.Asked κs) (rules·is-on.Learnt κs) none
-rules-is-on κs = record { nothing-asked = λ a. tt; unique = by-equation (rules·is-on.Learnt κs) _ (λ a r e h. h) }
-
-pub rules-is-latent : (κs : Lfts 0) → OneAnswer (rules·is-latent.Asked κs) (rules·is-latent.Learnt κs) none
-rules-is-latent κs = record { nothing-asked = λ a. tt; unique = by-equation (rules·is-latent.Learnt κs) _ (λ a r e h. h) }
-
-pub rules-is-exercised : (κs : Lfts 0) → OneAnswer (rules·is-exercised.Asked κs) (rules·is-exercised.Learnt κs) none
-rules-is-exercised κs = record { nothing-asked = λ a. tt; unique = by-equation (rules·is-exercised.Learnt κs) _ (λ a r e h. h) }
 
 -- ## Words (`bits`)
 

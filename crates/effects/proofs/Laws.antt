@@ -4,7 +4,7 @@ use mathlib.Core.List.{List, [], _∷_}
 use Prim.Native.Nat.{ℕ, zero, suc, _≤_, _<_}
 use native.Mathlib.Nat.{le-of-suc-le-suc, not-suc-le-zero}
 use lib.ListN.{length, getD}
-use Rattle.rules.specs.declared.Signals.{Signals}
+use Rattle.rules.specs.Signals.{Signals}
 use Rattle.rules.specs.declared.Slot.{Slot}
 use Rattle.bits.specs.Words.{one}
 use Rattle.rules.specs.Rules.{next}

@@ -3,7 +3,7 @@ use Prim.Native.Nat.{_+_, _*_}
 use mathlib.Core.List.{List}
 use lib.ListN.{length}
 use Rattle.bits.specs.Words.{one}
-use Rattle.rules.specs.declared.Signals.{Signals}
+use Rattle.rules.specs.Signals.{Signals}
 use Rattle.effects.specs.declared.Progress.{Progress}
 use Rattle.effects.specs.Scan.{steps, anyMoved, seqAfter, records}
 

@@ -5,7 +5,7 @@ use mathlib.Core.Bool.{Bool, false, cond, _||_}
 use mathlib.Core.List.{List, [], _∷_, _++_}
 use lib.ListN.{length, getD}
 use Rattle.bits.specs.Words.{wordOf}
-use Rattle.rules.specs.declared.Signals.{Signals}
+use Rattle.rules.specs.Signals.{Signals}
 use Rattle.rules.specs.declared.Slot.{Slot}
 use Rattle.rules.specs.Rules.{noSlot, noSignals, after, next, moved, isOn, isLatent, isExercised}
 use Rattle.effects.specs.declared.Event.{Event}

@@ -7,7 +7,7 @@ use Rattle.bits.specs.Words.{bitOf, wordOf}
 use Rattle.bits.proofs.Words.{and-word, or-word, less-word, wordOf-ext}
 use Rattle.rules.specs.declared.EffectState.{EffectState}
 use Rattle.rules.specs.declared.EffectState.the-variants.{Tripped, WaitReset, Ready, WaitStart, Normal, Delayed}
-use Rattle.rules.specs.declared.Asks.{Asks}
+use Rattle.rules.specs.Signals.{Asks}
 use Rattle.rules.specs.Rules.{same, rule}
 use Rattle.rules.proofs.Answers.{both, allStates, every, every-at, states-at}
 use Rattle.planes.specs.declared.Asked.{Asked}

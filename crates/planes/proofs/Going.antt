@@ -8,7 +8,7 @@ use lib.ListN.{length, length-append}
 use lib.Seq.{sets, length-sets}
 use Rattle.bits.specs.Words.{one}
 use Rattle.bits.proofs.Numbers.{sets-append}
-use Rattle.rules.specs.declared.Signals.{Signals}
+use Rattle.rules.specs.Signals.{Signals}
 use Rattle.rules.specs.declared.Slot.{Slot}
 use Rattle.effects.specs.declared.Event.{Event}
 use Rattle.effects.specs.declared.Progress.{Progress}

@@ -15,7 +15,7 @@ use Rattle.bits.proofs.Lists.{length-tabulate, getD-tabulate}
 use Rattle.bits.proofs.Words.{bit-wordOf}
 use Rattle.rules.specs.declared.EffectState.the-variants.{Delayed}
 use Rattle.rules.specs.declared.Slot.{Slot}
-use Rattle.rules.specs.declared.Signals.{Signals}
+use Rattle.rules.specs.Signals.{Signals}
 use Rattle.rules.specs.Rules.{noSlot, same, asks, next, moved}
 use Rattle.effects.specs.Scan.{anyMoved}
 use Rattle.rounds.specs.Stroke.{quiet, advance, quiets, advances}

@@ -15,7 +15,7 @@ use Rattle.bits.proofs.Words.{wordOf-lt, bit-wordOf, bit-past}
 use Rattle.rules.specs.declared.EffectState.{EffectState}
 use Rattle.rules.specs.declared.EffectState.the-variants.{Tripped, WaitReset, Ready, WaitStart, Normal, Delayed}
 use Rattle.rules.specs.declared.Slot.{Slot}
-use Rattle.rules.specs.declared.Signals.{Signals}
+use Rattle.rules.specs.Signals.{Signals}
 use Rattle.rules.specs.Rules.{noSlot, code, same, after, next, moved}
 use Rattle.effects.specs.declared.Event.{Event}
 use Rattle.effects.specs.Records.{encode, bytes}

@@ -14,7 +14,7 @@ use Rattle.bits.proofs.Lists.{length-tabulate, tabulate-ext, tabulate-take, get
 use Rattle.bits.proofs.Words.{bit-wordOf, wordOf-ext}
 use Rattle.rules.specs.declared.EffectState.the-variants.{Normal, Delayed}
 use Rattle.rules.specs.declared.Slot.{Slot}
-use Rattle.rules.specs.declared.Signals.{Signals}
+use Rattle.rules.specs.Signals.{Signals}
 use Rattle.rules.specs.Rules.{noSlot, same, asks, next}
 use Rattle.effects.specs.Scan.{steps}
 use Rattle.effects.proofs.Laws.{step-at}

@@ -13,7 +13,7 @@ use Rattle.bits.specs.Words.{bitOf, wordOf, one}
 use Rattle.bits.proofs.Lists.{length-tabulate, map-tabulate}
 use Rattle.bits.proofs.Words.{wordOf-lt}
 use Rattle.rules.specs.declared.Slot.{Slot}
-use Rattle.rules.specs.declared.Signals.{Signals}
+use Rattle.rules.specs.Signals.{Signals}
 use Rattle.rules.specs.Rules.{noSlot, asks, moved, next}
 use Rattle.effects.specs.declared.Event.{Event}
 use Rattle.effects.specs.declared.Progress.{Progress}

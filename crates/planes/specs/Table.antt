@@ -9,7 +9,7 @@ use lib.ListN.{drop, getD, length, replicate}
 use Rattle.bits.specs.Layout.{pack}
 use Rattle.bits.specs.Lists.{tabulate}
 use Rattle.bits.specs.Words.{bitOf, wordOf}
-use Rattle.rules.specs.declared.Asks.{Asks}
+use Rattle.rules.specs.Signals.{Asks}
 use Rattle.rules.specs.declared.Slot.{Slot}
 use Rattle.rules.specs.Rules.{noSlot}
 use Rattle.planes.specs.declared.Asked.{Asked}

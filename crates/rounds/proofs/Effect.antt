@@ -12,8 +12,7 @@ use Rattle.bits.specs.Words.{one}
 use Rattle.rules.specs.declared.EffectState.{EffectState}
 use Rattle.rules.specs.declared.EffectState.the-variants.{Tripped, WaitReset, Ready, WaitStart, Normal, Delayed}
 use Rattle.rules.specs.declared.Slot.{Slot}
-use Rattle.rules.specs.declared.Signals.{Signals}
-use Rattle.rules.specs.declared.Asks.{Asks}
+use Rattle.rules.specs.Signals.{Signals, Asks}
 use Rattle.rules.specs.Rules.{same, rule, asks, after, enter, next, moved}
 use Rattle.rounds.specs.Steps.{clear, moves}
 use Rattle.rounds.specs.Stroke.{quiet, advance}

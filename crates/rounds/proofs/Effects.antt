@@ -9,7 +9,7 @@ use native.Mathlib.Omega.{arith}
 use lib.ListN.{length}
 use Rattle.bits.specs.Words.{one}
 use Rattle.rules.specs.declared.Slot.{Slot}
-use Rattle.rules.specs.declared.Signals.{Signals}
+use Rattle.rules.specs.Signals.{Signals}
 use Rattle.rules.specs.Rules.{asks, moved}
 use Rattle.effects.specs.Scan.{steps, anyMoved, wrapped, seqAfter, records, event}
 use Rattle.effects.proofs.Records.{length-only}

@@ -10,7 +10,7 @@ use native.Mathlib.Omega.{arith}
 use lib.ListN.{length, length-append}
 use Rattle.bits.specs.Words.{one}
 use Rattle.rules.specs.declared.Slot.{Slot}
-use Rattle.rules.specs.declared.Signals.{Signals}
+use Rattle.rules.specs.Signals.{Signals}
 use Rattle.effects.specs.declared.Event.{Event}
 use Rattle.effects.specs.Scan.{steps, records}
 use Rattle.effects.proofs.Laws.{length-steps}

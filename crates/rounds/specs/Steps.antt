@@ -5,7 +5,7 @@ use mathlib.Core.Bool.{false}
 use mathlib.Core.List.{List, [], _++_, map}
 use lib.ListN.{length}
 use Rattle.bits.specs.Words.{one}
-use Rattle.rules.specs.declared.Signals.{Signals}
+use Rattle.rules.specs.Signals.{Signals}
 use Rattle.rules.specs.declared.Slot.{Slot}
 use Rattle.rules.specs.Rules.{next, moved}
 use Rattle.effects.specs.declared.Event.{Event}

@@ -4,7 +4,7 @@ use mathlib.Core.Bool.{Bool, true, false, _&&_}
 use Rattle.bits.proofs.Lists.{and-left, and-right}
 use Rattle.rules.specs.declared.EffectState.{EffectState}
 use Rattle.rules.specs.declared.EffectState.the-variants.{Tripped, WaitReset, Ready, WaitStart, Normal, Delayed}
-use Rattle.rules.specs.declared.Asks.{Asks}
+use Rattle.rules.specs.Signals.{Asks}
 
 -- the test holds of both bools
 unfoldable pub both : (Bool → Bool) → Bool

@@ -5,8 +5,7 @@ use lib.Dec.{leb, ltb, eqb}
 use Rattle.rules.specs.declared.EffectState.{EffectState}
 use Rattle.rules.specs.declared.EffectState.the-variants.{Tripped, WaitReset, Ready, WaitStart, Normal, Delayed}
 use Rattle.rules.specs.declared.Slot.{Slot}
-use Rattle.rules.specs.declared.Signals.{Signals}
-use Rattle.rules.specs.declared.Asks.{Asks}
+use Rattle.rules.specs.Signals.{Signals, Asks}
 
 -- the state codes
 abbrev pub code : EffectState → ℕ

@@ -7,7 +7,7 @@ use lib.Dec.{eqb, ltb}
 use lib.ListN.{getD}
 use Rattle.bits.specs.Lists.{tabulate}
 use Rattle.bits.specs.Words.{bitOf}
-use Rattle.rules.specs.declared.Signals.{Signals}
+use Rattle.rules.specs.Signals.{Signals}
 use Rattle.settings.specs.declared.Effect.{Effect}
 use Rattle.settings.specs.declared.Settings.{Settings}
 use Rattle.settings.specs.declared.Words.{Words}

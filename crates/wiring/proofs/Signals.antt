@@ -15,7 +15,7 @@ use Rattle.bits.proofs.Lists.{length-tabulate, tabulate-ext, getD-tabulate}
 use Rattle.bits.proofs.Words.{bit-wordOf, wordOf-ext, wordOf-lt, word-bits, and-assoc, and-word, or-word}
 use Rattle.rules.specs.declared.EffectState.{EffectState}
 use Rattle.rules.specs.declared.EffectState.the-variants.{Tripped, WaitReset, Ready, WaitStart, Normal, Delayed}
-use Rattle.rules.specs.declared.Signals.{Signals}
+use Rattle.rules.specs.Signals.{Signals}
 use Rattle.rules.specs.declared.Slot.{Slot}
 use Rattle.rules.specs.Rules.{noSlot, noSignals, asks, same, isOn, isLatent, isExercised}
 use Rattle.effects.specs.Scan.{effectWord, latentWord, anyExercised}

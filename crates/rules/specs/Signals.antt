@@ -1,0 +1,29 @@
+-- What one effect sees in one scan, and what the rules ask of it. Document 01, "The rules of one scan".
+use Prim.Native.Nat.{ℕ}
+use mathlib.Core.Bool.{Bool}
+
+-- what one effect sees: the causes that are active, whether there is a Bad trip, the forces that count, its bits of the other
+-- words (require reset, reset permit, start permit, reset), its delay and the scan period
+pub record Signals : Type 0 where
+  pub active : ℕ
+  pub bad : Bool
+  pub trip : Bool
+  pub normal : Bool
+  pub require : Bool
+  pub permit : Bool
+  pub start : Bool
+  pub reset : Bool
+  pub delay : ℕ
+  pub period : ℕ
+
+-- what the rules ask of it, yes or no: active and delayed say that the word and the delay are not 0
+pub record Asks : Type 0 where
+  pub trip : Bool
+  pub normal : Bool
+  pub bad : Bool
+  pub active : Bool
+  pub require : Bool
+  pub permit : Bool
+  pub start : Bool
+  pub reset : Bool
+  pub delayed : Bool
