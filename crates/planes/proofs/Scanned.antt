@@ -18,11 +18,11 @@ use Rattle.rules.specs.declared.Slot.{Slot}
 use Rattle.rules.specs.declared.Signals.{Signals}
 use Rattle.rules.specs.Rules.{noSlot, code, same, after, next, moved}
 use Rattle.effects.specs.declared.Event.{Event}
-use Rattle.effects.specs.Records.{encode, bytes}
+use Rattle.effects.specs.Records.{recordOf, encode, bytes}
 use Rattle.effects.specs.Scan.{records, seqAfter, only, event, wrapped}
 use Rattle.effects.proofs.Records.{bytes-append}
 use Rattle.planes.specs.Planes.{planesOf, oneOf, codeAt}
-use Rattle.planes.specs.Table.{padded, entry, entryAt, entriesTo, joined}
+use Rattle.planes.specs.Table.{padded, entryAt, entriesTo, joined}
 use Rattle.planes.proofs.Picked.{picked-none, picked-yes, picked-no, picked-skip}
 use Rattle.planes.proofs.Records.{joined-snoc}
 use Rattle.planes.proofs.Step.{padded-at}
@@ -102,7 +102,7 @@ module _ (size : ℕ) (few : size ≤ 16) (s : ℕ → Signals) (xs : List Slot)
     laid : joined (entries n) ≡ bytes (events n)
 
   more : (n : ℕ) → n < size → Same n → Same (suc n)
-  unfolding tabulate entryAt entry encode
+  unfolding tabulate entryAt encode
   more n h r = go (moved (s n) (x n)) refl
     where
       room : length (tabulate s n) < length xs
@@ -141,7 +141,7 @@ module _ (size : ℕ) (few : size ≤ 16) (s : ℕ → Signals) (xs : List Slot)
           turn : (a b : ℕ) → b ≡ a + 1 → seqAfter q (tabulate s n) xs ≡ (q + a) % 2 ^ 16 → wrapped (seqAfter q (tabulate s n) xs) ≡ (q + b) % 2 ^ 16
           turn a b u v = rw (u, v) (omega arith)
 
-          entry-here : entry ((q + length (entries n)) % 2 ^ 16) c (n + 1) (codeAt (planesOf size (λ i. x i .state)) n) (codeAt (planesOf size (λ i. y i .state)) n) (getD (padded size (λ i. y i .first)) n 0)
+          entry-here : recordOf ((q + length (entries n)) % 2 ^ 16) c (n + 1) (codeAt (planesOf size (λ i. x i .state)) n) (codeAt (planesOf size (λ i. y i .state)) n) (getD (padded size (λ i. y i .first)) n 0)
               ≡ encode (event (seqAfter q (tabulate s n) xs) c (1 + n) (s n) (x n))
           entry-here =
               let k : n + 1 ≡ 1 + n = omega arith in

@@ -11,11 +11,10 @@ ghost use lib.Count.{trailingZeros};
 ghost use lib.ListN.{drop, getD, length, replicate};
 ghost use lib.Seq.{sets};
 ghost use Rattle.bits.specs.Lists.{tabulate};
-ghost use Rattle.bits.specs.Layout.{pack};
 ghost use Rattle.bits.specs.Words.{bitOf, wordOf, one};
 ghost use Rattle.rules.specs.Rules.{noSlot, same};
-ghost use Rattle.effects.specs.Records.{bytes};
-ghost use Rattle.rounds.specs.Steps.{held, progressOf};
+ghost use Rattle.effects.specs.Records.{recordLength, bytes};
+ghost use Rattle.rounds.specs.Steps.{held};
 ghost use Rattle.planes.specs.Planes.{planesAfter, changedOf, oneOf, codeAt, stateAt};
 ghost use Rattle.planes.specs.Table.{activeAt, dueIn, timerBy, firstBy, Still, Blank, Settled, Within, lowTo, quietsBy, entriesTo, joined, tableOf, slotAt, slotsOf};
 ghost use Rattle.planes.specs.Board.{boardAt, markOf, entriesOf, scanned, unset as unsetOf, begun, Right, signalsIn, runOf, boardOf};
@@ -301,8 +300,8 @@ fn put_scan(
     is: Planes,
     firsts: &[u16; 16],
 ) -> usize
-    requires { ⌜ at0 + 12 * length (entriesTo q0 number ch was is (now firsts) 16) ≤ length (now buf) ⌝ }
-    ensures { λ r. ⌜ (r ≡ at0 + 12 * length (entriesTo q0 number ch was is (now (firsts .entry)) 16)) × (now (buf .exit) ≡ sets (now (buf .entry)) at0 (joined (entriesTo q0 number ch was is (now (firsts .entry)) 16))) ⌝ }
+    requires { ⌜ at0 + recordLength * length (entriesTo q0 number ch was is (now firsts) 16) ≤ length (now buf) ⌝ }
+    ensures { λ r. ⌜ (r ≡ at0 + recordLength * length (entriesTo q0 number ch was is (now (firsts .entry)) 16)) × (now (buf .exit) ≡ sets (now (buf .entry)) at0 (joined (entriesTo q0 number ch was is (now (firsts .entry)) 16))) ⌝ }
 {
     let mut at = at0;
     let mut q = q0;
@@ -331,7 +330,7 @@ fn put_scan(
 // The sequence number after the records from one place to another.
 fn seq_after(q: u16, from: usize, to: usize) -> u16
     requires { ⌜ (from ≤ to) × (to ≤ from + 192) ⌝ }
-    ensures { λ r. ⌜ r ≡ (q + (to - from) / 12) % 2 ^ 16 ⌝ }
+    ensures { λ r. ⌜ r ≡ (q + (to - from) / recordLength) % 2 ^ 16 ⌝ }
 {
     std::num::wrapping_add_u16(q, ((to - from) / 12) as u16)
 }
@@ -356,7 +355,7 @@ fn scan(
     timers: &mut [u32; 16],
     firsts: &mut [u16; 16],
 ) -> Mark
-    requires { ⌜ (count ≤ 16) × (x .done < 1000000000) × (x .live < 1000000) × Settled count (boardAt x (now timers) (now firsts) .table) × Within count (x .planes) × Within count (scanned count (now causes) (now delays) period tripped w (boardAt x (now timers) (now firsts)) .table .planes) × (x .at + 12 * length (entriesOf count (now causes) (now delays) period tripped w (boardAt x (now timers) (now firsts))) ≤ length (now buf)) ⌝ }
+    requires { ⌜ (count ≤ 16) × (x .done < 1000000000) × (x .live < 1000000) × Settled count (boardAt x (now timers) (now firsts) .table) × Within count (x .planes) × Within count (scanned count (now causes) (now delays) period tripped w (boardAt x (now timers) (now firsts)) .table .planes) × (x .at + recordLength * length (entriesOf count (now causes) (now delays) period tripped w (boardAt x (now timers) (now firsts))) ≤ length (now buf)) ⌝ }
     ensures { λ r. ⌜ (boardAt r (now (timers .exit)) (now (firsts .exit)) ≡ scanned count (now (causes .entry)) (now (delays .entry)) period tripped w (boardAt x (now (timers .entry)) (now (firsts .entry)))) × (now (buf .exit) ≡ sets (now (buf .entry)) (x .at) (joined (entriesOf count (now (causes .entry)) (now (delays .entry)) period tripped w (boardAt x (now (timers .entry)) (now (firsts .entry)))))) ⌝ }
 {
     let was = x.planes;
@@ -429,8 +428,8 @@ pub fn stroke(
     timers: &mut [u32; 16],
     firsts: &mut [u16; 16],
 ) -> Mark
-    requires { ⌜ (count ≤ 16) × (hold ≤ 1000000) × (0 < period) × (period ≤ 1000) × (from .done + hold ≤ 1000000000) × Right count (now causes) (now delays) period tripped asked (boardAt from (now timers) (now firsts)) × (12 * length (held (signalsIn count (now causes) (now delays) period tripped asked) hold (runOf count (boardAt from (now timers) (now firsts))) .events) ≤ length (now buf)) ⌝ }
-    ensures { λ r. ⌜ (boardAt r (now (timers .exit)) (now (firsts .exit)) ≡ boardOf count (progressOf (held (signalsIn count (now (causes .entry)) (now (delays .entry)) period tripped asked) hold (runOf count (boardAt from (now (timers .entry)) (now (firsts .entry))))))) × (now (buf .exit) ≡ sets (now (buf .entry)) 0 (bytes (held (signalsIn count (now (causes .entry)) (now (delays .entry)) period tripped asked) hold (runOf count (boardAt from (now (timers .entry)) (now (firsts .entry)))) .events))) ⌝ }
+    requires { ⌜ (count ≤ 16) × (hold ≤ 1000000) × (0 < period) × (period ≤ 1000) × (from .done + hold ≤ 1000000000) × Right count (now causes) (now delays) period tripped asked (boardAt from (now timers) (now firsts)) × (recordLength * length (held (signalsIn count (now causes) (now delays) period tripped asked) hold (runOf count (boardAt from (now timers) (now firsts))) .events) ≤ length (now buf)) ⌝ }
+    ensures { λ r. ⌜ (boardAt r (now (timers .exit)) (now (firsts .exit)) ≡ boardOf count (held (signalsIn count (now (causes .entry)) (now (delays .entry)) period tripped asked) hold (runOf count (boardAt from (now (timers .entry)) (now (firsts .entry)))))) × (now (buf .exit) ≡ sets (now (buf .entry)) 0 (bytes (held (signalsIn count (now (causes .entry)) (now (delays .entry)) period tripped asked) hold (runOf count (boardAt from (now (timers .entry)) (now (firsts .entry)))) .events))) ⌝ }
 {
     let mut w = asked;
     let mut x = begin(from);

@@ -7,7 +7,6 @@ use Rattle.rules.specs.declared.EffectState.the-variants.{Delayed}
 use Rattle.rules.specs.declared.Signals.{Signals}
 use Rattle.rules.specs.declared.Slot.{Slot}
 use Rattle.rules.specs.Rules.{same, moved}
-use Rattle.effects.specs.declared.Progress.{Progress}
 use Rattle.rounds.specs.Steps.{Run, scan, clear}
 
 -- every period is 1 to 1,000
@@ -40,17 +39,6 @@ advances k (s ∷ ss) [] = []
 advances k (s ∷ ss) (x ∷ xs) = advance k s x ∷ advances k ss xs
 
 -- ## A run
-
--- the run after k such scans, as the proofs carry it
-abbrev pub skipped : ℕ → List Signals → Progress → Progress
-skipped k ss p =
-    record {
-      done = p .done + k;
-      next = p .next;
-      slots = advances k ss (p .slots);
-      at = p .at;
-      live = p .live;
-    }
 
 -- the run after k such scans: they give no event and are not live
 abbrev pub skip : ℕ → List Signals → Run → Run
