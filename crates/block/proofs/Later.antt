@@ -17,7 +17,7 @@ use Rattle.rules.specs.declared.Signals.{Signals}
 use Rattle.rules.specs.Rules.{isLatent, isExercised, noSignals}
 use Rattle.effects.specs.Scan.{latentWord, anyExercised}
 use Rattle.rounds.specs.Steps.{clear}
-use Rattle.rounds.specs.Stroke.{Timed}
+use Rattle.rounds.proofs.Effects.{Timed}
 use Rattle.settings.specs.declared.Limits.{Limits}
 use Rattle.settings.specs.declared.Settings.{Settings}
 use Rattle.settings.specs.declared.Words.{Words}

@@ -15,8 +15,8 @@ use Rattle.effects.specs.Scan.{steps, anyMoved}
 use Rattle.effects.specs.Records.{recordLength, bytes}
 use Rattle.effects.proofs.Records.{bytes-append, length-bytes}
 use Rattle.rounds.specs.Steps.{Run, start, scan, clear, held}
-use Rattle.rounds.specs.Stroke.{Timed, quiets, skip}
-use Rattle.rounds.proofs.Effects.{ranks, timed-clear, quiets-le}
+use Rattle.rounds.specs.Stroke.{quiets, skip}
+use Rattle.rounds.proofs.Effects.{Timed, ranks, timed-clear, quiets-le}
 use Rattle.rounds.proofs.Held.{due, ranks-first, grows, round-turn, round-falls}
 
 -- a scan counts at most once

@@ -19,7 +19,8 @@ use Rattle.effects.specs.Records.{recordLength, bytes}
 use Rattle.effects.specs.Scan.{wrapped, steps, anyMoved, seqAfter}
 use Rattle.effects.proofs.Laws.{length-steps}
 use Rattle.rounds.specs.Steps.{Run, scan, clear, held}
-use Rattle.rounds.specs.Stroke.{Timed, quiets, advances, skip}
+use Rattle.rounds.specs.Stroke.{quiets, advances, skip}
+use Rattle.rounds.proofs.Effects.{Timed}
 use Rattle.rounds.proofs.Held.{due}
 use Rattle.planes.specs.declared.Asked.{Asked}
 use Rattle.planes.specs.declared.Board.{Board}

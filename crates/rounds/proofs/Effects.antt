@@ -14,8 +14,13 @@ use Rattle.rules.specs.Rules.{asks, moved}
 use Rattle.effects.specs.Scan.{steps, anyMoved, wrapped, seqAfter, records, event}
 use Rattle.effects.proofs.Records.{length-only}
 use Rattle.rounds.specs.Steps.{clear}
-use Rattle.rounds.specs.Stroke.{Timed, quiet, advance, quiets, advances}
+use Rattle.rounds.specs.Stroke.{quiet, advance, quiets, advances}
 use Rattle.rounds.proofs.Effect as each
+
+-- every period is 1 to 1,000
+abbrev pub Timed : List Signals → Type 0
+Timed [] = Unit {0}
+Timed (s ∷ ss) = (0 < s .period) × (s .period ≤ 1000) × Timed ss
 
 -- ## The resets cleared
 

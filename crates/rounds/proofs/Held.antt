@@ -14,11 +14,10 @@ use Rattle.rules.specs.declared.Signals.{Signals}
 use Rattle.effects.specs.declared.Event.{Event}
 use Rattle.effects.specs.Scan.{steps, records}
 use Rattle.effects.proofs.Laws.{length-steps}
-use Rattle.rounds.specs.Iterate.{iterate, rounds}
 use Rattle.rounds.specs.Steps.{Run, start, scan, clear, held}
-use Rattle.rounds.specs.Stroke.{Timed, quiets, advances, skip, byRounds}
-use Rattle.rounds.proofs.Rounds.{Skips, joined, rounds-are-steps}
-use Rattle.rounds.proofs.Effects.{clear-clear, timed-clear, Settled, settled-steps, settled-clear, quiets-le, advances-none, steps-more, still, no-records, same-seq, wakes, ranks, ranks-clear, ranks-advances, records-fall, records-two, live-recorded}
+use Rattle.rounds.specs.Stroke.{quiets, advances, skip, byRounds}
+use Rattle.rounds.proofs.Rounds.{iterate, rounds, Skips, joined, rounds-are-steps}
+use Rattle.rounds.proofs.Effects.{Timed, clear-clear, timed-clear, Settled, settled-steps, settled-clear, quiets-le, advances-none, steps-more, still, no-records, same-seq, wakes, ranks, ranks-clear, ranks-advances, records-fall, records-two, live-recorded}
 
 -- the events of a run's next scan
 abbrev pub due : List Signals → Run → List Event

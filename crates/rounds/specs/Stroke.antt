@@ -1,6 +1,6 @@
--- One stroke by rounds. Document 01, "Held runs and their two counts". Of this page one promise cites `byRounds`
--- (`rounds-suffice`, block/proofs/Theorems); the rest serves its proof.
-use Prim.Native.Nat.{ℕ, zero, suc, _+_, _-_, _*_, _/_, min, _≤_, _<_}
+-- One stroke by rounds. Document 01, "Held runs and their two counts". A promise cites `byRounds` (`rounds-suffice`,
+-- block/proofs/Theorems); no contract does.
+use Prim.Native.Nat.{ℕ, zero, suc, _+_, _-_, _*_, _/_, min}
 use mathlib.Core.Bool.{cond}
 use mathlib.Core.List.{List, [], _∷_, map}
 use Rattle.rules.specs.declared.EffectState.the-variants.{Delayed}
@@ -8,11 +8,6 @@ use Rattle.rules.specs.declared.Signals.{Signals}
 use Rattle.rules.specs.declared.Slot.{Slot}
 use Rattle.rules.specs.Rules.{same, moved}
 use Rattle.rounds.specs.Steps.{Run, scan, clear}
-
--- every period is 1 to 1,000
-abbrev pub Timed : List Signals → Type 0
-Timed [] = Unit {0}
-Timed (s ∷ ss) = (0 < s .period) × (s .period ≤ 1000) × Timed ss
 
 -- ## One effect
 
