@@ -1,12 +1,12 @@
 -- Laws of words of bits: each once, over the bit's number.
 use mathlib.Core.Path.{_≡_, refl, ap, ap₂, sym, _∙_}
-use mathlib.Core.Bool.{Bool, true, false, cond, not, _&&_, _||_}
+use mathlib.Core.Bool.{Bool, true, false, cond, not, _&&_, _||_, xor}
 use mathlib.Core.Logic.{⊎-elim}
 use Prim.Native.Nat.{ℕ, zero, suc, _+_, _-_, _*_, _/_, _%_, _^_, _<_, _≤_}
 use native.Mathlib.Nat.{lt-of-lt-of-le, lt-of-le-of-lt, pow-suc, mul-assoc, add-mul-div-right, add-mul-mod-self-right, div-eq-of-lt, mod-eq-of-lt, mod-lt, mod-one, zero-add, zero-lt-suc, eq-or-lt-of-le, le-of-suc-le-suc, not-suc-le-zero}
 use native.Mathlib.Numerals.{add-one, one-add}
 use native.Mathlib.Omega.{arith}
-use lib.Bits.{bitAnd, bitOr, or-shifted-r, and-shr, or-shr, and-mod, or-mod, and-le-l, and-lt, or-lt}
+use lib.Bits.{bitAnd, bitOr, bitXor, or-shifted-r, and-shr, or-shr, xor-shr, and-mod, or-mod, xor-mod, and-le-l, and-lt, or-lt}
 use lib.Dec.{eqb, lit<}
 use lib.Pow.{shl-exact, pow-add, pow-pos, pow-mono, mod-pow-add}
 use Rattle.bits.specs.Words.{bitOf, wordOf, one}
@@ -128,11 +128,24 @@ or-digits (suc zero) (suc zero) hx hy = refl
 or-digits (suc zero) (suc (suc y)) hx hy = absurd (omega arith)
 or-digits (suc (suc x)) y hx hy = absurd (omega arith)
 
+xor-digits : (x y : ℕ) → x < 2 → y < 2 → eqb (bitXor x y) 1 ≡ xor (eqb x 1) (eqb y 1)
+unfolding xor
+xor-digits zero zero hx hy = refl
+xor-digits zero (suc zero) hx hy = refl
+xor-digits zero (suc (suc y)) hx hy = absurd (omega arith)
+xor-digits (suc zero) zero hx hy = refl
+xor-digits (suc zero) (suc zero) hx hy = refl
+xor-digits (suc zero) (suc (suc y)) hx hy = absurd (omega arith)
+xor-digits (suc (suc x)) y hx hy = absurd (omega arith)
+
 pub bit-and : (v w i : ℕ) → bitOf (bitAnd v w) i ≡ (bitOf v i && bitOf w i)
 bit-and = bit-op bitAnd _&&_ and-shr and-mod and-digits
 
 pub bit-or : (v w i : ℕ) → bitOf (bitOr v w) i ≡ (bitOf v i || bitOf w i)
 bit-or = bit-op bitOr _||_ or-shr or-mod or-digits
+
+pub bit-xor : (v w i : ℕ) → bitOf (bitXor v w) i ≡ xor (bitOf v i) (bitOf w i)
+bit-xor = bit-op bitXor xor xor-shr xor-mod xor-digits
 
 -- the complement in n bits
 complement : (t : ℕ → Bool) (n : ℕ) → wordOf t n + wordOf (λ i. not (t i)) n ≡ 2 ^ n - 1

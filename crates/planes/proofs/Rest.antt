@@ -14,12 +14,12 @@ use lib.Seq.{drop-cons, getD-at}
 use Rattle.bits.specs.Lists.{tabulate}
 use Rattle.bits.specs.Words.{bitOf, wordOf}
 use Rattle.bits.proofs.Lists.{length-tabulate, tabulate-more, tabulate-ext, tabulate-take, getD-tabulate, fill}
-use Rattle.bits.proofs.Words.{bit-or}
+use Rattle.bits.proofs.Words.{bit-or, bit-xor}
 use Rattle.planes.specs.declared.Asked.{Asked}
 use Rattle.planes.specs.declared.Table.{Table}
 use Rattle.planes.specs.Planes.{planesAfter}
 use Rattle.planes.specs.Table.{activeIn, dueAt, timerBy, firstBy, Still, Blank, Settled, tableAfter, lowTo, tableLater}
-use Rattle.planes.proofs.Bits.{Rests, Done, no-bit, bit-xor, again, below, before-it, is-set}
+use Rattle.planes.proofs.Bits.{Rests, Done, no-bit, again, below, before-it, is-set}
 
 -- ## Filled anew
 

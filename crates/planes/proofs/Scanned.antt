@@ -19,7 +19,7 @@ use Rattle.rules.specs.declared.Signals.{Signals}
 use Rattle.rules.specs.Rules.{noSlot, code, same, after, next, moved}
 use Rattle.effects.specs.declared.Event.{Event}
 use Rattle.effects.specs.Records.{recordOf, encode, bytes}
-use Rattle.effects.specs.Scan.{records, seqAfter, only, event, wrapped}
+use Rattle.effects.specs.Scan.{eventsFrom, seqAfter, only, event, wrapped}
 use Rattle.effects.proofs.Records.{bytes-append}
 use Rattle.planes.specs.Planes.{planesOf, oneOf, codeAt}
 use Rattle.planes.specs.Table.{padded, entryAt, entriesTo, joined}
@@ -59,16 +59,16 @@ code-word n f i k =
 
 -- ## The lists' recursions, at their end
 
-records-snoc : (q c i : ℕ) (ss : List Signals) (s : Signals) (xs : List Slot) → length ss < length xs
-    → records q c i (ss ++ (s ∷ [])) xs
-    ≡ records q c i ss xs ++ only (moved s (getD xs (length ss) noSlot)) (event (seqAfter q ss xs) c (i + length ss) s (getD xs (length ss) noSlot))
-records-snoc q c i [] s [] h = absurd (not-suc-le-zero h)
-records-snoc q c i [] s (x ∷ xs) h = rw add-zero (append-nil (only (moved s x) (event q c i s x)))
-records-snoc q c i (r ∷ ss) s [] h = absurd (not-suc-le-zero h)
-records-snoc q c i (r ∷ ss) s (x ∷ xs) h =
-    ap (λ (l : List Event). only (moved r x) (event q c i r x) ++ l) (records-snoc (cond (moved r x) (wrapped q) q) c (suc i) ss s xs (le-of-suc-le-suc h))
-    ∙ sym (append-assoc (only (moved r x) (event q c i r x)) (records (cond (moved r x) (wrapped q) q) c (suc i) ss xs) _)
-    ∙ ap (λ (k : ℕ). only (moved r x) (event q c i r x) ++ records (cond (moved r x) (wrapped q) q) c (suc i) ss xs
+events-snoc : (q c i : ℕ) (ss : List Signals) (s : Signals) (xs : List Slot) → length ss < length xs
+    → eventsFrom q c i (ss ++ (s ∷ [])) xs
+    ≡ eventsFrom q c i ss xs ++ only (moved s (getD xs (length ss) noSlot)) (event (seqAfter q ss xs) c (i + length ss) s (getD xs (length ss) noSlot))
+events-snoc q c i [] s [] h = absurd (not-suc-le-zero h)
+events-snoc q c i [] s (x ∷ xs) h = rw add-zero (append-nil (only (moved s x) (event q c i s x)))
+events-snoc q c i (r ∷ ss) s [] h = absurd (not-suc-le-zero h)
+events-snoc q c i (r ∷ ss) s (x ∷ xs) h =
+    ap (λ (l : List Event). only (moved r x) (event q c i r x) ++ l) (events-snoc (cond (moved r x) (wrapped q) q) c (suc i) ss s xs (le-of-suc-le-suc h))
+    ∙ sym (append-assoc (only (moved r x) (event q c i r x)) (eventsFrom (cond (moved r x) (wrapped q) q) c (suc i) ss xs) _)
+    ∙ ap (λ (k : ℕ). only (moved r x) (event q c i r x) ++ eventsFrom (cond (moved r x) (wrapped q) q) c (suc i) ss xs
     ++ only (moved s (getD xs (length ss) noSlot)) (event (seqAfter (cond (moved r x) (wrapped q) q) ss xs) c k s (getD xs (length ss) noSlot))) (suc-add i (length ss) ∙ sym (add-suc i (length ss)))
 
 seq-snoc : (q : ℕ) (ss : List Signals) (s : Signals) (xs : List Slot) → length ss < length xs
@@ -94,7 +94,7 @@ module _ (size : ℕ) (few : size ≤ 16) (s : ℕ → Signals) (xs : List Slot)
   entries n = entriesTo q c ch (planesOf size (λ i. x i .state)) (planesOf size (λ i. y i .state)) (padded size (λ i. y i .first)) n
 
   abbrev events : ℕ → List Event
-  events n = records q c 1 (tabulate s n) xs
+  events n = eventsFrom q c 1 (tabulate s n) xs
 
   record Same (n : ℕ) : Type 0 where
     count : length (entries n) ≡ length (events n)
@@ -113,7 +113,7 @@ module _ (size : ℕ) (few : size ≤ 16) (s : ℕ → Signals) (xs : List Slot)
 
       next-events : events (suc n) ≡ events n ++ only (moved (s n) (x n)) (event (seqAfter q (tabulate s n) xs) c (1 + n) (s n) (x n))
       next-events =
-          records-snoc q c 1 (tabulate s n) (s n) xs room
+          events-snoc q c 1 (tabulate s n) (s n) xs room
           ∙ ap (λ (k : ℕ). events n ++ only (moved (s n) (getD xs k noSlot)) (event (seqAfter q (tabulate s n) xs) c (1 + k) (s n) (getD xs k noSlot))) (length-tabulate s n)
 
       next-number : seqAfter q (tabulate s (suc n)) xs ≡ cond (moved (s n) (x n)) (wrapped (seqAfter q (tabulate s n) xs)) (seqAfter q (tabulate s n) xs)

@@ -42,7 +42,7 @@ unfoldable pub later : (k n period : ℕ) → Board → Board
 later k n period x =
     record { done = x .done + k; next = x .next; at = x .at; live = x .live; table = tableLater k n period (x .table) }
 
--- what is asked in the scans after the first
+-- what is asked in the scans after the first: the reset counts in the first scan and is zero afterwards
 abbrev pub unset : Asked → Asked
 unset w =
     record {

@@ -390,7 +390,7 @@ fn later(k: u32, x: Mark) -> Mark
     }
 }
 
-// What is asked in the scans after the first.
+// What is asked in the scans after the first: the reset counts in the first scan and is zero afterwards.
 fn unset(w: Asked) -> Asked
     ensures { λ r. ⌜ r ≡ unsetOf w ⌝ }
 {

@@ -11,7 +11,7 @@ use Rattle.bits.specs.Words.{one}
 use Rattle.rules.specs.declared.Slot.{Slot}
 use Rattle.rules.specs.declared.Signals.{Signals}
 use Rattle.rules.specs.Rules.{asks, moved}
-use Rattle.effects.specs.Scan.{steps, anyMoved, wrapped, seqAfter, records, event}
+use Rattle.effects.specs.Scan.{steps, anyMoved, wrapped, seqAfter, eventsFrom, event}
 use Rattle.effects.proofs.Records.{length-only}
 use Rattle.rounds.specs.Steps.{clear}
 use Rattle.rounds.specs.Stroke.{quiet, advance, quiets, advances}
@@ -92,13 +92,13 @@ or-false : (a b : Bool) → (a || b) ≡ false → (a ≡ false) × (b ≡ false
 or-false true b e = (e, cc)
 or-false false b e = (refl, e)
 
--- a scan that is not live gives no record
-pub no-records : (q c i : ℕ) (ss : List Signals) (xs : List Slot) → anyMoved ss xs ≡ false → records q c i ss xs ≡ []
-no-records q c i [] xs e = refl
-no-records q c i (s ∷ ss) [] e = refl
-no-records q c i (s ∷ ss) (x ∷ xs) e =
+-- a scan that is not live gives no event
+pub no-events : (q c i : ℕ) (ss : List Signals) (xs : List Slot) → anyMoved ss xs ≡ false → eventsFrom q c i ss xs ≡ []
+no-events q c i [] xs e = refl
+no-events q c i (s ∷ ss) [] e = refl
+no-events q c i (s ∷ ss) (x ∷ xs) e =
     let h = or-false (moved s x) (anyMoved ss xs) e in
-    rw (h .0) (no-records q c (suc i) ss xs (h .1))
+    rw (h .0) (no-events q c (suc i) ss xs (h .1))
 
 -- and takes no sequence number
 pub same-seq : (q : ℕ) (ss : List Signals) (xs : List Slot) → anyMoved ss xs ≡ false → seqAfter q ss xs ≡ q
@@ -149,35 +149,35 @@ ranks-advances k (s ∷ ss) [] xs = refl
 ranks-advances k (s ∷ ss) (c ∷ cs) [] = refl
 ranks-advances k (s ∷ ss) (c ∷ cs) (x ∷ xs) = ap (λ (m : ℕ). each.rank (asks s) (x .state) + m) (ranks-advances k ss cs xs)
 
--- each record of a scan without reset takes one of the moves left
-pub records-fall : (q c i : ℕ) (ss : List Signals) (xs : List Slot)
-    → length (records q c i (map clear ss) xs) + ranks ss (steps (map clear ss) xs) ≤ ranks ss xs
+-- each event of a scan without reset takes one of the moves left
+pub events-fall : (q c i : ℕ) (ss : List Signals) (xs : List Slot)
+    → length (eventsFrom q c i (map clear ss) xs) + ranks ss (steps (map clear ss) xs) ≤ ranks ss xs
 unfolding ranks
-records-fall q c i [] xs = omega arith
-records-fall q c i (s ∷ ss) [] = omega arith
-records-fall q c i (s ∷ ss) (x ∷ xs) =
+events-fall q c i [] xs = omega arith
+events-fall q c i (s ∷ ss) [] = omega arith
+events-fall q c i (s ∷ ss) (x ∷ xs) =
     let m = moved (clear s) x in
     let r = cond m (wrapped q) q in
-    omega (arith, length-only m (event q c i (clear s) x) (records r c (suc i) (map clear ss) xs), each.falls s x, records-fall r c (suc i) ss xs)
+    omega (arith, length-only m (event q c i (clear s) x) (eventsFrom r c (suc i) (map clear ss) xs), each.falls s x, events-fall r c (suc i) ss xs)
 
--- the records of the first scan and the moves left after it are at most two an effect
-pub records-two : (q c i : ℕ) (ss : List Signals) (xs : List Slot) → length (records q c i ss xs) + ranks ss (steps ss xs) ≤ 2 * length ss
+-- the events of the first scan and the moves left after it are at most two an effect
+pub events-two : (q c i : ℕ) (ss : List Signals) (xs : List Slot) → length (eventsFrom q c i ss xs) + ranks ss (steps ss xs) ≤ 2 * length ss
 unfolding ranks
-records-two q c i [] xs = omega arith
-records-two q c i (s ∷ ss) [] = omega arith
-records-two q c i (s ∷ ss) (x ∷ xs) =
+events-two q c i [] xs = omega arith
+events-two q c i (s ∷ ss) [] = omega arith
+events-two q c i (s ∷ ss) (x ∷ xs) =
     let r = cond (moved s x) (wrapped q) q in
-    omega (arith, length-only (moved s x) (event q c i s x) (records r c (suc i) ss xs), each.two s x, records-two r c (suc i) ss xs)
+    omega (arith, length-only (moved s x) (event q c i s x) (eventsFrom r c (suc i) ss xs), each.two s x, events-two r c (suc i) ss xs)
 
 -- the count of a disjunction
 one-or : (a b : Bool) → one (a || b) ≤ one a + one b
 one-or true b = omega arith
 one-or false b = omega arith
 
--- a live scan gives a record
-pub live-recorded : (q c i : ℕ) (ss : List Signals) (xs : List Slot) → one (anyMoved ss xs) ≤ length (records q c i ss xs)
+-- a live scan gives an event
+pub live-recorded : (q c i : ℕ) (ss : List Signals) (xs : List Slot) → one (anyMoved ss xs) ≤ length (eventsFrom q c i ss xs)
 live-recorded q c i [] xs = omega arith
 live-recorded q c i (s ∷ ss) [] = omega arith
 live-recorded q c i (s ∷ ss) (x ∷ xs) =
     let r = cond (moved s x) (wrapped q) q in
-    omega (arith, one-or (moved s x) (anyMoved ss xs), length-only (moved s x) (event q c i s x) (records r c (suc i) ss xs), live-recorded r c (suc i) ss xs)
+    omega (arith, one-or (moved s x) (anyMoved ss xs), length-only (moved s x) (event q c i s x) (eventsFrom r c (suc i) ss xs), live-recorded r c (suc i) ss xs)

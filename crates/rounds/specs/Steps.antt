@@ -8,7 +8,7 @@ use Rattle.rules.specs.declared.Signals.{Signals}
 use Rattle.rules.specs.declared.Slot.{Slot}
 use Rattle.rules.specs.Rules.{next, moved}
 use Rattle.effects.specs.declared.Event.{Event}
-use Rattle.effects.specs.Scan.{steps, anyMoved, seqAfter, records}
+use Rattle.effects.specs.Scan.{steps, anyMoved, seqAfter, eventsFrom}
 
 -- a run: the scans done, the next sequence number and the slots, and what it has given so far, its events and its live scans
 pub record Run : Type 0 where
@@ -29,7 +29,7 @@ scan ss r =
       done = r .done + 1;
       next = seqAfter (r .next) ss (r .slots);
       slots = steps ss (r .slots);
-      events = r .events ++ records (r .next) (r .done + 1) 1 ss (r .slots);
+      events = r .events ++ eventsFrom (r .next) (r .done + 1) 1 ss (r .slots);
       live = r .live + one (anyMoved ss (r .slots));
     }
 
