@@ -45,7 +45,7 @@ step t n = go (t n)
     go true = omega arith
     go false = omega arith
 
-one-lt : (b : Bool) → one b < 2
+pub one-lt : (b : Bool) → one b < 2
 one-lt true = lit< tt
 one-lt false = lit< tt
 
@@ -53,9 +53,10 @@ bit-is : (b : Bool) → eqb (one b) 1 ≡ b
 bit-is true = refl
 bit-is false = refl
 
-read : (t : ℕ → Bool) (n i : ℕ) → i < n → wordOf t n / 2 ^ i % 2 ≡ one (t i)
-read t zero i h = absurd (not-suc-le-zero h)
-read t (suc n) i h = ⊎-elim last (λ k. earlier k (read t n i k)) (eq-or-lt-of-le (le-of-suc-le-suc h))
+-- bit i of the word as a number
+pub one-wordOf : (t : ℕ → Bool) (n i : ℕ) → i < n → wordOf t n / 2 ^ i % 2 ≡ one (t i)
+one-wordOf t zero i h = absurd (not-suc-le-zero h)
+one-wordOf t (suc n) i h = ⊎-elim last (λ k. earlier k (one-wordOf t n i k)) (eq-or-lt-of-le (le-of-suc-le-suc h))
   where
     last : i ≡ n → wordOf t (suc n) / 2 ^ i % 2 ≡ one (t i)
     last e = rw (e, step, at (wordOf t n) (one (t n)) n (wordOf-lt t n) (one-lt (t n)))
@@ -66,13 +67,16 @@ read t (suc n) i h = ⊎-elim last (λ k. earlier k (read t n i k)) (eq-or-lt-of
         let p : 2 ^ n ≡ 2 ^ (suc (n - suc i) + i) = ap (λ (m : ℕ). 2 ^ m) e in
         rw (step, p, below (wordOf t n) (one (t n)) (n - suc i) i) r
 
--- bit i of the word is t i
+-- and as a test
 pub bit-wordOf : (t : ℕ → Bool) (n i : ℕ) → i < n → bitOf (wordOf t n) i ≡ t i
-bit-wordOf t n i h = rw (read t n i h, bit-is)
+bit-wordOf t n i h = rw (one-wordOf t n i h, bit-is)
 
 -- a word has no bit past its length
 pub bit-past : (w n i : ℕ) → w < 2 ^ n → n ≤ i → bitOf w i ≡ false
 bit-past w n i h k = rw (div-eq-of-lt (lt-of-lt-of-le h (pow-mono k)))
+
+pub bit-none : (i : ℕ) → bitOf 0 i ≡ false
+bit-none i = bit-past 0 0 i (omega arith) (omega arith)
 
 -- ## A word is that of its bits
 

@@ -13,7 +13,7 @@ use Rattle.effects.specs.Records.{recordLength, bytes}
 use Rattle.effects.specs.Scan.{effectWord, latentWord, anyExercised}
 use Rattle.rounds.specs.Steps.{Run, start as startRun, held}
 use Rattle.rounds.proofs.Held.{live-at-most, due-at-most, length-slots}
-use Rattle.planes.specs.Table.{tableOf, slotsOf}
+use Rattle.planes.specs.Table.{tableOf}
 use Rattle.planes.specs.declared.Board.{Board}
 use Rattle.planes.specs.declared.Mark.{Mark}
 use Rattle.planes.specs.Board.{runOf as runFrom, Shown, boardAt, boardOf, begun}
@@ -24,14 +24,14 @@ use Rattle.settings.specs.declared.Settings.{Settings}
 use Rattle.settings.specs.declared.Row.{Row}
 use Rattle.settings.specs.Right.{limitsOf, settingsNumber}
 use Rattle.settings.specs.Signals.{signals, signalsOf}
-use Rattle.settings.proofs.Right.{row-words}
+use Rattle.settings.proofs.Right.{row-words, hold-some}
 use Rattle.block.specs.declared.State.{State}
 use Rattle.block.specs.declared.Ran.{Ran}
 use Rattle.block.specs.Scan.{inputNumber}
 use Rattle.block.specs.Held.{start, run}
 use Rattle.block.specs.State.{stateNumber}
 use Rattle.block.specs.Run.{startOf, reachedBy, ranOf, keptAt, keptOf}
-use Rattle.block.proofs.Answers.{settings-right, state-right, row-right, few, countable, hold-some}
+use Rattle.block.proofs.Answers.{settings-right, state-right, row-right, few, countable}
 use Rattle.block.proofs.Boards.{shows, settled}
 use Rattle.block.proofs.Stepping.{Ready, ready-at, runOf, stepped-runs, stepped-done, stepped-effect, stepped-latent, stepped-exercised}
 
@@ -84,7 +84,7 @@ module _ (st : Settings) (row : Row) (x : State) (input : inputNumber st x row �
       rw e (stepped-effect st right m (row .words) (start x) r, stepped-latent st right m (row .words) (start x) r)
 
   words-are : (run st row x .effect ≡ effectWord (st .count) (run st row x .state .slots)) × (run st row x .latent ≡ latentWord (signals st (row .words)))
-  words-are = from-hold (row .hold) (hold-some st row x _ refl input) refl
+  words-are = from-hold (row .hold) (hold-some (limitsOf st) row (row-right st row x _ refl input)) refl
 
   -- exercised: the hold where some effect's active word is not 0, else 0
   pub exercised-is : run st row x .exercised ≡ row .hold * one (anyExercised (signals st (row .words)))

@@ -1,14 +1,13 @@
 -- The loop over rounds, on lists of signals and slots: what holds at its head, that it holds at first, and that a turn keeps it.
-use mathlib.Core.Path.{_≡_, refl, ap, sym, _∙_}
-use mathlib.Core.Bool.{Bool, true, false}
+use mathlib.Core.Path.{_≡_, refl, ap, _∙_}
 use mathlib.Core.List.{List, map}
 use Prim.Native.Nat.{ℕ, _+_, _-_, _*_, _≤_, _<_}
 use native.Mathlib.Nat.{zero-add}
 use native.Mathlib.Omega.{arith}
 use lib.ListN.{length, length-append}
 use lib.Seq.{sets, length-sets}
-use Rattle.bits.specs.Words.{one}
 use Rattle.bits.proofs.Numbers.{sets-append}
+use Rattle.bits.proofs.Words.{one-lt}
 use Rattle.rules.specs.declared.Signals.{Signals}
 use Rattle.rules.specs.declared.Slot.{Slot}
 use Rattle.effects.specs.Scan.{steps, anyMoved}
@@ -18,11 +17,6 @@ use Rattle.rounds.specs.Steps.{Run, start, scan, clear, held}
 use Rattle.rounds.specs.Stroke.{quiets, skip}
 use Rattle.rounds.proofs.Effects.{Timed, ranks, timed-clear, quiets-le}
 use Rattle.rounds.proofs.Held.{due, ranks-first, grows, round-turn, round-falls}
-
--- a scan counts at most once
-one-le : (b : Bool) → one b ≤ 1
-one-le true = omega arith
-one-le false = omega arith
 
 module _ (whole : Run) (buf₀ : List ℕ) where
   -- at the loop's head: the rest of the run gives what the whole gives, `fuel` is above the moves left, and the records so
@@ -66,7 +60,7 @@ module _ (whole : Run) (buf₀ : List ℕ) where
         let b = quiets-le (left - 1) cs (steps ss (r .slots)) in
         record {
           timed = timed-clear ss (g .timed);
-          few = omega (arith, g .few, one-le (anyMoved ss (r .slots)), b);
+          few = omega (arith, g .few, one-lt (anyMoved ss (r .slots)), b);
           room = omega (arith, g .room, b);
           gives = round;
           fuelled = λ v. omega (arith, f, round-falls ss (g .timed) r (left - 1) v);

@@ -20,6 +20,7 @@ use Rattle.planes.specs.Table.{dueIn, timerBy, firstBy, Still, Settled, 
 use Rattle.planes.specs.Board.{boardAt, entriesOf, scanned, later}
 use Rattle.planes.proofs.Due.{after-due}
 use Rattle.planes.proofs.Rest.{settled-after}
+use Rattle.planes.proofs.Step.{table}
 
 -- the records between two places
 twelfth : (a l : ℕ) → (a + recordLength * l - a) / recordLength ≡ l
@@ -29,9 +30,6 @@ twelfth a l =
 
 pub between : (p a l : ℕ) → p ≡ a + recordLength * l → l ≤ 16 → (a ≤ p) × (p ≤ a + 192)
 between p a l e h = (omega arith, omega arith)
-
-abbrev table : Planes → List ℕ → List ℕ → Table
-table p t f = record { planes = p; timers = t; firsts = f }
 
 pub within-is : (n : ℕ) (causes delays : List ℕ) (period tripped : ℕ) (w : Asked) (x : Mark) (timers firsts : List ℕ) (due : ℕ) (is : Planes)
     → n ≤ 16 → x .planes .delayed < 2 ^ n → due ≡ wordOf (dueIn timers period (x .planes .delayed)) n → is ≡ planesAfter w due (x .planes)

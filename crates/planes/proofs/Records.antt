@@ -17,7 +17,7 @@ use Rattle.planes.specs.declared.Planes.{Planes}
 use Rattle.planes.specs.Planes.{codeAt}
 use Rattle.planes.specs.Picked.{picked}
 use Rattle.planes.specs.Table.{entryAt, entriesTo, joined}
-use Rattle.planes.proofs.Bits.{Done, started, ended, below, before-it, is-set, again}
+use Rattle.planes.proofs.Bits.{Rests, Done, started, ended, below, before-it, is-set, again}
 use Rattle.planes.proofs.Picked.{picked-none, picked-yes, picked-no, picked-grows}
 
 pub joined-snoc : (ls : List (List ℕ)) (l : List ℕ) → joined (ls ++ (l ∷ [])) ≡ joined ls ++ l
@@ -42,6 +42,11 @@ length-joined g t h (suc n) = rw (← add-one n) (go (t n) refl (length-joined g
         rw (picked-yes g t n e, joined-snoc) (omega (arith, r, length-append (joined P) l, length-append P (l ∷ []), h (length P) n))
     go false e r = rw (picked-no g t n e) r
 
+-- no record is of an effect that is not in the word
+pub entries-rest : (q c ch : ℕ) (was is : Planes) (firsts : List ℕ) → ch < 65536 → Rests 16 ch (entriesTo q c ch was is firsts)
+entries-rest q c ch was is firsts h =
+    record { few = omega arith; inside = h; same = λ j v e. picked-no (entryAt q c was is firsts) (bitOf ch) j e }
+
 -- ## The loop over the set bits
 
 module _ (buf₀ : List ℕ) (at0 q0 number ch : ℕ) (was is : Planes) (firsts : List ℕ) where
@@ -62,8 +67,7 @@ module _ (buf₀ : List ℕ) (at0 q0 number ch : ℕ) (was is : Planes) (firsts 
       record {
         es = [];
         done =
-            started 16 ch entries
-            (record { few = omega arith; inside = k; same = λ j v e. picked-no (entryAt q0 number was is firsts) (bitOf ch) j e })
+            started 16 ch entries (entries-rest q0 number ch was is firsts k)
             (sym (picked-none (entryAt q0 number was is firsts) (bitOf ch)));
         place = omega arith;
         seq = sym (ap (λ (x : ℕ). x % 2 ^ 16) (add-zero q0) ∙ mod-eq-of-lt h);

@@ -2,40 +2,34 @@
 use mathlib.Core.Path.{_≡_, refl, ap, ap₂, sym, _∙_}
 use mathlib.Core.Bool.{Bool, true, false, cond}
 use mathlib.Core.List.{List, [], _∷_, _++_, append-nil, append-assoc}
-use Prim.Native.Nat.{ℕ, zero, suc, _+_, _*_, _/_, _%_, _^_, _<_, _≤_}
-use native.Mathlib.Nat.{le-of-suc-le-suc, not-suc-le-zero, lt-of-lt-of-le, mod-lt, zero-lt-suc, add-zero, add-suc, suc-add, mod-eq-of-lt}
+use Prim.Native.Nat.{ℕ, zero, suc, _+_, _*_, _%_, _^_, _<_, _≤_}
+use native.Mathlib.Nat.{le-of-suc-le-suc, not-suc-le-zero, lt-of-lt-of-le, add-zero, add-suc, suc-add, mod-eq-of-lt}
 use native.Mathlib.Numerals.{add-one}
 use native.Mathlib.Omega.{arith}
-use lib.Dec.{eqb}
 use lib.ListN.{getD, length, length-append}
+use lib.Pow.{pow-mono}
 use Rattle.bits.specs.Lists.{tabulate}
 use Rattle.bits.specs.Words.{bitOf, wordOf, one}
 use Rattle.bits.proofs.Lists.{length-tabulate}
-use Rattle.bits.proofs.Words.{wordOf-lt, bit-wordOf, bit-past}
+use Rattle.bits.proofs.Words.{wordOf-lt, one-wordOf, bit-wordOf, bit-past}
 use Rattle.rules.specs.declared.EffectState.{EffectState}
 use Rattle.rules.specs.declared.EffectState.the-variants.{Tripped, WaitReset, Ready, WaitStart, Normal, Delayed}
 use Rattle.rules.specs.declared.Slot.{Slot}
 use Rattle.rules.specs.declared.Signals.{Signals}
-use Rattle.rules.specs.Rules.{noSlot, code, same, after, next, moved}
+use Rattle.rules.specs.Rules.{noSlot, code, same, next, moved}
 use Rattle.effects.specs.declared.Event.{Event}
 use Rattle.effects.specs.Records.{recordOf, encode, bytes}
 use Rattle.effects.specs.Scan.{eventsFrom, seqAfter, only, event, wrapped}
 use Rattle.effects.proofs.Records.{bytes-append}
-use Rattle.planes.specs.Planes.{planesOf, oneOf, codeAt}
+use Rattle.planes.specs.declared.Planes.{Planes}
+use Rattle.planes.specs.Planes.{planesOf, codeAt}
 use Rattle.planes.specs.Table.{padded, entryAt, entriesTo, joined}
-use Rattle.planes.proofs.Picked.{picked-none, picked-yes, picked-no, picked-skip}
-use Rattle.planes.proofs.Records.{joined-snoc}
+use Rattle.planes.proofs.Bits.{passed}
+use Rattle.planes.proofs.Picked.{picked-none, picked-yes, picked-no}
+use Rattle.planes.proofs.Records.{joined-snoc, entries-rest}
 use Rattle.planes.proofs.Step.{padded-at}
 
 -- ## The number of a state
-
-digit : (x : ℕ) (b : Bool) → x < 2 → eqb x 1 ≡ b → x ≡ one b
-digit zero b h e = ap one e
-digit (suc zero) b h e = ap one e
-digit (suc (suc x)) b h e = absurd (omega arith)
-
-one-word : (t : ℕ → Bool) (n i : ℕ) → i < n → oneOf (wordOf t n) i ≡ one (t i)
-one-word t n i k = digit (oneOf (wordOf t n) i) (t i) (mod-lt (wordOf t n / 2 ^ i) (zero-lt-suc 1)) (bit-wordOf t n i k)
 
 code-sum : (p : EffectState)
     → one (same p WaitReset) + 2 * one (same p Ready) + 3 * one (same p WaitStart) + 4 * one (same p Normal) + 5 * one (same p Delayed) ≡ code p
@@ -46,15 +40,15 @@ code-sum WaitStart = refl
 code-sum Normal = refl
 code-sum Delayed = refl
 
-pub code-word : (n : ℕ) (f : ℕ → EffectState) (i : ℕ) → i < n → codeAt (planesOf n f) i ≡ code (f i)
+code-word : (n : ℕ) (f : ℕ → EffectState) (i : ℕ) → i < n → codeAt (planesOf n f) i ≡ code (f i)
 unfolding codeAt planesOf
 code-word n f i k =
     rw (
-      one-word (λ j. same (f j) WaitReset) n i k,
-      one-word (λ j. same (f j) Ready) n i k,
-      one-word (λ j. same (f j) WaitStart) n i k,
-      one-word (λ j. same (f j) Normal) n i k,
-      one-word (λ j. same (f j) Delayed) n i k,
+      one-wordOf (λ j. same (f j) WaitReset) n i k,
+      one-wordOf (λ j. same (f j) Ready) n i k,
+      one-wordOf (λ j. same (f j) WaitStart) n i k,
+      one-wordOf (λ j. same (f j) Normal) n i k,
+      one-wordOf (λ j. same (f j) Delayed) n i k,
     ) (code-sum (f i))
 
 -- ## The lists' recursions, at their end
@@ -90,8 +84,17 @@ module _ (size : ℕ) (few : size ≤ 16) (s : ℕ → Signals) (xs : List Slot)
   abbrev ch : ℕ
   ch = wordOf (λ i. moved (s i) (x i)) size
 
+  abbrev was : Planes
+  was = planesOf size (λ i. x i .state)
+
+  abbrev is : Planes
+  is = planesOf size (λ i. y i .state)
+
+  abbrev firsts : List ℕ
+  firsts = padded size (λ i. y i .first)
+
   abbrev entries : ℕ → List (List ℕ)
-  entries n = entriesTo q c ch (planesOf size (λ i. x i .state)) (planesOf size (λ i. y i .state)) (padded size (λ i. y i .first)) n
+  entries n = entriesTo q c ch was is firsts n
 
   abbrev events : ℕ → List Event
   events n = eventsFrom q c 1 (tabulate s n) xs
@@ -132,8 +135,8 @@ module _ (size : ℕ) (few : size ≤ 16) (s : ℕ → Signals) (xs : List Slot)
             ∙ sym (ap bytes ev ∙ bytes-append (events n) _);
       }
         where
-          yes : entries (suc n) ≡ entries n ++ (entryAt q c (planesOf size (λ i. x i .state)) (planesOf size (λ i. y i .state)) (padded size (λ i. y i .first)) (length (entries n)) n ∷ [])
-          yes = ap entries (sym (add-one n)) ∙ picked-yes (entryAt q c (planesOf size (λ i. x i .state)) (planesOf size (λ i. y i .state)) (padded size (λ i. y i .first))) (bitOf ch) n (set-here ∙ e)
+          yes : entries (suc n) ≡ entries n ++ (entryAt q c was is firsts (length (entries n)) n ∷ [])
+          yes = ap entries (sym (add-one n)) ∙ picked-yes (entryAt q c was is firsts) (bitOf ch) n (set-here ∙ e)
 
           ev : events (suc n) ≡ events n ++ (event (seqAfter q (tabulate s n) xs) c (1 + n) (s n) (x n) ∷ [])
           ev = next-events ∙ ap (λ (b : Bool). events n ++ only b (event (seqAfter q (tabulate s n) xs) c (1 + n) (s n) (x n))) e
@@ -141,7 +144,7 @@ module _ (size : ℕ) (few : size ≤ 16) (s : ℕ → Signals) (xs : List Slot)
           turn : (a b : ℕ) → b ≡ a + 1 → seqAfter q (tabulate s n) xs ≡ (q + a) % 2 ^ 16 → wrapped (seqAfter q (tabulate s n) xs) ≡ (q + b) % 2 ^ 16
           turn a b u v = rw (u, v) (omega arith)
 
-          entry-here : recordOf ((q + length (entries n)) % 2 ^ 16) c (n + 1) (codeAt (planesOf size (λ i. x i .state)) n) (codeAt (planesOf size (λ i. y i .state)) n) (getD (padded size (λ i. y i .first)) n 0)
+          entry-here : recordOf ((q + length (entries n)) % 2 ^ 16) c (n + 1) (codeAt was n) (codeAt is n) (getD firsts n 0)
               ≡ encode (event (seqAfter q (tabulate s n) xs) c (1 + n) (s n) (x n))
           entry-here =
               let k : n + 1 ≡ 1 + n = omega arith in
@@ -155,7 +158,7 @@ module _ (size : ℕ) (few : size ≤ 16) (s : ℕ → Signals) (xs : List Slot)
       }
         where
           no : entries (suc n) ≡ entries n
-          no = ap entries (sym (add-one n)) ∙ picked-no (entryAt q c (planesOf size (λ i. x i .state)) (planesOf size (λ i. y i .state)) (padded size (λ i. y i .first))) (bitOf ch) n (set-here ∙ e)
+          no = ap entries (sym (add-one n)) ∙ picked-no (entryAt q c was is firsts) (bitOf ch) n (set-here ∙ e)
 
           ev : events (suc n) ≡ events n
           ev = next-events ∙ ap (λ (b : Bool). events n ++ only b (event (seqAfter q (tabulate s n) xs) c (1 + n) (s n) (x n))) e ∙ append-nil (events n)
@@ -163,15 +166,16 @@ module _ (size : ℕ) (few : size ≤ 16) (s : ℕ → Signals) (xs : List Slot)
   upto : (n : ℕ) → n ≤ size → Same n
   unfolding tabulate joined
   upto zero h =
-      let e = picked-none (entryAt q c (planesOf size (λ i. x i .state)) (planesOf size (λ i. y i .state)) (padded size (λ i. y i .first))) (bitOf ch) in
+      let e = picked-none (entryAt q c was is firsts) (bitOf ch) in
       record { count = rw e; number = rw e (sym (ap (λ (k : ℕ). k % 2 ^ 16) (add-zero q) ∙ mod-eq-of-lt small)); laid = rw e }
   upto (suc n) h = more n h (upto n (omega arith))
 
   -- the word has no bit past the effects
   all : entries 16 ≡ entries size
   all =
-      picked-skip (entryAt q c (planesOf size (λ i. x i .state)) (planesOf size (λ i. y i .state)) (padded size (λ i. y i .first))) (bitOf ch) size 16 few
-      (λ j u v. bit-past ch size j (wordOf-lt (λ i. moved (s i) (x i)) size) u)
+      let inside = wordOf-lt (λ i. moved (s i) (x i)) size in
+      passed 16 ch entries (entries-rest q c ch was is firsts (lt-of-lt-of-le inside (pow-mono few))) size 16 few (omega arith)
+      (λ j u v. bit-past ch size j inside u)
 
   pub records-word : (length (entries 16) ≡ length (events size)) × (joined (entries 16) ≡ bytes (events size)) × (seqAfter q (tabulate s size) xs ≡ (q + length (entries 16)) % 2 ^ 16)
   records-word = let r = upto size (omega arith) in rw all (r .count, r .laid, r .number)

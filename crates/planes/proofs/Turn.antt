@@ -1,7 +1,7 @@
 -- The loop over rounds by words: a scan, a skip and a turn of it are those of the slots.
-use mathlib.Core.Path.{_≡_, refl, ap, ap₂, sym, _∙_, subst}
+use mathlib.Core.Path.{_≡_, refl, ap, sym, _∙_}
 use mathlib.Core.Bool.{Bool, true, false, not, cond}
-use mathlib.Core.List.{List, [], _∷_, _++_, map}
+use mathlib.Core.List.{List, [], _∷_}
 use Prim.Native.Nat.{ℕ, zero, suc, _+_, _-_, _*_, _%_, _^_, _<_, _≤_}
 use native.Mathlib.Nat.{mod-lt, zero-lt-suc}
 use native.Mathlib.Omega.{arith}
@@ -9,24 +9,24 @@ use lib.Dec.{eqb}
 use lib.ListN.{getD, length, length-append}
 use lib.Seq.{sets, length-sets}
 use Rattle.bits.specs.Lists.{tabulate}
-use Rattle.bits.specs.Words.{bitOf, wordOf, one}
+use Rattle.bits.specs.Words.{wordOf, one}
 use Rattle.bits.proofs.Lists.{length-tabulate, map-tabulate}
 use Rattle.bits.proofs.Words.{wordOf-lt}
 use Rattle.rules.specs.declared.Slot.{Slot}
 use Rattle.rules.specs.declared.Signals.{Signals}
 use Rattle.rules.specs.Rules.{noSlot, asks, moved, next}
 use Rattle.effects.specs.Records.{recordLength, bytes}
-use Rattle.effects.specs.Scan.{wrapped, steps, anyMoved, seqAfter}
+use Rattle.effects.specs.Scan.{wrapped, anyMoved, seqAfter}
 use Rattle.effects.proofs.Laws.{length-steps}
 use Rattle.rounds.specs.Steps.{Run, scan, clear, held}
 use Rattle.rounds.specs.Stroke.{quiets, advances, skip}
-use Rattle.rounds.proofs.Effects.{Timed}
+use Rattle.rounds.proofs.Effects.{timed-tabulate}
 use Rattle.rounds.proofs.Held.{due}
 use Rattle.planes.specs.declared.Asked.{Asked}
 use Rattle.planes.specs.declared.Board.{Board}
 use Rattle.planes.specs.declared.Table.{Table}
 use Rattle.planes.specs.Planes.{planesOf, changedOf}
-use Rattle.planes.specs.Table.{Settled, Within, tableOf, tableAfter, tableLater, askedOf, quietsBy, slotsOf, padded, joined, entriesTo}
+use Rattle.planes.specs.Table.{Settled, Within, tableOf, tableAfter, askedOf, quietsBy, slotsOf, padded, joined, entriesTo}
 use Rattle.planes.specs.Board.{entriesOf, scanned, later, unset, signalsBy, signalsIn, runOf, Right, boardOf}
 use Rattle.planes.proofs.ByWord.{changed-word}
 use Rattle.planes.proofs.Step.{Sees, table-step, table-middle}
@@ -127,15 +127,6 @@ unfolding tableOf planesOf
 within-shown n r = (wordOf-lt _ n, wordOf-lt _ n)
 
 -- ## The loop
-
-timed-snoc : (ss : List Signals) (s : Signals) → Timed ss → (0 < s .period) × (s .period ≤ 1000) → Timed (ss ++ (s ∷ []))
-timed-snoc [] s h e = (e .0, e .1, tt)
-timed-snoc (r ∷ ss) s h e = (h .0, h .1, timed-snoc ss s (h .2) e)
-
-timed-all : (period : ℕ) → 0 < period → period ≤ 1000 → (s : ℕ → Signals) → ((i : ℕ) → s i .period ≡ period) → (n : ℕ) → Timed (tabulate s n)
-unfolding tabulate
-timed-all period pos short s e zero = tt
-timed-all period pos short s e (suc n) = timed-snoc (tabulate s n) (s n) (timed-all period pos short s e n) (rw (e n) pos, rw (e n) short)
 
 module _ (n : ℕ) (causes delays : List ℕ) (period tripped : ℕ) (hold : ℕ) (w₀ : Asked) (x₀ : Board) (buf₀ : List ℕ) where
   -- what the whole run comes to
@@ -275,5 +266,5 @@ starts n few causes delays period tripped pos short hold w x buf fuel right smal
       settled = right .table .settled;
       going =
           begins hold (signalsIn n causes delays period tripped w) (x .done) (x .next) (slotsOf n (x .table)) buf fuel
-          (timed-all period pos short (signalsBy causes delays period tripped w) (λ i. refl) n) h room (rw length-tabulate f);
+          (timed-tabulate (signalsBy causes delays period tripped w) n (λ i. (pos, short))) h room (rw length-tabulate f);
     }

@@ -5,7 +5,7 @@
 // may change without moving a contract of an entry point: inner functions alone cite it.
 ghost use mathlib.Core.Path.{_≡_};
 ghost use mathlib.Core.Bool.{cond};
-ghost use mathlib.Core.List.{[], _∷_, _++_};
+ghost use mathlib.Core.List.{_++_};
 ghost use Prim.Native.Nat.{_+_, _-_, _*_, _/_, _%_, _^_, _<_, _≤_, min};
 ghost use lib.Count.{trailingZeros};
 ghost use lib.ListN.{drop, getD, length, replicate};
@@ -16,7 +16,7 @@ ghost use Rattle.rules.specs.Rules.{noSlot, same};
 ghost use Rattle.effects.specs.Records.{recordLength, bytes};
 ghost use Rattle.rounds.specs.Steps.{held};
 ghost use Rattle.planes.specs.Planes.{planesAfter, changedOf, oneOf, codeAt, stateAt};
-ghost use Rattle.planes.specs.Table.{activeAt, dueIn, timerBy, firstBy, Still, Blank, Settled, Within, lowTo, quietsBy, entriesTo, joined, tableOf, slotAt, slotsOf};
+ghost use Rattle.planes.specs.Table.{activeAt, dueIn, timerBy, firstBy, Still, Blank, Settled, Within, lowTo, quietsBy, entriesTo, joined, tableOf, slotsOf};
 ghost use Rattle.planes.specs.Board.{boardAt, markOf, entriesOf, scanned, unset as unsetOf, begun, Right, signalsIn, runOf, boardOf};
 use rules::EffectState;
 use rules::Slot;

@@ -1,13 +1,15 @@
 -- All effects: what holds of one holds of the lists, by recursion on both, signals and slots.
 use mathlib.Core.Path.{_≡_, refl, ap, ap₂, sym, subst}
 use mathlib.Core.Bool.{Bool, true, false, cond, _||_}
-use mathlib.Core.List.{List, [], _∷_, map}
+use mathlib.Core.List.{List, [], _∷_, _++_, map}
 use mathlib.Core.Logic.{⊎-elim}
-use Prim.Native.Nat.{ℕ, suc, _+_, _*_, _≤_, _<_}
+use Prim.Native.Nat.{ℕ, zero, suc, _+_, _*_, _≤_, _<_}
 use native.Mathlib.Nat.{eq-or-lt-of-le, le-trans, lt-of-lt-of-le}
 use native.Mathlib.Omega.{arith}
 use lib.ListN.{length}
+use Rattle.bits.specs.Lists.{tabulate}
 use Rattle.bits.specs.Words.{one}
+use Rattle.bits.proofs.Lists.{or-none}
 use Rattle.rules.specs.declared.Slot.{Slot}
 use Rattle.rules.specs.declared.Signals.{Signals}
 use Rattle.rules.specs.Rules.{asks, moved}
@@ -21,6 +23,15 @@ use Rattle.rounds.proofs.Effect as each
 abbrev pub Timed : List Signals → Type 0
 Timed [] = Unit {0}
 Timed (s ∷ ss) = (0 < s .period) × (s .period ≤ 1000) × Timed ss
+
+timed-append : (ss ts : List Signals) → Timed ss → Timed ts → Timed (ss ++ ts)
+timed-append [] ts h k = k
+timed-append (s ∷ ss) ts h k = (h .0, h .1, timed-append ss ts (h .2) k)
+
+pub timed-tabulate : (f : ℕ → Signals) (n : ℕ) → ((i : ℕ) → (0 < f i .period) × (f i .period ≤ 1000)) → Timed (tabulate f n)
+unfolding tabulate
+timed-tabulate f zero h = tt
+timed-tabulate f (suc n) h = timed-append (tabulate f n) (f n ∷ []) (timed-tabulate f n h) (h n .0, h n .1, tt)
 
 -- ## The resets cleared
 
@@ -87,17 +98,12 @@ still n k (s ∷ ss) (x ∷ xs) h w =
     (each.unmoved n k s x (h .0) (lt-of-lt-of-le w (quiets-le (quiet n s x) ss xs)))
     (still (quiet n s x) k ss xs (h .2) w)
 
--- where neither holds
-or-false : (a b : Bool) → (a || b) ≡ false → (a ≡ false) × (b ≡ false)
-or-false true b e = (e, cc)
-or-false false b e = (refl, e)
-
 -- a scan that is not live gives no event
 pub no-events : (q c i : ℕ) (ss : List Signals) (xs : List Slot) → anyMoved ss xs ≡ false → eventsFrom q c i ss xs ≡ []
 no-events q c i [] xs e = refl
 no-events q c i (s ∷ ss) [] e = refl
 no-events q c i (s ∷ ss) (x ∷ xs) e =
-    let h = or-false (moved s x) (anyMoved ss xs) e in
+    let h = or-none (moved s x) (anyMoved ss xs) e in
     rw (h .0) (no-events q c (suc i) ss xs (h .1))
 
 -- and takes no sequence number
@@ -105,7 +111,7 @@ pub same-seq : (q : ℕ) (ss : List Signals) (xs : List Slot) → anyMoved ss xs
 same-seq q [] xs e = refl
 same-seq q (s ∷ ss) [] e = refl
 same-seq q (s ∷ ss) (x ∷ xs) e =
-    let h = or-false (moved s x) (anyMoved ss xs) e in
+    let h = or-none (moved s x) (anyMoved ss xs) e in
     rw (h .0) (same-seq q ss xs (h .1))
 
 -- where the second holds

@@ -1,13 +1,13 @@
 -- The stroke by the words of settings and a row is the held run of what the effects see.
-use mathlib.Core.Path.{_≡_, refl, ap, sym, _∙_}
+use mathlib.Core.Path.{_≡_, ap, _∙_}
 use mathlib.Core.Bool.{Bool, not}
 use mathlib.Core.List.{List}
-use Prim.Native.Nat.{ℕ, _≤_}
+use Prim.Native.Nat.{ℕ}
 use lib.Bits.{bitAnd, bitOr}
 use lib.Dec.{eqb}
 use Rattle.rules.specs.declared.Signals.{Signals}
 use Rattle.rules.specs.Rules.{asks}
-use Rattle.effects.specs.Scan.{latentWord, anyExercised, effectWord}
+use Rattle.effects.specs.Scan.{latentWord, anyExercised}
 use Rattle.rounds.specs.Steps.{Run, held}
 use Rattle.planes.specs.declared.Asked.{Asked}
 use Rattle.planes.specs.declared.Board.{Board}
