@@ -1,6 +1,6 @@
 -- Laws of lists that are made or tested by their index.
 use mathlib.Core.Path.{_≡_, refl, ap, ap₂, sym, _∙_}
-use mathlib.Core.Bool.{Bool, true, false, not, _&&_, false≢true}
+use mathlib.Core.Bool.{Bool, true, false, not, _&&_, _||_, false≢true}
 use mathlib.Core.List.{List, [], _∷_, _++_, map, append-assoc}
 use mathlib.Core.Logic.{⊎-elim}
 use Prim.Native.Nat.{ℕ, zero, suc, _+_, _-_, _<_, _≤_, suc-le-suc}
@@ -24,6 +24,11 @@ and-right false b e = absurd (false≢true e)
 
 pub both : (a b : Bool) → a ≡ true → b ≡ true → (a && b) ≡ true
 both a b e f = rw (e, f)
+
+-- neither test
+pub or-none : (a b : Bool) → (a || b) ≡ false → (a ≡ false) × (b ≡ false)
+or-none true b e = absurd (false≢true (sym e))
+or-none false b e = (refl, e)
 
 module _ {A : Type 0} where
   -- ## Made by index
@@ -64,6 +69,10 @@ module _ {A : Type 0} where
       → set (tabulate f i ++ drop i l) i (f i) ≡ tabulate f (i + 1) ++ drop (i + 1) l
   fill f l i d h =
       rw (drop-cons l i d, set-at (tabulate f i) _ _ _ i (length-tabulate f i), tabulate-more, append-assoc, add-one)
+
+  -- a part that is filled by index, with a rest after it
+  pub getD-filled : (f : ℕ → A) (n : ℕ) (l : List A) (i : ℕ) (d : A) → i < n → getD (tabulate f n ++ l) i d ≡ f i
+  getD-filled f n l i d h = List·getD-append (tabulate f n) l d i (rw length-tabulate h) ∙ getD-tabulate f n i d h
 
   pub take-filled : (f : ℕ → A) (n : ℕ) (l : List A) → take n (tabulate f n ++ l) ≡ tabulate f n
   take-filled f n l = take-at (tabulate f n) l n (length-tabulate f n)

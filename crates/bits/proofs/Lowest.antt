@@ -1,12 +1,12 @@
 -- The lowest set bit of a word: what `trailing_zeros` gives, and what `w & (w - 1)` clears.
 use mathlib.Core.Path.{_≡_, refl, ap, ap₂, sym, _∙_, subst}
-use mathlib.Core.Bool.{Bool, true, false, not, _&&_}
-use Prim.Native.Nat.{ℕ, zero, suc, _+_, _-_, _*_, _/_, _%_, _^_, _<_, _≤_}
+use mathlib.Core.Bool.{Bool, true, false, not, _&&_, and-true, and-self}
+use Prim.Native.Nat.{ℕ, zero, suc, _+_, _-_, _*_, _/_, _%_, _^_, _<_}
 use native.Mathlib.Nat.{mod-lt, zero-lt-suc, not-suc-le-zero, le-of-suc-le-suc, div-one, div-add-mod', div-lt-iff-lt-mul, pow-suc}
 use native.Mathlib.Numerals.{one-add}
 use native.Mathlib.Omega.{arith}
 use lib.Arith.{digits-div, digits-mod}
-use lib.Dec.{eqb, eqb·suc-suc, eqb·suc-zero, eqb·zero-suc, lit<}
+use lib.Dec.{eqb, eqb·suc-suc, eqb·suc-zero, lit<}
 use lib.Pow.{shr-shr}
 use lib.Bits.{bitAnd}
 use lib.Count.{trailingZeros, under}
@@ -25,14 +25,6 @@ pub record Lowest (k w n : ℕ) : Type 0 where
   pub is-set : bitOf w n ≡ true
   pub under-it : (i : ℕ) → i < n → bitOf w i ≡ false
   pub cleared : (i : ℕ) → bitOf (bitAnd w (w - 1)) i ≡ (bitOf w i && not (eqb i n))
-
-and-true : (b : Bool) → (b && true) ≡ b
-and-true true = refl
-and-true false = refl
-
-and-same : (b : Bool) → (b && b) ≡ b
-and-same true = refl
-and-same false = refl
 
 -- an odd word, and an even one
 odd : (k w : ℕ) → w % 2 ≡ 1 → Lowest (suc k) w 0
@@ -57,7 +49,7 @@ odd k w e = record {
     at (suc i) =
         bit-and w (w - 1) (suc i)
         ∙ ap₂ _&&_ (bit-suc w i) (bit-suc (w - 1) i ∙ ap (λ (x : ℕ). bitOf x i) (ap (λ (x : ℕ). x / 2) less ∙ digits-div (w / 2) (lit< tt)))
-        ∙ and-same (bitOf (w / 2) i) ∙ sym (bit-suc w i) ∙ sym (and-true (bitOf w (suc i)))
+        ∙ and-self (bitOf (w / 2) i) ∙ sym (bit-suc w i) ∙ sym (and-true (bitOf w (suc i)))
         ∙ ap (λ (b : Bool). bitOf w (suc i) && not b) (sym (eqb·suc-zero i))
 
 even : (k w n : ℕ) → w % 2 ≡ 0 → 0 < w / 2 → Lowest k (w / 2) n → Lowest (suc k) w (suc n)

@@ -1,12 +1,12 @@
 -- Laws of words of bits: each once, over the bit's number.
 use mathlib.Core.Path.{_≡_, refl, ap, ap₂, sym, _∙_}
-use mathlib.Core.Bool.{Bool, true, false, cond, not, _&&_, _||_}
+use mathlib.Core.Bool.{Bool, true, false, cond, not, _&&_, _||_, xor}
 use mathlib.Core.Logic.{⊎-elim}
 use Prim.Native.Nat.{ℕ, zero, suc, _+_, _-_, _*_, _/_, _%_, _^_, _<_, _≤_}
 use native.Mathlib.Nat.{lt-of-lt-of-le, lt-of-le-of-lt, pow-suc, mul-assoc, add-mul-div-right, add-mul-mod-self-right, div-eq-of-lt, mod-eq-of-lt, mod-lt, mod-one, zero-add, zero-lt-suc, eq-or-lt-of-le, le-of-suc-le-suc, not-suc-le-zero}
 use native.Mathlib.Numerals.{add-one, one-add}
 use native.Mathlib.Omega.{arith}
-use lib.Bits.{bitAnd, bitOr, or-shifted-r, and-shr, or-shr, and-mod, or-mod, and-le-l, and-lt, or-lt}
+use lib.Bits.{bitAnd, bitOr, bitXor, or-shifted-r, and-shr, or-shr, xor-shr, and-mod, or-mod, xor-mod, and-le-l, and-lt, or-lt}
 use lib.Dec.{eqb, lit<}
 use lib.Pow.{shl-exact, pow-add, pow-pos, pow-mono, mod-pow-add}
 use Rattle.bits.specs.Words.{bitOf, wordOf, one}
@@ -45,7 +45,7 @@ step t n = go (t n)
     go true = omega arith
     go false = omega arith
 
-one-lt : (b : Bool) → one b < 2
+pub one-lt : (b : Bool) → one b < 2
 one-lt true = lit< tt
 one-lt false = lit< tt
 
@@ -53,9 +53,10 @@ bit-is : (b : Bool) → eqb (one b) 1 ≡ b
 bit-is true = refl
 bit-is false = refl
 
-read : (t : ℕ → Bool) (n i : ℕ) → i < n → wordOf t n / 2 ^ i % 2 ≡ one (t i)
-read t zero i h = absurd (not-suc-le-zero h)
-read t (suc n) i h = ⊎-elim last (λ k. earlier k (read t n i k)) (eq-or-lt-of-le (le-of-suc-le-suc h))
+-- bit i of the word as a number
+pub one-wordOf : (t : ℕ → Bool) (n i : ℕ) → i < n → wordOf t n / 2 ^ i % 2 ≡ one (t i)
+one-wordOf t zero i h = absurd (not-suc-le-zero h)
+one-wordOf t (suc n) i h = ⊎-elim last (λ k. earlier k (one-wordOf t n i k)) (eq-or-lt-of-le (le-of-suc-le-suc h))
   where
     last : i ≡ n → wordOf t (suc n) / 2 ^ i % 2 ≡ one (t i)
     last e = rw (e, step, at (wordOf t n) (one (t n)) n (wordOf-lt t n) (one-lt (t n)))
@@ -66,13 +67,16 @@ read t (suc n) i h = ⊎-elim last (λ k. earlier k (read t n i k)) (eq-or-lt-of
         let p : 2 ^ n ≡ 2 ^ (suc (n - suc i) + i) = ap (λ (m : ℕ). 2 ^ m) e in
         rw (step, p, below (wordOf t n) (one (t n)) (n - suc i) i) r
 
--- bit i of the word is t i
+-- and as a test
 pub bit-wordOf : (t : ℕ → Bool) (n i : ℕ) → i < n → bitOf (wordOf t n) i ≡ t i
-bit-wordOf t n i h = rw (read t n i h, bit-is)
+bit-wordOf t n i h = rw (one-wordOf t n i h, bit-is)
 
 -- a word has no bit past its length
 pub bit-past : (w n i : ℕ) → w < 2 ^ n → n ≤ i → bitOf w i ≡ false
 bit-past w n i h k = rw (div-eq-of-lt (lt-of-lt-of-le h (pow-mono k)))
+
+pub bit-none : (i : ℕ) → bitOf 0 i ≡ false
+bit-none i = bit-past 0 0 i (omega arith) (omega arith)
 
 -- ## A word is that of its bits
 
@@ -128,11 +132,24 @@ or-digits (suc zero) (suc zero) hx hy = refl
 or-digits (suc zero) (suc (suc y)) hx hy = absurd (omega arith)
 or-digits (suc (suc x)) y hx hy = absurd (omega arith)
 
+xor-digits : (x y : ℕ) → x < 2 → y < 2 → eqb (bitXor x y) 1 ≡ xor (eqb x 1) (eqb y 1)
+unfolding xor
+xor-digits zero zero hx hy = refl
+xor-digits zero (suc zero) hx hy = refl
+xor-digits zero (suc (suc y)) hx hy = absurd (omega arith)
+xor-digits (suc zero) zero hx hy = refl
+xor-digits (suc zero) (suc zero) hx hy = refl
+xor-digits (suc zero) (suc (suc y)) hx hy = absurd (omega arith)
+xor-digits (suc (suc x)) y hx hy = absurd (omega arith)
+
 pub bit-and : (v w i : ℕ) → bitOf (bitAnd v w) i ≡ (bitOf v i && bitOf w i)
 bit-and = bit-op bitAnd _&&_ and-shr and-mod and-digits
 
 pub bit-or : (v w i : ℕ) → bitOf (bitOr v w) i ≡ (bitOf v i || bitOf w i)
 bit-or = bit-op bitOr _||_ or-shr or-mod or-digits
+
+pub bit-xor : (v w i : ℕ) → bitOf (bitXor v w) i ≡ xor (bitOf v i) (bitOf w i)
+bit-xor = bit-op bitXor xor xor-shr xor-mod xor-digits
 
 -- the complement in n bits
 complement : (t : ℕ → Bool) (n : ℕ) → wordOf t n + wordOf (λ i. not (t i)) n ≡ 2 ^ n - 1

@@ -1,21 +1,18 @@
 -- What a scan or a held run answers in each of its cases: refused at once, refused for want of room, and granted.
 use mathlib.Core.Path.{_≡_, refl, ap, sym, _∙_}
-use mathlib.Core.Bool.{true, _&&_}
 use mathlib.Core.List.{List, _++_}
 use Prim.Native.Nat.{ℕ, zero, suc, _+_, _*_, _≤_, _<_}
 use borrow.Author.Tests.{leb-true, le-leb, lt-leb}
-use lib.Dec.{leb}
 use lib.ListN.{length, take, drop}
 use lib.Seq.{sets}
-use Rattle.bits.proofs.Lists.{and-left, and-right}
 use Rattle.effects.specs.declared.Event.{Event}
 use Rattle.effects.specs.Records.{bytes}
 use Rattle.effects.proofs.Records.{front-bytes}
 use Rattle.settings.specs.declared.Settings.{Settings}
 use Rattle.settings.specs.declared.Row.{Row}
-use Rattle.settings.specs.Limits.{mostHold, mostScans}
+use Rattle.settings.specs.Limits.{mostScans}
 use Rattle.settings.specs.Refusals.{orElse}
-use Rattle.settings.specs.Right.{limitsOf, settingsNumber, holdNumber, rowNumber}
+use Rattle.settings.specs.Right.{limitsOf, settingsNumber, rowNumber}
 use Rattle.settings.proofs.Refusals.{or-else-first, or-else-next, or-else-none, unless-none}
 use Rattle.settings.proofs.Right.{count-few}
 use Rattle.block.specs.declared.State.{State}
@@ -92,13 +89,3 @@ module _ (st : Settings) (row : Row) (x : State) (n : ℕ) (is : n ≡ inputNumb
 
   pub countable : x .done + row .hold ≤ mostScans
   countable = leb-true (x .done + row .hold) mostScans (unless-none _ 8 (parts .3))
-
-  hold-right : (leb 1 (row .hold) && leb (row .hold) mostHold) ≡ true
-  unfolding rowNumber
-  hold-right = unless-none _ 3 (or-else-none (holdNumber (row .hold)) _ row-right .0)
-
-  pub hold-some : 1 ≤ row .hold
-  hold-some = leb-true 1 (row .hold) (and-left _ _ hold-right)
-
-  pub hold-most : row .hold ≤ mostHold
-  hold-most = leb-true (row .hold) mostHold (and-right (leb 1 (row .hold)) _ hold-right)

@@ -1,18 +1,15 @@
 -- A right state by the words of its effects, and back: slots past the effects are those of no effect.
-use mathlib.Core.Path.{_≡_, refl, ap, sym, _∙_}
-use mathlib.Core.Bool.{Bool, true, false, cond, _&&_}
-use mathlib.Core.List.{List}
+use mathlib.Core.Path.{_≡_, sym, _∙_}
+use mathlib.Core.Bool.{true, false, _&&_}
 use Prim.Native.Nat.{ℕ, _+_, _-_, _≤_, _<_}
 use native.Mathlib.Nat.{zero-add}
 use native.Mathlib.Omega.{arith}
 use borrow.Author.Tests.{eqb-true, le-ltb, lt-ltb}
-use lib.Dec.{eqb, ltb}
-use lib.ListN.{drop, getD, length, replicate, length-drop, length-replicate, getD-replicate}
+use lib.Dec.{eqb}
+use lib.ListN.{getD, length, replicate, length-drop, length-replicate, getD-replicate}
 use lib.Seq.{ext-getD, getD-drop}
-use Rattle.bits.specs.Lists.{allFrom}
 use Rattle.bits.proofs.Lists.{and-left, and-right, all-at}
 use Rattle.bits.proofs.Words.{bit-wordOf}
-use Rattle.rules.specs.declared.EffectState.{EffectState}
 use Rattle.rules.specs.declared.EffectState.the-variants.{Tripped, Normal, Delayed}
 use Rattle.rules.specs.declared.Slot.{Slot}
 use Rattle.rules.specs.Rules.{noSlot, same}

@@ -1,28 +1,24 @@
 -- The scans of a hold after the first: with the reset word zero, the words are right again, and the effects see the same but
 -- for the reset.
 use mathlib.Core.Path.{_≡_, refl, ap, sym, _∙_}
-use mathlib.Core.Bool.{Bool, true, false, _&&_, _||_}
-use mathlib.Core.List.{List, [], _∷_, _++_, map}
-use Prim.Native.Nat.{ℕ, zero, suc, _%_, _^_, _≤_, _<_}
-use native.Mathlib.Nat.{zero-div}
+use mathlib.Core.Bool.{Bool, true, _&&_, _||_}
+use mathlib.Core.List.{List, [], _∷_, map}
+use Prim.Native.Nat.{ℕ, _^_}
 use borrow.Author.Tests.{lt-ltb}
-use lib.Dec.{eqb, ltb}
+use lib.Dec.{ltb}
 use lib.ListN.{length, length-map, List·getD-map}
 use lib.Pow.{pow-pos}
-use Rattle.bits.specs.Lists.{tabulate}
-use Rattle.bits.specs.Words.{bitOf}
 use Rattle.bits.proofs.Lists.{and-left, and-right, map-tabulate, tabulate-ext}
-use Rattle.bits.proofs.Words.{wordOf-ext}
+use Rattle.bits.proofs.Words.{bit-none, wordOf-ext}
 use Rattle.rules.specs.Signals.{Signals}
 use Rattle.rules.specs.Rules.{isLatent, isExercised, noSignals}
 use Rattle.effects.specs.Scan.{latentWord, anyExercised}
 use Rattle.rounds.specs.Steps.{clear}
-use Rattle.rounds.specs.Stroke.{Timed}
+use Rattle.rounds.proofs.Effects.{Timed, timed-tabulate}
 use Rattle.settings.specs.declared.Limits.{Limits}
 use Rattle.settings.specs.declared.Settings.{Settings}
 use Rattle.settings.specs.declared.Words.{Words}
-use Rattle.settings.specs.declared.Row.{Row}
-use Rattle.settings.specs.Right.{settingsNumber, wordsOk, fieldsNumber, wordsNumber, holdNumber, rowNumber}
+use Rattle.settings.specs.Right.{settingsNumber, wordsOk, fieldsNumber, wordsNumber, rowNumber}
 use Rattle.settings.specs.Signals.{signals, signalsOf}
 use Rattle.settings.proofs.Refusals.{or-else-none, unless-none}
 use Rattle.settings.proofs.Right.{period-some, period-most}
@@ -51,18 +47,11 @@ pub once-right : (k : Limits) (w : Words) → wordsNumber k w ≡ 0 → rowNumbe
 unfolding rowNumber
 once-right k w e = e
 
-pub row-words : (k : Limits) (row : Row) → rowNumber k row ≡ 0 → wordsNumber k (row .words) ≡ 0
-unfolding rowNumber
-row-words k row e = or-else-none (holdNumber (row .hold)) _ e .1
-
 -- ## What the effects see
-
-no-reset : (i : ℕ) → bitOf 0 i ≡ false
-no-reset i = ap (λ (x : ℕ). eqb (x % 2) 1) (zero-div (2 ^ i))
 
 signals-at : (st : Settings) (w : Words) (i : ℕ) → signalsOf st (later w) i ≡ clear (signalsOf st w i)
 unfolding signalsOf
-signals-at st w i = rw (no-reset i)
+signals-at st w i = rw (bit-none i)
 
 pub signals-later : (st : Settings) (w : Words) → signals st (later w) ≡ map clear (signals st w)
 signals-later st w = tabulate-ext _ _ (st .count) (λ i h. signals-at st w i) ∙ sym (map-tabulate clear (signalsOf st w) (st .count))
@@ -74,15 +63,6 @@ latent-clear ss = rw (length-map ss clear) (wordOf-ext _ _ (length ss) (λ i h. 
 pub exercised-clear : (ss : List Signals) → anyExercised (map clear ss) ≡ anyExercised ss
 exercised-clear [] = refl
 exercised-clear (s ∷ ss) = ap (λ (b : Bool). isExercised s || b) (exercised-clear ss)
-
-timed-append : (xs ys : List Signals) → Timed xs → Timed ys → Timed (xs ++ ys)
-timed-append [] ys h k = k
-timed-append (x ∷ xs) ys h k = (h .0, h .1, timed-append xs ys (h .2) k)
-
-timed-tabulate : (f : ℕ → Signals) (n : ℕ) → ((i : ℕ) → (0 < f i .period) × (f i .period ≤ 1000)) → Timed (tabulate f n)
-unfolding tabulate
-timed-tabulate f zero h = tt
-timed-tabulate f (suc n) h = timed-append (tabulate f n) (f n ∷ []) (timed-tabulate f n h) (h n .0, h n .1, tt)
 
 -- every effect sees the period of the settings
 pub signals-timed : (st : Settings) (w : Words) → settingsNumber st ≡ 0 → Timed (signals st w)

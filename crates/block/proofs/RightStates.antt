@@ -1,7 +1,7 @@
 -- A fresh state is right, and a scan of a right state gives a right state: so 8 never comes up in a replay. What the rules
 -- do is computed at every answer to what they ask; timers and first-outs are arithmetic beside it.
 use mathlib.Core.Path.{_≡_, refl}
-use mathlib.Core.Bool.{Bool, true, false, cond, not, _&&_, _||_}
+use mathlib.Core.Bool.{Bool, true, false, cond, not, _&&_, _||_, false≢true}
 use mathlib.Core.List.{List}
 use Prim.Native.Nat.{ℕ, _-_, _≤_, _<_}
 use native.Mathlib.Nat.{zero-add}
@@ -44,10 +44,7 @@ delayed-all = refl
 
 from-test : (b c : Bool) → (not b || c) ≡ true → b ≡ true → c ≡ true
 from-test true c e f = e
-from-test false c e f = absurd (no f)
-  where
-    no : false ≡ true → ⊥
-    no g = let z : _≡_ {A = ℕ} 0 1 = cc in omega arith
+from-test false c e f = absurd (false≢true f)
 
 module _ (s : Signals) (x : Slot) where
   delayed-from : same (stateAfter s x) Delayed ≡ true → cond (same (x .state) Delayed) (not (leb (x .timer) (s .period))) (ltb 0 (s .delay)) ≡ true
@@ -98,9 +95,6 @@ module _ (st : Settings) (x : State) (right : stateNumber st x ≡ 0) where
   state-ok : stateOk st x ≡ true
   unfolding stateNumber
   state-ok = unless-none _ 7 right
-
-  pub done-most : x .done ≤ mostScans
-  done-most = leb-true _ _ (and-left _ _ state-ok)
 
   pub slots-right : allFrom (slotOk st) 0 (x .slots) ≡ true
   slots-right = and-right (leb (x .done) mostScans) _ state-ok

@@ -9,11 +9,11 @@ use lib.Seq.{sets}
 use Rattle.bits.specs.Words.{one}
 use Rattle.bits.proofs.Lists.{length-tabulate}
 use Rattle.rules.specs.declared.Slot.{Slot}
-use Rattle.effects.specs.Records.{bytes}
+use Rattle.effects.specs.Records.{recordLength, bytes}
 use Rattle.effects.specs.Scan.{effectWord, latentWord, anyExercised}
 use Rattle.rounds.specs.Steps.{Run, start as startRun, held}
 use Rattle.rounds.proofs.Held.{live-at-most, due-at-most, length-slots}
-use Rattle.planes.specs.Table.{tableOf, slotsOf}
+use Rattle.planes.specs.Table.{tableOf}
 use Rattle.planes.specs.declared.Board.{Board}
 use Rattle.planes.specs.declared.Mark.{Mark}
 use Rattle.planes.specs.Board.{runOf as runFrom, Shown, boardAt, boardOf, begun}
@@ -24,14 +24,14 @@ use Rattle.settings.specs.declared.Settings.{Settings}
 use Rattle.settings.specs.declared.Row.{Row}
 use Rattle.settings.specs.Right.{limitsOf, settingsNumber}
 use Rattle.settings.specs.Signals.{signals, signalsOf}
-use Rattle.settings.proofs.Right.{row-words}
+use Rattle.settings.proofs.Right.{row-words, hold-some}
 use Rattle.block.specs.declared.State.{State}
 use Rattle.block.specs.declared.Ran.{Ran}
 use Rattle.block.specs.Scan.{inputNumber}
 use Rattle.block.specs.Held.{start, run}
 use Rattle.block.specs.State.{stateNumber}
 use Rattle.block.specs.Run.{startOf, reachedBy, ranOf, keptAt, keptOf}
-use Rattle.block.proofs.Answers.{settings-right, state-right, row-right, few, countable, hold-some}
+use Rattle.block.proofs.Answers.{settings-right, state-right, row-right, few, countable}
 use Rattle.block.proofs.Boards.{shows, settled}
 use Rattle.block.proofs.Stepping.{Ready, ready-at, runOf, stepped-runs, stepped-done, stepped-effect, stepped-latent, stepped-exercised}
 
@@ -51,7 +51,7 @@ module _ (st : Settings) (row : Row) (x : State) (input : inputNumber st x row �
       }
 
   -- single scans give what the run over lists gives
-  pub run-is : runOf (run st row x) ≡ held (signals st (row .words)) (row .hold) (startRun (x .done) (x .next) (x .slots))
+  pub run-is : runOf (run st row x) ≡ held (signals st (row .words)) (row .hold) (startOf x)
   unfolding run
   run-is = stepped-runs st right (row .hold) (row .words) (start x) ready
 
@@ -59,15 +59,15 @@ module _ (st : Settings) (row : Row) (x : State) (input : inputNumber st x row �
   pub due-few : length (run st row x .events) ≤ 2 * st .count
   due-few =
       let e = ap (λ (r : Run). length (r .events)) run-is in
-      omega (arith, e, due-at-most (signals st (row .words)) (row .hold) (startRun (x .done) (x .next) (x .slots)), length-tabulate (signalsOf st (row .words)) (st .count))
+      omega (arith, e, due-at-most (signals st (row .words)) (row .hold) (startOf x), length-tabulate (signalsOf st (row .words)) (st .count))
 
   -- the scans in which an effect changes state never outnumber twice the effects
   pub live-few : run st row x .live ≤ 2 * st .count
   live-few =
       let e = ap (λ (r : Run). r .live) run-is in
-      omega (arith, e, live-at-most (signals st (row .words)) (row .hold) (startRun (x .done) (x .next) (x .slots)), length-tabulate (signalsOf st (row .words)) (st .count))
+      omega (arith, e, live-at-most (signals st (row .words)) (row .hold) (startOf x), length-tabulate (signalsOf st (row .words)) (st .count))
 
-  pub due-bytes : 12 * length (run st row x .events) ≤ 384
+  pub due-bytes : recordLength * length (run st row x .events) ≤ 384
   due-bytes = omega (arith, due-few, few st row x _ refl input)
 
   -- the scans done grow by the hold
@@ -84,7 +84,7 @@ module _ (st : Settings) (row : Row) (x : State) (input : inputNumber st x row �
       rw e (stepped-effect st right m (row .words) (start x) r, stepped-latent st right m (row .words) (start x) r)
 
   words-are : (run st row x .effect ≡ effectWord (st .count) (run st row x .state .slots)) × (run st row x .latent ≡ latentWord (signals st (row .words)))
-  words-are = from-hold (row .hold) (hold-some st row x _ refl input) refl
+  words-are = from-hold (row .hold) (hold-some (limitsOf st) row (row-right st row x _ refl input)) refl
 
   -- exercised: the hold where some effect's active word is not 0, else 0
   pub exercised-is : run st row x .exercised ≡ row .hold * one (anyExercised (signals st (row .words)))
@@ -100,7 +100,7 @@ module _ (st : Settings) (row : Row) (x : State) (input : inputNumber st x row �
 
   -- there are as many slots as before
   pub slots-stay : length (run st row x .state .slots) ≡ length (x .slots)
-  slots-stay = ap (λ (r : Run). length (r .slots)) run-is ∙ length-slots (signals st (row .words)) (row .hold) (startRun (x .done) (x .next) (x .slots))
+  slots-stay = ap (λ (r : Run). length (r .slots)) run-is ∙ length-slots (signals st (row .words)) (row .hold) (startOf x)
 
   -- ## What the code holds
 
@@ -119,7 +119,7 @@ module _ (st : Settings) (row : Row) (x : State) (input : inputNumber st x row �
     starts-right = record { slots = ap (tableOf (st .count)) (sym (shows st x (ready .state) long right)); settled = settled st x (ready .state) long right }
 
     -- its records fit where those of the run do
-    pub starts-fits : (room : ℕ) → 12 * length (run st row x .events) ≤ room → 12 * length (stroke .events) ≤ room
+    pub starts-fits : (room : ℕ) → recordLength * length (run st row x .events) ≤ room → recordLength * length (stroke .events) ≤ room
     starts-fits room h = omega (arith, h, ap (λ (r : Run). length (r .events)) stroke-is)
 
     pub laid : (space space′ : List ℕ) → space′ ≡ sets space 0 (bytes (stroke .events)) → space′ ≡ sets space 0 (bytes (run st row x .events))
@@ -133,14 +133,14 @@ module _ (st : Settings) (row : Row) (x : State) (input : inputNumber st x row �
       comes-to = e ∙ ap (strokedBy st (row .words)) stroke-is
 
       pub ran-is : (r : State) (v : ℕ) → r ≡ reachedBy (st .count) (s .board) → v ≡ row .hold * one (s .exercised)
-          → _≡_ {A = Ran} (record { state = r; effect = s .effect; latent = s .latent; records = s .board .at / 12; live = s .board .live; exercised = v }) (ranOf (run st row x))
+          → _≡_ {A = Ran} (record { state = r; effect = s .effect; latent = s .latent; records = s .board .at / recordLength; live = s .board .live; exercised = v }) (ranOf (run st row x))
       ran-is r v er ev =
           let end = run st row x .state in
           let gr = er ∙ ap (λ (q : Stroked). reachedBy (st .count) (q .board)) comes-to
           ∙ ap (state (end .done) (end .next)) (shows st end keeps-right long-after right) in
           let gf = ap (λ (q : Stroked). q .effect) comes-to ∙ sym (words-are .0) in
           let gl = ap (λ (q : Stroked). q .latent) comes-to ∙ sym (words-are .1) in
-          let gn : s .board .at / 12 ≡ length (run st row x .events) = omega (arith, ap (λ (q : Stroked). q .board .at) comes-to) in
+          let gn : s .board .at / recordLength ≡ length (run st row x .events) = omega (arith, ap (λ (q : Stroked). q .board .at) comes-to) in
           let gi = ap (λ (q : Stroked). q .board .live) comes-to in
           let gv = ev ∙ ap (λ (q : Stroked). row .hold * one (q .exercised)) comes-to ∙ sym exercised-is in
           λ i. record { state = gr i; effect = gf i; latent = gl i; records = gn i; live = gi i; exercised = gv i }
@@ -159,7 +159,7 @@ module _ (st : Settings) (row : Row) (from : Board) (input : inputNumber st (rea
   kept-is = sym (run-is st row at input)
 
   -- its records fit where those of the run do
-  pub kept-fits : (room : ℕ) → 12 * length (run st row at .events) ≤ room → 12 * length (kept-stroke .events) ≤ room
+  pub kept-fits : (room : ℕ) → recordLength * length (run st row at .events) ≤ room → recordLength * length (kept-stroke .events) ≤ room
   kept-fits room h = omega (arith, h, ap (λ (r : Run). length (r .events)) kept-is)
 
   pub kept-laid : (space space′ : List ℕ) → space′ ≡ sets space 0 (bytes (kept-stroke .events)) → space′ ≡ sets space 0 (bytes (run st row at .events))
@@ -167,11 +167,11 @@ module _ (st : Settings) (row : Row) (from : Board) (input : inputNumber st (rea
 
   pub kept-run : (r : Struck) (timers firsts : List ℕ) → strokedAt r timers firsts ≡ strokedBy st (row .words) kept-stroke
       → (m : Mark) (v : ℕ) → m ≡ begun (r .mark) → v ≡ row .hold * one (r .exercised)
-      → keptAt (record { mark = m; records = r .mark .at / 12; live = r .mark .live; exercised = v }) timers firsts ≡ keptOf (st .count) (run st row at)
+      → keptAt (record { mark = m; records = r .mark .at / recordLength; live = r .mark .live; exercised = v }) timers firsts ≡ keptOf (st .count) (run st row at)
   kept-run r timers firsts e m v em ev =
       let comes = e ∙ ap (strokedBy st (row .words)) kept-is in
       let gb = ap (λ (q : Mark). boardAt q timers firsts) em ∙ ap (λ (q : Stroked). fresh (q .board)) comes in
-      let gn : r .mark .at / 12 ≡ length (run st row at .events) = omega (arith, ap (λ (q : Stroked). q .board .at) comes) in
+      let gn : r .mark .at / recordLength ≡ length (run st row at .events) = omega (arith, ap (λ (q : Stroked). q .board .at) comes) in
       let gi = ap (λ (q : Stroked). q .board .live) comes in
       let gv = ev ∙ ap (λ (q : Stroked). row .hold * one (q .exercised)) comes ∙ sym (exercised-is st row at input) in
       λ i. record { board = gb i; records = gn i; live = gi i; exercised = gv i }

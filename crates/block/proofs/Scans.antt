@@ -1,7 +1,7 @@
 -- A single scan is a held run of hold 1: what the run answers is what the definitions say of the scan.
-use mathlib.Core.Path.{_≡_, refl, ap, sym, _∙_}
+use mathlib.Core.Path.{_≡_, refl, ap, _∙_}
 use mathlib.Core.List.{List}
-use Prim.Native.Nat.{ℕ, zero, suc, _*_, _≤_}
+use Prim.Native.Nat.{ℕ, zero, suc, _*_}
 use native.Mathlib.Omega.{arith}
 use lib.ListN.{length}
 use Rattle.settings.specs.declared.Settings.{Settings}
@@ -18,11 +18,7 @@ use Rattle.block.specs.Run.{scannedBy}
 use Rattle.block.proofs.Answers.{settings-right, state-right, row-right, countable}
 use Rattle.block.proofs.Stepping.{scan-accepted}
 
--- its events, and so its number
-once-events : (st : Settings) (w : Words) (x : State) → run st (once w) x .events ≡ events st w x
-unfolding run
-once-events st w x = refl
-
+-- its number
 once-number : (st : Settings) (w : Words) (x : State) (room : ℕ) → heldNumber st (once w) x room ≡ scanNumber st w x room
 unfolding heldNumber scanNumber run
 once-number st w x room = refl

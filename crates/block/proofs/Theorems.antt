@@ -20,13 +20,14 @@ use Rattle.settings.specs.declared.Row.{Row}
 use Rattle.settings.specs.Limits.{mostScans}
 use Rattle.settings.specs.Right.{limitsOf, settingsNumber, wordsNumber, rowNumber}
 use Rattle.settings.specs.Signals.{signals, signalsOf}
+use Rattle.settings.proofs.Right.{row-words}
 use Rattle.block.specs.declared.State.{State}
 use Rattle.block.specs.declared.Scanned.{Scanned}
 use Rattle.block.specs.State.{stateNumber, fresh}
 use Rattle.block.specs.Scan.{inputNumber, atFront, events, scanOf, grantedScan}
 use Rattle.block.specs.Held.{start, stepped, run, grantedHeld, refusedHeld, heldNumber, heldOf, heldInto}
 use Rattle.block.proofs.Answers.{granted-in-room}
-use Rattle.block.proofs.Later.{row-words, signals-timed}
+use Rattle.block.proofs.Later.{signals-timed}
 use Rattle.block.proofs.RightStates as states
 use Rattle.block.proofs.Runs as runs
 use Rattle.block.proofs.Stepping.{Ready, runOf, wordsAt, scan-accepted, ready-at}

@@ -3,7 +3,7 @@
 use Prim.Native.Nat.{ℕ}
 use mathlib.Core.List.{List}
 use lib.ListN.{length}
-use Rattle.effects.specs.declared.Progress.{Progress}
+use Rattle.rounds.specs.Steps.{Run, start}
 use Rattle.planes.specs.declared.Board.{Board}
 use Rattle.planes.specs.Table.{slotsOf}
 use Rattle.planes.specs.Board.{boardAt, boardOf}
@@ -14,9 +14,11 @@ use Rattle.block.specs.declared.Ran.{Ran}
 use Rattle.block.specs.declared.Kept.{Kept}
 use Rattle.block.specs.Held.{Stepped}
 
-abbrev pub startOf : State → Progress
-startOf x = record { done = x .done; next = x .next; slots = x .slots; at = 0; live = 0 }
+-- the run that starts at a state
+abbrev pub startOf : State → Run
+startOf x = start (x .done) (x .next) (x .slots)
 
+-- the state that the words have come to
 abbrev pub reachedBy : ℕ → Board → State
 reachedBy n b = record { done = b .done; next = b .next; slots = slotsOf n (b .table) }
 

@@ -5,7 +5,7 @@ use lib.Dec.{leb}
 use lib.ListN.{length, drop}
 use Rattle.effects.specs.declared.Event.{Event}
 use Rattle.effects.specs.Records.{bytes}
-use Rattle.effects.specs.Scan.{steps, seqAfter, records, effectWord, latentWord}
+use Rattle.effects.specs.Scan.{steps, seqAfter, eventsFrom, effectWord, latentWord}
 use Rattle.settings.specs.declared.Settings.{Settings}
 use Rattle.settings.specs.declared.Words.{Words}
 use Rattle.settings.specs.declared.Row.{Row}
@@ -59,7 +59,7 @@ after st w x =
 
 -- the events of the scan: the first scan is number 1, and so is the first effect
 unfoldable pub events : Settings → Words → State → List Event
-events st w x = records (x .next) (x .done + 1) 1 (signals st w) (x .slots)
+events st w x = eventsFrom (x .next) (x .done + 1) 1 (signals st w) (x .slots)
 
 unfoldable pub scanNumber : Settings → Words → State → (room : ℕ) → ℕ
 scanNumber st w x room = orElse (inputNumber st x (once w)) (roomNumber (length (events st w x)) room)

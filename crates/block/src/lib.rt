@@ -8,7 +8,7 @@ ghost use lib.ListN.{length};
 ghost use lib.Seq.{sets};
 ghost use Rattle.bits.specs.Lists.{allFrom};
 ghost use Rattle.bits.specs.Words.{one};
-ghost use Rattle.effects.specs.Records.{bytes};
+ghost use Rattle.effects.specs.Records.{recordLength, bytes};
 ghost use Rattle.settings.specs.Limits.{mostScans};
 ghost use Rattle.block.specs.State.{timerRight, firstRight, slotRight, slotUnused, slotOk, stateNumber, fresh as freshState};
 ghost use Rattle.block.specs.Scan.{scansNumber, inputNumber, scanOf, scanInto};
@@ -259,7 +259,7 @@ pub fn run_kept(
     firsts: &mut [u16; 16],
 ) -> Kept
     requires { ⌜ Wired st x (now causes) (now times) × (boardAt from (now timers) (now firsts) .table ≡ tableOf (st .count) (slotsOf (st .count) (boardAt from (now timers) (now firsts) .table))) ⌝ }
-    requires { ⌜ (inputNumber st (reachedBy (st .count) (boardAt from (now timers) (now firsts))) row ≡ 0) × (12 * length (run st row (reachedBy (st .count) (boardAt from (now timers) (now firsts))) .events) ≤ length (now buf)) ⌝ }
+    requires { ⌜ (inputNumber st (reachedBy (st .count) (boardAt from (now timers) (now firsts))) row ≡ 0) × (recordLength * length (run st row (reachedBy (st .count) (boardAt from (now timers) (now firsts))) .events) ≤ length (now buf)) ⌝ }
     ensures { λ r. ⌜ keptAt r (now (timers .exit)) (now (firsts .exit)) ≡ keptOf (st .count) (run st row (reachedBy (st .count) (boardAt from (now (timers .entry)) (now (firsts .entry))))) ⌝ }
     ensures { λ _. ⌜ now (buf .exit) ≡ sets (now (buf .entry)) 0 (bytes (run st row (reachedBy (st .count) (boardAt from (now (timers .entry)) (now (firsts .entry)))) .events)) ⌝ }
 {
@@ -276,7 +276,7 @@ pub fn run_kept(
 // A held run in one stroke, of input that was found right: the row's words for its hold, the reset word in the first scan
 // only. Its records go to the front of `buf`. A single scan is a run of hold 1.
 pub fn run_right(buf: &mut [u8], st: Settings, row: Row, x: State) -> Ran
-    requires { ⌜ (inputNumber st x row ≡ 0) × (12 * length (run st row x .events) ≤ length (now buf)) ⌝ }
+    requires { ⌜ (inputNumber st x row ≡ 0) × (recordLength * length (run st row x .events) ≤ length (now buf)) ⌝ }
     ensures { λ r. ⌜ r ≡ ranOf (run st row x) ⌝ }
     ensures { λ _. ⌜ now (buf .exit) ≡ sets (now (buf .entry)) 0 (bytes (run st row x .events)) ⌝ }
 {

@@ -6,7 +6,6 @@ use native.Mathlib.Nat.{le-of-suc-le-suc, not-suc-le-zero}
 use lib.ListN.{length, getD}
 use Rattle.rules.specs.Signals.{Signals}
 use Rattle.rules.specs.declared.Slot.{Slot}
-use Rattle.bits.specs.Words.{one}
 use Rattle.rules.specs.Rules.{next}
 use Rattle.effects.specs.Scan.{steps}
 

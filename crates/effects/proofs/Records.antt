@@ -13,14 +13,14 @@ use Rattle.bits.proofs.Numbers.{fields-spelled}
 use Rattle.rules.specs.Rules.{code, stateOf}
 use Rattle.rules.proofs.States.{state-of-code}
 use Rattle.effects.specs.declared.Event.{Event}
-use Rattle.effects.specs.Records.{encode, bytes, eventAt, eventsAt}
+use Rattle.effects.specs.Records.{recordLength, recordLayout, encode, bytes, eventAt, eventsAt}
 use Rattle.effects.specs.Scan.{only}
 
-pub length-encode : (e : Event) → length (encode e) ≡ 12
+pub length-encode : (e : Event) → length (encode e) ≡ recordLength
 unfolding encode
 length-encode e = refl
 
-pub length-bytes : (es : List Event) → length (bytes es) ≡ 12 * length es
+pub length-bytes : (es : List Event) → length (bytes es) ≡ recordLength * length es
 length-bytes [] = refl
 length-bytes (e ∷ es) = rw (length-append, length-encode) (omega (arith, length-bytes es))
 
@@ -33,9 +33,9 @@ length-only true e rest = omega arith
 length-only false e rest = omega arith
 
 -- the front of a buffer to which records were written is those records
-pub front-bytes : (es : List Event) (l : List ℕ) → 12 * length es ≤ length l → take (12 * length es) (sets l 0 (bytes es)) ≡ bytes es
+pub front-bytes : (es : List Event) (l : List ℕ) → recordLength * length es ≤ length l → take (recordLength * length es) (sets l 0 (bytes es)) ≡ bytes es
 front-bytes es l h =
-    rw (sets-eq (bytes es) l 0 (omega (arith, length-bytes es))) (take-at (bytes es) (drop (0 + length (bytes es)) l) (12 * length es) (length-bytes es))
+    rw (sets-eq (bytes es) l 0 (omega (arith, length-bytes es))) (take-at (bytes es) (drop (0 + length (bytes es)) l) (recordLength * length es) (length-bytes es))
 
 -- ## Records that are read back
 
@@ -46,7 +46,7 @@ event-encoded e p q at h =
     let s = p ++ (encode e ++ q) in
     let vs = e .seq ∷ e .scan ∷ e .effect ∷ code (e .from) ∷ code (e .to) ∷ 0 ∷ e .first ∷ [] in
     let f =
-    fields-spelled (2 ∷ 4 ∷ 1 ∷ 1 ∷ 1 ∷ 1 ∷ 2 ∷ []) vs p q at 0 (omega arith)
+    fields-spelled recordLayout vs p q at 0 (omega arith)
     ((λ z. omega arith), ((λ z. omega arith), ((λ z. omega arith), ((λ z. omega arith), ((λ z. omega arith), ((λ z. refl), ((λ z. omega arith), tt)))))))
     in
     let seq : numAt 2 s at ≡ e .seq = rw add-zero at (ap (λ (l : List ℕ). getD l 0 0) f) in
@@ -62,7 +62,7 @@ events-of-bytes [] p q at h = refl
 events-of-bytes (e ∷ es) p q at h =
     let again : p ++ ((encode e ++ bytes es) ++ q) ≡ (p ++ encode e) ++ (bytes es ++ q) = simp append-assoc in
     let here : eventAt (p ++ ((encode e ++ bytes es) ++ q)) at ≡ e = rw (append-assoc (encode e) (bytes es) q) (event-encoded e p (bytes es ++ q) at h) in
-    let there : eventsAt (p ++ ((encode e ++ bytes es) ++ q)) (length es) (at + 12) ≡ es =
-    rw again (events-of-bytes es (p ++ encode e) q (at + 12) (omega (arith, length-append p (encode e), length-encode e)))
+    let there : eventsAt (p ++ ((encode e ++ bytes es) ++ q)) (length es) (at + recordLength) ≡ es =
+    rw again (events-of-bytes es (p ++ encode e) q (at + recordLength) (omega (arith, length-append p (encode e), length-encode e)))
     in
     ap₂ {B = List Event} (λ (x : Event) (y : List Event). x ∷ y) here there

@@ -6,11 +6,21 @@ use Rattle.bits.specs.Numbers.{numAt}
 use Rattle.rules.specs.Rules.{code, stateOf}
 use Rattle.effects.specs.declared.Event.{Event}
 
--- 12 bytes, big-endian: sequence (2), scan number (4), effect (1), state before (1), state after (1), zero (1), first-out after (2)
+-- a record is 12 bytes long
+abbrev pub recordLength : ℕ
+recordLength = 12
+
+-- sequence (2), scan number (4), effect (1), state before (1), state after (1), zero (1), first-out after (2)
+abbrev pub recordLayout : List ℕ
+recordLayout = 2 ∷ 4 ∷ 1 ∷ 1 ∷ 1 ∷ 1 ∷ 2 ∷ []
+
+-- the bytes of a record, big-endian, of the numbers that it holds
+abbrev pub recordOf : (seq scan effect from to first : ℕ) → List ℕ
+recordOf q c i p r f = pack recordLayout (q ∷ c ∷ i ∷ p ∷ r ∷ 0 ∷ f ∷ [])
+
+-- and of an event
 unfoldable pub encode : Event → List ℕ
-encode e =
-    pack (2 ∷ 4 ∷ 1 ∷ 1 ∷ 1 ∷ 1 ∷ 2 ∷ [])
-    (e .seq ∷ e .scan ∷ e .effect ∷ code (e .from) ∷ code (e .to) ∷ 0 ∷ e .first ∷ [])
+encode e = recordOf (e .seq) (e .scan) (e .effect) (code (e .from)) (code (e .to)) (e .first)
 
 abbrev pub bytes : List Event → List ℕ
 bytes [] = []
@@ -31,4 +41,4 @@ eventAt s at =
 -- the events of n records, from a place on
 abbrev pub eventsAt : List ℕ → (n at : ℕ) → List Event
 eventsAt s zero at = []
-eventsAt s (suc n) at = eventAt s at ∷ eventsAt s n (at + 12)
+eventsAt s (suc n) at = eventAt s at ∷ eventsAt s n (at + recordLength)

@@ -22,7 +22,7 @@ anyMoved [] xs = false
 anyMoved (s ∷ ss) [] = false
 anyMoved (s ∷ ss) (x ∷ xs) = moved s x || anyMoved ss xs
 
--- ## The event records
+-- ## The events
 
 -- the sequence number after q: after 65,535 comes 0
 abbrev pub wrapped : ℕ → ℕ
@@ -43,10 +43,10 @@ abbrev pub only : Bool → Event → List Event
 only b e = cond b (e ∷ []) []
 
 -- the events of scan number c, from effect number i and sequence number q on: one for each effect whose state changed
-abbrev pub records : ℕ → ℕ → ℕ → List Signals → List Slot → List Event
-records q c i [] xs = []
-records q c i (s ∷ ss) [] = []
-records q c i (s ∷ ss) (x ∷ xs) = only (moved s x) (event q c i s x) ++ records (cond (moved s x) (wrapped q) q) c (suc i) ss xs
+abbrev pub eventsFrom : ℕ → ℕ → ℕ → List Signals → List Slot → List Event
+eventsFrom q c i [] xs = []
+eventsFrom q c i (s ∷ ss) [] = []
+eventsFrom q c i (s ∷ ss) (x ∷ xs) = only (moved s x) (event q c i s x) ++ eventsFrom (cond (moved s x) (wrapped q) q) c (suc i) ss xs
 
 -- ## The words
 

@@ -1,18 +1,16 @@
 // All effects in one scan: the event records. Document 01, "The rules of one scan". What the scan does to the slots, and its
 // words, stands in specs/ and is computed by words of effects in `planes`. It rests on `rules` and `bits`.
-// How a record's bytes are put may change without moving a contract; which bytes they are is `encode` in specs/Records. The run
-// that code carries (specs/Run) is cited by inner functions alone.
+// How a record's bytes are put may change without moving a contract; which bytes they are is `encode` in specs/Records.
 ghost use mathlib.Core.Path.{_≡_};
 ghost use mathlib.Core.List.{[], _∷_};
 ghost use Prim.Native.Nat.{_+_, _≤_};
 ghost use lib.ListN.{length};
 ghost use lib.Seq.{sets};
 ghost use Rattle.bits.specs.Layout.{pack};
-ghost use Rattle.effects.specs.Records.{eventAt};
+ghost use Rattle.effects.specs.Records.{recordLength, recordOf, eventAt};
 use rules::EffectState;
-use rules::Slot;
 
-// An event: what a record of 12 bytes holds.
+// An event: what a record holds.
 pub struct Event {
     pub seq: u16,
     pub scan: u32,
@@ -20,16 +18,6 @@ pub struct Event {
     pub from: EffectState,
     pub to: EffectState,
     pub first: u16,
-}
-
-// How far a run of scans has come: the scans done, the next sequence number and the slots, the place after the records
-// in the buffer, and the live scans so far.
-pub struct Progress {
-    pub done: u32,
-    pub next: u16,
-    pub slots: [Slot; 16],
-    pub at: usize,
-    pub live: u32,
 }
 
 // ---- the records
@@ -64,8 +52,8 @@ pub fn put_record(
     to: u8,
     first: u16,
 )
-    requires { ⌜ at + 12 ≤ length (now buf) ⌝ }
-    ensures { λ _. ⌜ now (buf .exit) ≡ sets (now (buf .entry)) at (pack (2 ∷ 4 ∷ 1 ∷ 1 ∷ 1 ∷ 1 ∷ 2 ∷ []) (seq ∷ scan ∷ effect ∷ from ∷ to ∷ 0 ∷ first ∷ [])) ⌝ }
+    requires { ⌜ at + recordLength ≤ length (now buf) ⌝ }
+    ensures { λ _. ⌜ now (buf .exit) ≡ sets (now (buf .entry)) at (recordOf seq scan effect from to first) ⌝ }
 {
     put_number(buf, at, seq, scan, effect);
     put_change(buf, at + 7, from, to, first);
@@ -73,7 +61,7 @@ pub fn put_record(
 
 // The event of the record at a place.
 pub fn event_at(s: &[u8], at: usize) -> Event
-    requires { ⌜ at + 12 ≤ length (now s) ⌝ }
+    requires { ⌜ at + recordLength ≤ length (now s) ⌝ }
     ensures { λ r. ⌜ r ≡ eventAt (now (s .entry)) at ⌝ }
 {
     Event {

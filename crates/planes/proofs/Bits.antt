@@ -1,44 +1,25 @@
 -- A loop over the set bits of a word, lowest first, comes to what a loop over all effects comes to, where nothing comes of an
 -- effect that is not in the word.
 use mathlib.Core.Path.{_≡_, refl, ap, sym, _∙_, subst}
-use mathlib.Core.Bool.{Bool, true, false, not, _&&_, xor, false≢true, and-true, and-false}
+use mathlib.Core.Bool.{Bool, true, false, not, _&&_, false≢true, and-true, and-false}
 use mathlib.Core.Logic.{⊎-elim}
-use Prim.Native.Nat.{ℕ, zero, suc, _+_, _-_, _/_, _%_, _^_, _<_, _≤_}
-use native.Mathlib.Nat.{eq-or-lt-of-le, le-of-suc-le-suc, lt-of-lt-of-le, mod-lt, zero-div, zero-lt-suc}
+use Prim.Native.Nat.{ℕ, zero, suc, _+_, _-_, _^_, _<_, _≤_}
+use native.Mathlib.Nat.{eq-or-lt-of-le, le-of-suc-le-suc, lt-of-lt-of-le}
 use native.Mathlib.Numerals.{add-one}
 use native.Mathlib.Omega.{arith}
 use borrow.Author.Tests.{leb-true, leb-false, le-leb, ne-eqb, eqb-false}
-use lib.Bits.{bitAnd, bitXor, and-le-r, xor-shr, xor-mod}
+use lib.Bits.{bitAnd, and-le-r}
 use lib.Count.{trailingZeros}
 use lib.Dec.{leb, eqb, leb·zero}
 use lib.Pow.{pow-mono}
 use Rattle.bits.specs.Words.{bitOf}
 use Rattle.bits.proofs.Lists.{and-left, and-right}
 use Rattle.bits.proofs.Lowest.{Lowest, lowest}
-use Rattle.bits.proofs.Words.{bit-past}
+use Rattle.bits.proofs.Words.{bit-past, bit-none}
 
 and-one : (a b : Bool) → b ≡ true → (a && b) ≡ false → a ≡ false
 and-one true b e h = sym e ∙ h
 and-one false b e h = refl
-
--- no bit of 0 is set
-pub no-bit : (w i : ℕ) → w ≡ 0 → bitOf w i ≡ false
-no-bit w i e = rw (e, zero-div (2 ^ i))
-
-xor-digits : (x y : ℕ) → x < 2 → y < 2 → eqb (bitXor x y) 1 ≡ xor (eqb x 1) (eqb y 1)
-unfolding xor
-xor-digits zero zero hx hy = refl
-xor-digits zero (suc zero) hx hy = refl
-xor-digits zero (suc (suc y)) hx hy = absurd (omega arith)
-xor-digits (suc zero) zero hx hy = refl
-xor-digits (suc zero) (suc zero) hx hy = refl
-xor-digits (suc zero) (suc (suc y)) hx hy = absurd (omega arith)
-xor-digits (suc (suc x)) y hx hy = absurd (omega arith)
-
-pub bit-xor : (v w i : ℕ) → bitOf (bitXor v w) i ≡ xor (bitOf v i) (bitOf w i)
-bit-xor v w i =
-    ap (λ (x : ℕ). eqb (x % 2) 1) (xor-shr v w i) ∙ ap (λ (x : ℕ). eqb x 1) (xor-mod (v / 2 ^ i) (w / 2 ^ i) 1)
-    ∙ xor-digits (v / 2 ^ i % 2) (w / 2 ^ i % 2) (mod-lt (v / 2 ^ i) (zero-lt-suc 1)) (mod-lt (w / 2 ^ i) (zero-lt-suc 1))
 
 -- F m is what comes of the effects below m, of n
 module _ {A : Type 0} (n word : ℕ) (F : ℕ → A) where
@@ -67,7 +48,8 @@ module _ {A : Type 0} (n word : ℕ) (F : ℕ → A) where
     is = e;
   }
 
-  passed : Rests → (a b : ℕ) → a ≤ b → b ≤ n → ((j : ℕ) → a ≤ j → j < b → bitOf word j ≡ false) → F b ≡ F a
+  -- effects that are not in the word are passed over
+  pub passed : Rests → (a b : ℕ) → a ≤ b → b ≤ n → ((j : ℕ) → a ≤ j → j < b → bitOf word j ≡ false) → F b ≡ F a
   passed r a zero h k f = ap F (omega arith)
   passed r a (suc b) h k f =
       ⊎-elim (λ e. ap F (sym e)) (λ l. earlier (le-of-suc-le-suc l) (passed r a b (le-of-suc-le-suc l) (omega arith) (λ j u v. f j u (omega arith)))) (eq-or-lt-of-le h)
@@ -81,7 +63,7 @@ module _ {A : Type 0} (n word : ℕ) (F : ℕ → A) where
 
     -- no bit is left
     pub ended : rest ≡ 0 → now ≡ F n
-    ended e = d .is ∙ sym (passed (d .rests) (d .m) n (d .most) (omega arith) (λ j u v. gone j u (no-bit rest j e)))
+    ended e = d .is ∙ sym (passed (d .rests) (d .m) n (d .most) (omega arith) (λ j u v. gone j u (ap (λ (w : ℕ). bitOf w j) e ∙ bit-none j)))
 
     -- the next one
     module _ (more : 0 < rest) where

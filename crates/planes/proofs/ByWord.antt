@@ -1,16 +1,14 @@
 -- The rules by words are the rules, effect by effect: once, over the bit's number.
-use mathlib.Core.Path.{_≡_, refl, ap, ap₂, sym, _∙_, subst}
-use mathlib.Core.Bool.{Bool, true, false, not, _&&_, _||_, false≢true}
+use mathlib.Core.Path.{_≡_, refl, ap, sym}
+use mathlib.Core.Bool.{Bool, true, false, not, _&&_, _||_}
 use Prim.Native.Nat.{ℕ, _-_, _<_, _≤_}
-use lib.Bits.{bitAnd, bitOr}
-use Rattle.bits.specs.Words.{bitOf, wordOf}
+use Rattle.bits.specs.Words.{wordOf}
 use Rattle.bits.proofs.Words.{and-word, or-word, less-word, wordOf-ext}
 use Rattle.rules.specs.declared.EffectState.{EffectState}
 use Rattle.rules.specs.declared.EffectState.the-variants.{Tripped, WaitReset, Ready, WaitStart, Normal, Delayed}
 use Rattle.rules.specs.Signals.{Asks}
 use Rattle.rules.specs.Rules.{same, rule}
 use Rattle.rules.proofs.Answers.{both, allStates, every, every-at, states-at}
-use Rattle.planes.specs.declared.Asked.{Asked}
 use Rattle.planes.specs.declared.Planes.{Planes}
 use Rattle.planes.specs.Table.{askedOf}
 use Rattle.planes.specs.Planes.{planesOf, planesAfter, changedOf, less16, toTripped, toWait, toReady, toStart, toNormal, toDelayed, differ}

@@ -1,6 +1,6 @@
 -- What is due of the effects in Delayed is all that a scan asks for.
 use mathlib.Core.Path.{_≡_, refl, ap, sym, _∙_, subst}
-use mathlib.Core.Bool.{Bool, true, false, cond, not, _&&_}
+use mathlib.Core.Bool.{Bool, true, false, cond, not, _&&_, and-self-left}
 use mathlib.Core.List.{List}
 use Prim.Native.Nat.{ℕ, _+_, _-_, _^_, _<_, _≤_}
 use native.Mathlib.Nat.{add-zero}
@@ -43,10 +43,6 @@ module _ (n delayed : ℕ) (t : ℕ → Bool) where
 
 -- ## A scan asks for no more
 
-and-twice : (a b : Bool) → (a && (a && b)) ≡ (a && b)
-and-twice true b = refl
-and-twice false b = refl
-
 less-twice : (a b : Bool) → (a && not (a && b)) ≡ (a && not b)
 less-twice true b = refl
 less-twice false b = refl
@@ -58,7 +54,7 @@ module _ (n delayed : ℕ) (t : ℕ → Bool) (few : n ≤ 16) (inside : delayed
   and-due : bitAnd delayed (wordOf (λ i. f i && t i) n) ≡ bitAnd delayed (wordOf t n)
   and-due =
       subst (λ (w : ℕ). bitAnd w (wordOf (λ i. f i && t i) n) ≡ bitAnd w (wordOf t n)) (word-bits delayed n inside)
-      (and-word f (λ i. f i && t i) n ∙ wordOf-ext _ _ n (λ i h. and-twice (f i) (t i)) ∙ sym (and-word f t n))
+      (and-word f (λ i. f i && t i) n ∙ wordOf-ext _ _ n (λ i h. and-self-left (f i) (t i)) ∙ sym (and-word f t n))
 
   less-due : less16 delayed (wordOf (λ i. f i && t i) n) ≡ less16 delayed (wordOf t n)
   less-due =

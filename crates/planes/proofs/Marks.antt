@@ -9,6 +9,7 @@ use lib.Dec.{eqb}
 use lib.ListN.{drop, getD, length}
 use Rattle.bits.specs.Lists.{tabulate}
 use Rattle.bits.specs.Words.{wordOf, one}
+use Rattle.effects.specs.Records.{recordLength}
 use Rattle.planes.specs.declared.Asked.{Asked}
 use Rattle.planes.specs.declared.Board.{Board}
 use Rattle.planes.specs.declared.Mark.{Mark}
@@ -19,18 +20,16 @@ use Rattle.planes.specs.Table.{dueIn, timerBy, firstBy, Still, Settled, 
 use Rattle.planes.specs.Board.{boardAt, entriesOf, scanned, later}
 use Rattle.planes.proofs.Due.{after-due}
 use Rattle.planes.proofs.Rest.{settled-after}
+use Rattle.planes.proofs.Step.{table}
 
 -- the records between two places
-twelfth : (a l : ℕ) → (a + 12 * l - a) / 12 ≡ l
+twelfth : (a l : ℕ) → (a + recordLength * l - a) / recordLength ≡ l
 twelfth a l =
-    let e : a + 12 * l - a ≡ l * 12 = omega arith in
-    ap (λ (n : ℕ). n / 12) e ∙ mul-div-cancel l (zero-lt-suc 11)
+    let e : a + recordLength * l - a ≡ l * recordLength = omega arith in
+    ap (λ (n : ℕ). n / recordLength) e ∙ mul-div-cancel l (zero-lt-suc 11)
 
-pub between : (p a l : ℕ) → p ≡ a + 12 * l → l ≤ 16 → (a ≤ p) × (p ≤ a + 192)
+pub between : (p a l : ℕ) → p ≡ a + recordLength * l → l ≤ 16 → (a ≤ p) × (p ≤ a + 192)
 between p a l e h = (omega arith, omega arith)
-
-abbrev table : Planes → List ℕ → List ℕ → Table
-table p t f = record { planes = p; timers = t; firsts = f }
 
 pub within-is : (n : ℕ) (causes delays : List ℕ) (period tripped : ℕ) (w : Asked) (x : Mark) (timers firsts : List ℕ) (due : ℕ) (is : Planes)
     → n ≤ 16 → x .planes .delayed < 2 ^ n → due ≡ wordOf (dueIn timers period (x .planes .delayed)) n → is ≡ planesAfter w due (x .planes)
@@ -55,16 +54,16 @@ module _ (n : ℕ) (causes delays : List ℕ) (period tripped : ℕ) (w : Asked)
   pub entries-are : entries ≡ entriesOf n causes delays period tripped w (boardAt x timers firsts)
   entries-are = rw c (ap (λ (b : Table). entriesTo (x .next) (x .done + 1) (changedOf (x .planes) (b .planes)) (x .planes) (b .planes) (b .firsts) 16) tables)
 
-  pub scanned-is : (at q live : ℕ) → at ≡ x .at + 12 * length entries → q ≡ (x .next + (at - x .at) / 12) % 2 ^ 16 → live ≡ x .live + one (not (eqb ch 0))
+  pub scanned-is : (at q live : ℕ) → at ≡ x .at + recordLength * length entries → q ≡ (x .next + (at - x .at) / recordLength) % 2 ^ 16 → live ≡ x .live + one (not (eqb ch 0))
       → boardAt (record { done = x .done + 1; next = q; at = at; live = live; planes = is }) timers′ firsts′ ≡ scanned n causes delays period tripped w (boardAt x timers firsts)
   unfolding scanned
   scanned-is at q live a s l =
-      let e : q ≡ (x .next + length entries) % 2 ^ 16 = s ∙ ap (λ (m : ℕ). (x .next + (m - x .at) / 12) % 2 ^ 16) a ∙ ap (λ (m : ℕ). (x .next + m) % 2 ^ 16) (twelfth (x .at) (length entries)) in
+      let e : q ≡ (x .next + length entries) % 2 ^ 16 = s ∙ ap (λ (m : ℕ). (x .next + (m - x .at) / recordLength) % 2 ^ 16) a ∙ ap (λ (m : ℕ). (x .next + m) % 2 ^ 16) (twelfth (x .at) (length entries)) in
       let v : live ≡ x .live + one (not (eqb (changedOf (x .planes) is) 0)) = l ∙ ap (λ (m : ℕ). x .live + one (not (eqb m 0))) c in
       λ j. record {
         done = x .done + 1;
         next = (e ∙ ap (λ (k : List (List ℕ)). (x .next + length k) % 2 ^ 16) entries-are) j;
-        at = (a ∙ ap (λ (k : List (List ℕ)). x .at + 12 * length k) entries-are) j;
+        at = (a ∙ ap (λ (k : List (List ℕ)). x .at + recordLength * length k) entries-are) j;
         live = (v ∙ ap (λ (b : Table). x .live + one (not (eqb (changedOf (x .planes) (b .planes)) 0))) tables) j;
         table = tables j;
       }

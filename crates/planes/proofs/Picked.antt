@@ -1,10 +1,9 @@
 -- Laws of picking: one more, and none where the test fails.
-use mathlib.Core.Path.{_≡_, refl, ap, sym, _∙_}
-use mathlib.Core.Bool.{Bool, true, false, cond}
-use mathlib.Core.List.{List, [], _∷_, _++_, append-nil}
-use mathlib.Core.Logic.{⊎-elim}
-use Prim.Native.Nat.{ℕ, zero, suc, _+_, _-_, _≤_, _<_}
-use native.Mathlib.Nat.{add-zero, add-suc, eq-or-lt-of-le, le-of-suc-le-suc, le-refl}
+use mathlib.Core.Path.{_≡_, refl}
+use mathlib.Core.Bool.{Bool, true, false}
+use mathlib.Core.List.{[], _∷_, _++_, append-nil}
+use Prim.Native.Nat.{ℕ, zero, suc, _+_, _≤_}
+use native.Mathlib.Nat.{add-zero, add-suc, le-refl}
 use native.Mathlib.Numerals.{add-one}
 use native.Mathlib.Omega.{arith}
 use lib.ListN.{length, length-append}
@@ -31,17 +30,6 @@ module _ {B : Type 0} (g : ℕ → ℕ → B) (t : ℕ → Bool) where
       go : (b : Bool) → t n ≡ b → length (picked g t n) ≤ n → length (picked g t (n + 1)) ≤ n + 1
       go true e h = rw (picked-yes n e, length-append) (omega arith)
       go false e h = rw (picked-no n e) (omega arith)
-
-  -- picking passes over what fails the test
-  pub picked-skip : (a b : ℕ) → a ≤ b → ((j : ℕ) → a ≤ j → j < b → t j ≡ false) → picked g t b ≡ picked g t a
-  picked-skip a zero h f = ap (picked g t) (omega arith)
-  picked-skip a (suc b) h f = ⊎-elim last (λ k. earlier (le-of-suc-le-suc k) (picked-skip a b (le-of-suc-le-suc k) (λ j u v. f j u (omega arith)))) (eq-or-lt-of-le h)
-    where
-      last : a ≡ suc b → picked g t (suc b) ≡ picked g t a
-      last e = ap (picked g t) (sym e)
-
-      earlier : a ≤ b → picked g t b ≡ picked g t a → picked g t (suc b) ≡ picked g t a
-      earlier k e = ap (picked g t) (sym (add-one b)) ∙ picked-no b (f b k (omega arith)) ∙ e
 
   -- more places, more picked
   pub picked-grows : (a d : ℕ) → length (picked g t a) ≤ length (picked g t (a + d))

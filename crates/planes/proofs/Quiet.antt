@@ -1,9 +1,9 @@
 -- Scans that are not live, by words, are those of the slots.
 use mathlib.Core.Path.{_≡_, refl, ap, ap₂, sym, _∙_}
-use mathlib.Core.Bool.{Bool, true, false, not, cond, _||_}
+use mathlib.Core.Bool.{Bool, true, false, not, cond, _||_, or-assoc, or-false, Bool·not-not}
 use mathlib.Core.List.{List, [], _∷_, _++_}
 use Prim.Native.Nat.{ℕ, zero, suc, _+_, _-_, _*_, _/_, _^_, min, _<_, _≤_}
-use native.Mathlib.Nat.{le-of-suc-le-suc, not-suc-le-zero, mul-le-mul, le-trans, lt-of-lt-of-le, div-mul-le-self, le-div-iff-mul-le}
+use native.Mathlib.Nat.{le-of-suc-le-suc, not-suc-le-zero, le-trans, lt-of-lt-of-le, div-mul-le-self, le-div-iff-mul-le}
 use native.Mathlib.Omega.{arith}
 use lib.Dec.{leb, eqb}
 use lib.Pow.{pow-pos}
@@ -24,7 +24,7 @@ use Rattle.planes.specs.declared.Planes.{Planes}
 use Rattle.planes.specs.Planes.{planesOf, planesAfter, changedOf}
 use Rattle.planes.specs.Table.{tableOf, askedOf, dueAt, lowTo, quietsBy, tableLater, padded}
 use Rattle.planes.proofs.ByWord.{changed-word, planesOf-ext}
-use Rattle.planes.proofs.Low.{lowTo-ext}
+use Rattle.planes.proofs.Low.{lowTo-ext, uncapped}
 use Rattle.planes.proofs.Step.{Sees, planes-step, table-path, padded-at, padded-ext, refilled}
 
 -- ## Some effect below n
@@ -52,21 +52,13 @@ quiets-snoc m [] s (x ∷ xs) h = refl
 quiets-snoc m (r ∷ ss) s [] h = absurd (not-suc-le-zero h)
 quiets-snoc m (r ∷ ss) s (x ∷ xs) h = quiets-snoc (quiet m r x) ss s xs (le-of-suc-le-suc h)
 
-or-assoc : (a b c : Bool) → (a || (b || c)) ≡ ((a || b) || c)
-or-assoc true b c = refl
-or-assoc false b c = refl
-
-or-false : (a : Bool) → (a || false) ≡ a
-or-false true = refl
-or-false false = refl
-
 moved-snoc : (ss : List Signals) (s : Signals) (xs : List Slot) → length ss < length xs
     → anyMoved (ss ++ (s ∷ [])) xs ≡ (anyMoved ss xs || moved s (getD xs (length ss) noSlot))
 moved-snoc [] s [] h = absurd (not-suc-le-zero h)
 moved-snoc [] s (x ∷ xs) h = or-false (moved s x)
 moved-snoc (r ∷ ss) s [] h = absurd (not-suc-le-zero h)
 moved-snoc (r ∷ ss) s (x ∷ xs) h =
-    ap (λ (b : Bool). moved r x || b) (moved-snoc ss s xs (le-of-suc-le-suc h)) ∙ or-assoc (moved r x) (anyMoved ss xs) _
+    ap (λ (b : Bool). moved r x || b) (moved-snoc ss s xs (le-of-suc-le-suc h)) ∙ sym (or-assoc (moved r x) (anyMoved ss xs) _)
 
 advances-at : (k : ℕ) (ss : List Signals) (xs : List Slot) (i : ℕ) (d : Signals) → i < length ss → i < length xs
     → getD (advances k ss xs) i noSlot ≡ advance k (getD ss i d) (getD xs i noSlot)
@@ -128,27 +120,18 @@ module _ (n : ℕ) (few : n ≤ 16) (s : ℕ → Signals) (xs : List Slot) (long
       moved-snoc (tabulate s m) (s m) xs (rw (length-tabulate, long) h)
       ∙ ap₂ (λ (a : Bool) (k : ℕ). a || moved (s m) (getD xs k noSlot)) (any-upto m (omega arith)) (length-tabulate s m)
 
-  twice : (b : Bool) → not (not b) ≡ b
-  twice true = refl
-  twice false = refl
-
   -- the scan is live where some effect changed
   pub live-word : not (eqb (changedOf (planesOf n (λ i. x i .state)) (planesOf n (λ i. next (s i) (x i) .state))) 0) ≡ anyMoved (tabulate s n) xs
-  live-word = rw (changed-word n few, none-set) (twice _ ∙ sym (any-upto n few))
+  live-word = rw (changed-word n few, none-set) (Bool·not-not _ ∙ sym (any-upto n few))
 
   module _ (causes delays : List ℕ) (period tripped : ℕ) (sees : Sees causes delays period tripped s) where
     module _ (m : ℕ) (pos : 0 < period) (short : period ≤ 1000) (most : m ≤ 1000000) where
-      none-yet : min m (4294967294 / period) ≡ m
-      none-yet =
-          let h : m ≤ 4294967294 / period = le-div-iff-mul-le pos .1 (le-trans (mul-le-mul most short) (omega arith)) in
-          omega arith
-
       abbrev before : ℕ → ℕ
       before j = cond (anyTo (λ i. moved (s i) (x i)) j) 0 (min m ((lowTo (λ i. same (x i .state) Delayed) (λ i. x i .timer) j - 1) / period))
 
       to : (j : ℕ) → j ≤ 16 → quiets m (tabulate s j) xs ≡ before j
       unfolding tabulate anyTo lowTo
-      to zero h = sym none-yet
+      to zero h = sym (uncapped m period most pos short)
       to (suc j) h =
           quiets-snoc m (tabulate s j) (s j) xs (rw (length-tabulate, long) h)
           ∙ ap (λ (k : ℕ). quiet (quiets m (tabulate s j) xs) (s j) (getD xs k noSlot)) (length-tabulate s j)

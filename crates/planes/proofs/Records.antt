@@ -12,11 +12,12 @@ use lib.ListN.{length, getD, length-append}
 use lib.Seq.{sets, length-sets}
 use Rattle.bits.specs.Words.{bitOf}
 use Rattle.bits.proofs.Numbers.{sets-append}
+use Rattle.effects.specs.Records.{recordLength, recordOf}
 use Rattle.planes.specs.declared.Planes.{Planes}
 use Rattle.planes.specs.Planes.{codeAt}
 use Rattle.planes.specs.Picked.{picked}
-use Rattle.planes.specs.Table.{entry, entryAt, entriesTo, joined}
-use Rattle.planes.proofs.Bits.{Done, started, ended, below, before-it, is-set, again}
+use Rattle.planes.specs.Table.{entryAt, entriesTo, joined}
+use Rattle.planes.proofs.Bits.{Rests, Done, started, ended, below, before-it, is-set, again}
 use Rattle.planes.proofs.Picked.{picked-none, picked-yes, picked-no, picked-grows}
 
 pub joined-snoc : (ls : List (List ℕ)) (l : List ℕ) → joined (ls ++ (l ∷ [])) ≡ joined ls ++ l
@@ -24,22 +25,27 @@ unfolding joined
 joined-snoc [] l = append-nil l
 joined-snoc (k ∷ ls) l = ap (λ (r : List ℕ). k ++ r) (joined-snoc ls l) ∙ sym (append-assoc k (joined ls) l)
 
-length-entry : (q c : ℕ) (was is : Planes) (firsts : List ℕ) (k i : ℕ) → length (entryAt q c was is firsts k i) ≡ 12
-unfolding entryAt entry
+length-entry : (q c : ℕ) (was is : Planes) (firsts : List ℕ) (k i : ℕ) → length (entryAt q c was is firsts k i) ≡ recordLength
+unfolding entryAt
 length-entry q c was is firsts k i = refl
 
--- entries of twelve bytes each
-pub length-joined : (g : ℕ → ℕ → List ℕ) (t : ℕ → Bool) → ((k i : ℕ) → length (g k i) ≡ 12) → (n : ℕ) → length (joined (picked g t n)) ≡ 12 * length (picked g t n)
+-- the length of records laid one after the other
+pub length-joined : (g : ℕ → ℕ → List ℕ) (t : ℕ → Bool) → ((k i : ℕ) → length (g k i) ≡ recordLength) → (n : ℕ) → length (joined (picked g t n)) ≡ recordLength * length (picked g t n)
 unfolding joined
 length-joined g t h zero = rw (picked-none g t)
 length-joined g t h (suc n) = rw (← add-one n) (go (t n) refl (length-joined g t h n))
   where
-    go : (b : Bool) → t n ≡ b → length (joined (picked g t n)) ≡ 12 * length (picked g t n) → length (joined (picked g t (n + 1))) ≡ 12 * length (picked g t (n + 1))
+    go : (b : Bool) → t n ≡ b → length (joined (picked g t n)) ≡ recordLength * length (picked g t n) → length (joined (picked g t (n + 1))) ≡ recordLength * length (picked g t (n + 1))
     go true e r =
         let P = picked g t n in
         let l = g (length P) n in
         rw (picked-yes g t n e, joined-snoc) (omega (arith, r, length-append (joined P) l, length-append P (l ∷ []), h (length P) n))
     go false e r = rw (picked-no g t n e) r
+
+-- no record is of an effect that is not in the word
+pub entries-rest : (q c ch : ℕ) (was is : Planes) (firsts : List ℕ) → ch < 65536 → Rests 16 ch (entriesTo q c ch was is firsts)
+entries-rest q c ch was is firsts h =
+    record { few = omega arith; inside = h; same = λ j v e. picked-no (entryAt q c was is firsts) (bitOf ch) j e }
 
 -- ## The loop over the set bits
 
@@ -51,7 +57,7 @@ module _ (buf₀ : List ℕ) (at0 q0 number ch : ℕ) (was is : Planes) (firsts 
   pub record Put (buf : List ℕ) (at q rest : ℕ) : Type 0 where
     pub es : List (List ℕ)
     pub done : Done 16 ch entries es rest
-    pub place : at ≡ at0 + 12 * length es
+    pub place : at ≡ at0 + recordLength * length es
     pub seq : q ≡ (q0 + length es) % 2 ^ 16
     pub wrote : buf ≡ sets buf₀ at0 (joined es)
 
@@ -61,8 +67,7 @@ module _ (buf₀ : List ℕ) (at0 q0 number ch : ℕ) (was is : Planes) (firsts 
       record {
         es = [];
         done =
-            started 16 ch entries
-            (record { few = omega arith; inside = k; same = λ j v e. picked-no (entryAt q0 number was is firsts) (bitOf ch) j e })
+            started 16 ch entries (entries-rest q0 number ch was is firsts k)
             (sym (picked-none (entryAt q0 number was is firsts) (bitOf ch)));
         place = omega arith;
         seq = sym (ap (λ (x : ℕ). x % 2 ^ 16) (add-zero q0) ∙ mod-eq-of-lt h);
@@ -100,10 +105,10 @@ module _ (buf₀ : List ℕ) (at0 q0 number ch : ℕ) (was is : Planes) (firsts 
           let e : length (entries (n + 1 + (15 - n))) ≡ length (entries 16) = ap (λ (k : ℕ). length (entries k)) d in
           omega (arith, count, ap length one-more, h, e)
 
-      long : length (joined (p .es)) ≡ 12 * length (p .es)
+      long : length (joined (p .es)) ≡ recordLength * length (p .es)
       long = rw so-far (length-joined (entryAt q0 number was is firsts) (bitOf ch) (length-entry q0 number was is firsts) n)
 
-      turned : Put (sets buf at (entryAt q0 number was is firsts (length (p .es)) n)) (at + 12) ((q + 1) % 2 ^ 16) (bitAnd rest (rest - 1))
+      turned : Put (sets buf at (entryAt q0 number was is firsts (length (p .es)) n)) (at + recordLength) ((q + 1) % 2 ^ 16) (bitAnd rest (rest - 1))
       turned = record {
         es = p .es ++ (entryAt q0 number was is firsts (length (p .es)) n ∷ []);
         done = again 16 ch entries (p .done) more one-more;
@@ -112,11 +117,11 @@ module _ (buf₀ : List ℕ) (at0 q0 number ch : ℕ) (was is : Planes) (firsts 
         wrote = rw (joined-snoc, sets-append, long, ← p .place, ← p .wrote);
       }
 
-      pub roomy : at0 + 12 * length (entries 16) ≤ length buf₀ → at + 12 ≤ length buf
+      pub roomy : at0 + recordLength * length (entries 16) ≤ length buf₀ → at + recordLength ≤ length buf
       roomy h = omega (arith, p .place, room, as-long, h)
 
-      pub put-one : Put (sets buf at (entry q number (n + 1) (codeAt was n) (codeAt is n) (getD firsts n 0))) (at + 12) ((q + 1) % 2 ^ 16) (bitAnd rest (rest - 1))
+      pub put-one : Put (sets buf at (recordOf q number (n + 1) (codeAt was n) (codeAt is n) (getD firsts n 0))) (at + recordLength) ((q + 1) % 2 ^ 16) (bitAnd rest (rest - 1))
       unfolding entryAt
       put-one =
-          subst (λ (k : ℕ). Put (sets buf at (entry k number (n + 1) (codeAt was n) (codeAt is n) (getD firsts n 0))) (at + 12) ((q + 1) % 2 ^ 16) (bitAnd rest (rest - 1)))
+          subst (λ (k : ℕ). Put (sets buf at (recordOf k number (n + 1) (codeAt was n) (codeAt is n) (getD firsts n 0))) (at + recordLength) ((q + 1) % 2 ^ 16) (bitAnd rest (rest - 1)))
           (sym (p .seq)) turned

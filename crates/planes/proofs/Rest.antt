@@ -1,31 +1,26 @@
 -- What rests: the timer of an effect that is not in Delayed and the first-out of one in Normal are 0, so timers change only
 -- where an effect is in Delayed before or after, and first-outs only where one enters or leaves Normal.
 use mathlib.Core.Path.{_≡_, refl, ap, sym, _∙_}
-use mathlib.Core.Bool.{Bool, true, false, cond, _||_, xor, false≢true}
+use mathlib.Core.Bool.{Bool, true, false, cond, xor, false≢true}
 use mathlib.Core.List.{List, _++_, append-assoc}
-use Prim.Native.Nat.{ℕ, zero, suc, _+_, _-_, _*_, _/_, _^_, min, _<_, _≤_}
-use native.Mathlib.Nat.{le-div-iff-mul-le, le-trans, mul-le-mul}
+use Prim.Native.Nat.{ℕ, _+_, _-_, _*_, _^_, _<_, _≤_}
 use native.Mathlib.Numerals.{add-one}
 use native.Mathlib.Omega.{arith}
 use lib.Bits.{bitAnd, bitOr, bitXor, or-lt, xor-lt}
 use lib.Count.{trailingZeros}
-use lib.ListN.{drop, set, getD, length, take-append-drop, length-append, List·getD-append}
+use lib.ListN.{drop, set, getD, length, take-append-drop, length-append}
 use lib.Seq.{drop-cons, getD-at}
 use Rattle.bits.specs.Lists.{tabulate}
 use Rattle.bits.specs.Words.{bitOf, wordOf}
-use Rattle.bits.proofs.Lists.{length-tabulate, tabulate-more, tabulate-ext, tabulate-take, getD-tabulate, fill}
-use Rattle.bits.proofs.Words.{bit-or}
+use Rattle.bits.proofs.Lists.{length-tabulate, tabulate-more, tabulate-ext, tabulate-take, getD-filled, fill, or-none}
+use Rattle.bits.proofs.Words.{bit-or, bit-xor}
 use Rattle.planes.specs.declared.Asked.{Asked}
 use Rattle.planes.specs.declared.Table.{Table}
 use Rattle.planes.specs.Planes.{planesAfter}
-use Rattle.planes.specs.Table.{activeIn, dueAt, timerBy, firstBy, Still, Blank, Settled, tableAfter, lowTo, tableLater}
-use Rattle.planes.proofs.Bits.{Rests, Done, no-bit, bit-xor, again, below, before-it, is-set}
+use Rattle.planes.specs.Table.{activeIn, dueAt, timerBy, firstBy, Still, Blank, Settled, tableAfter, tableLater}
+use Rattle.planes.proofs.Bits.{Rests, Done, again, below, before-it, is-set}
 
 -- ## Filled anew
-
--- what stands at one of the first n
-filled-at : (f : ℕ → ℕ) (n : ℕ) (xs : List ℕ) (i : ℕ) → i < n → getD (tabulate f n ++ drop n xs) i 0 ≡ f i
-filled-at f n xs i k = List·getD-append (tabulate f n) (drop n xs) 0 i (rw length-tabulate k) ∙ getD-tabulate f n i 0 k
 
 pub filled-long : (f : ℕ → ℕ) (n : ℕ) (xs : List ℕ) → n ≤ length (tabulate f n ++ drop n xs)
 filled-long f n xs = omega (arith, length-append (tabulate f n) (drop n xs), length-tabulate f n)
@@ -70,10 +65,6 @@ module _ (n word : ℕ) (f : ℕ → ℕ) (xs : List ℕ) (long : n ≤ length x
 
 -- ## Nothing to change
 
-or-none : (a b : Bool) → (a || b) ≡ false → (a ≡ false) × (b ≡ false)
-or-none true b e = absurd (false≢true (sym e))
-or-none false b e = (refl, e)
-
 pub timers-rest : (n : ℕ) (timers delays : List ℕ) (period was is : ℕ) → n ≤ 16 → was < 2 ^ n → is < 2 ^ n → Still n was timers
     → Rests n (bitOr was is) (λ m. tabulate (timerBy timers delays period was is) m ++ drop m timers)
 timers-rest n timers delays period was is few hw hi still =
@@ -111,32 +102,20 @@ later-rest n k period delayed timers few inside still =
 pub later-none : (n k period : ℕ) (timers : List ℕ) → n ≤ length timers → k ≡ 0 → timers ≡ tabulate (λ i. getD timers i 0 - k * period) n ++ drop n timers
 later-none n k period timers h e = rw e (filled-same _ n timers h (λ i l. omega arith))
 
-no-least : (delayed : ℕ) (timers : List ℕ) → delayed ≡ 0 → (n : ℕ) → lowTo (bitOf delayed) (λ i. getD timers i 0) n ≡ 4294967295
-unfolding lowTo
-no-least delayed timers e zero = refl
-no-least delayed timers e (suc n) = rw (no-bit delayed n e) (no-least delayed timers e n)
-
--- where no effect is in Delayed, no timer is the least: every scan that is left is skipped
-pub none-low : (m period delayed n : ℕ) (timers : List ℕ) → m ≤ 1000000 → 0 < period → period ≤ 1000 → delayed ≡ 0
-    → min m ((lowTo (bitOf delayed) (λ i. getD timers i 0) n - 1) / period) ≡ m
-none-low m period delayed n timers most pos short e =
-    let h : m ≤ 4294967294 / period = le-div-iff-mul-le pos .1 (le-trans (mul-le-mul most short) (omega arith)) in
-    rw (no-least delayed timers e n) (omega arith)
-
 -- ## What a scan and a skip leave rests
 
 still-after : (n : ℕ) (timers delays : List ℕ) (period was is : ℕ) → Still n is (tabulate (timerBy timers delays period was is) n ++ drop n timers)
 still-after n timers delays period was is =
     record {
       long = filled-long _ n timers;
-      none = λ i k e. filled-at _ n timers i k ∙ ap (λ (t : Bool). cond t (cond (bitOf was i) (getD timers i 0 - period) (getD delays i 0)) 0) e;
+      none = λ i k e. getD-filled _ n _ i 0 k ∙ ap (λ (t : Bool). cond t (cond (bitOf was i) (getD timers i 0 - period) (getD delays i 0)) 0) e;
     }
 
 blank-after : (n : ℕ) (firsts causes : List ℕ) (tripped was is : ℕ) → Blank n is (tabulate (firstBy firsts causes tripped was is) n ++ drop n firsts)
 blank-after n firsts causes tripped was is =
     record {
       long = filled-long _ n firsts;
-      none = λ i k e. filled-at _ n firsts i k ∙ ap (λ (t : Bool). cond t 0 (cond (bitOf was i) (activeIn causes tripped i) (getD firsts i 0))) e;
+      none = λ i k e. getD-filled _ n _ i 0 k ∙ ap (λ (t : Bool). cond t 0 (cond (bitOf was i) (activeIn causes tripped i) (getD firsts i 0))) e;
     }
 
 pub settled-after : (n : ℕ) (causes delays : List ℕ) (period tripped : ℕ) (w : Asked) (b : Table) → Settled n (tableAfter n causes delays period tripped w b)
@@ -154,7 +133,7 @@ settled-later k n period b h =
     record {
       still = record {
         long = filled-long _ n (b .timers);
-        none = λ i l e. filled-at _ n (b .timers) i l ∙ omega (arith, h .still .none i l e);
+        none = λ i l e. getD-filled _ n _ i 0 l ∙ omega (arith, h .still .none i l e);
       };
       blank = h .blank;
     }

@@ -2,40 +2,34 @@
 use mathlib.Core.Path.{_≡_, refl, ap, ap₂, sym, _∙_}
 use mathlib.Core.Bool.{Bool, true, false, cond}
 use mathlib.Core.List.{List, [], _∷_, _++_, append-nil, append-assoc}
-use Prim.Native.Nat.{ℕ, zero, suc, _+_, _*_, _/_, _%_, _^_, _<_, _≤_}
-use native.Mathlib.Nat.{le-of-suc-le-suc, not-suc-le-zero, lt-of-lt-of-le, mod-lt, zero-lt-suc, add-zero, add-suc, suc-add, mod-eq-of-lt}
+use Prim.Native.Nat.{ℕ, zero, suc, _+_, _*_, _%_, _^_, _<_, _≤_}
+use native.Mathlib.Nat.{le-of-suc-le-suc, not-suc-le-zero, lt-of-lt-of-le, add-zero, add-suc, suc-add, mod-eq-of-lt}
 use native.Mathlib.Numerals.{add-one}
 use native.Mathlib.Omega.{arith}
-use lib.Dec.{eqb}
 use lib.ListN.{getD, length, length-append}
+use lib.Pow.{pow-mono}
 use Rattle.bits.specs.Lists.{tabulate}
 use Rattle.bits.specs.Words.{bitOf, wordOf, one}
 use Rattle.bits.proofs.Lists.{length-tabulate}
-use Rattle.bits.proofs.Words.{wordOf-lt, bit-wordOf, bit-past}
+use Rattle.bits.proofs.Words.{wordOf-lt, one-wordOf, bit-wordOf, bit-past}
 use Rattle.rules.specs.declared.EffectState.{EffectState}
 use Rattle.rules.specs.declared.EffectState.the-variants.{Tripped, WaitReset, Ready, WaitStart, Normal, Delayed}
 use Rattle.rules.specs.declared.Slot.{Slot}
 use Rattle.rules.specs.Signals.{Signals}
-use Rattle.rules.specs.Rules.{noSlot, code, same, after, next, moved}
+use Rattle.rules.specs.Rules.{noSlot, code, same, next, moved}
 use Rattle.effects.specs.declared.Event.{Event}
-use Rattle.effects.specs.Records.{encode, bytes}
-use Rattle.effects.specs.Scan.{records, seqAfter, only, event, wrapped}
+use Rattle.effects.specs.Records.{recordOf, encode, bytes}
+use Rattle.effects.specs.Scan.{eventsFrom, seqAfter, only, event, wrapped}
 use Rattle.effects.proofs.Records.{bytes-append}
-use Rattle.planes.specs.Planes.{planesOf, oneOf, codeAt}
-use Rattle.planes.specs.Table.{padded, entry, entryAt, entriesTo, joined}
-use Rattle.planes.proofs.Picked.{picked-none, picked-yes, picked-no, picked-skip}
-use Rattle.planes.proofs.Records.{joined-snoc}
+use Rattle.planes.specs.declared.Planes.{Planes}
+use Rattle.planes.specs.Planes.{planesOf, codeAt}
+use Rattle.planes.specs.Table.{padded, entryAt, entriesTo, joined}
+use Rattle.planes.proofs.Bits.{passed}
+use Rattle.planes.proofs.Picked.{picked-none, picked-yes, picked-no}
+use Rattle.planes.proofs.Records.{joined-snoc, entries-rest}
 use Rattle.planes.proofs.Step.{padded-at}
 
 -- ## The number of a state
-
-digit : (x : ℕ) (b : Bool) → x < 2 → eqb x 1 ≡ b → x ≡ one b
-digit zero b h e = ap one e
-digit (suc zero) b h e = ap one e
-digit (suc (suc x)) b h e = absurd (omega arith)
-
-one-word : (t : ℕ → Bool) (n i : ℕ) → i < n → oneOf (wordOf t n) i ≡ one (t i)
-one-word t n i k = digit (oneOf (wordOf t n) i) (t i) (mod-lt (wordOf t n / 2 ^ i) (zero-lt-suc 1)) (bit-wordOf t n i k)
 
 code-sum : (p : EffectState)
     → one (same p WaitReset) + 2 * one (same p Ready) + 3 * one (same p WaitStart) + 4 * one (same p Normal) + 5 * one (same p Delayed) ≡ code p
@@ -46,29 +40,29 @@ code-sum WaitStart = refl
 code-sum Normal = refl
 code-sum Delayed = refl
 
-pub code-word : (n : ℕ) (f : ℕ → EffectState) (i : ℕ) → i < n → codeAt (planesOf n f) i ≡ code (f i)
+code-word : (n : ℕ) (f : ℕ → EffectState) (i : ℕ) → i < n → codeAt (planesOf n f) i ≡ code (f i)
 unfolding codeAt planesOf
 code-word n f i k =
     rw (
-      one-word (λ j. same (f j) WaitReset) n i k,
-      one-word (λ j. same (f j) Ready) n i k,
-      one-word (λ j. same (f j) WaitStart) n i k,
-      one-word (λ j. same (f j) Normal) n i k,
-      one-word (λ j. same (f j) Delayed) n i k,
+      one-wordOf (λ j. same (f j) WaitReset) n i k,
+      one-wordOf (λ j. same (f j) Ready) n i k,
+      one-wordOf (λ j. same (f j) WaitStart) n i k,
+      one-wordOf (λ j. same (f j) Normal) n i k,
+      one-wordOf (λ j. same (f j) Delayed) n i k,
     ) (code-sum (f i))
 
 -- ## The lists' recursions, at their end
 
-records-snoc : (q c i : ℕ) (ss : List Signals) (s : Signals) (xs : List Slot) → length ss < length xs
-    → records q c i (ss ++ (s ∷ [])) xs
-    ≡ records q c i ss xs ++ only (moved s (getD xs (length ss) noSlot)) (event (seqAfter q ss xs) c (i + length ss) s (getD xs (length ss) noSlot))
-records-snoc q c i [] s [] h = absurd (not-suc-le-zero h)
-records-snoc q c i [] s (x ∷ xs) h = rw add-zero (append-nil (only (moved s x) (event q c i s x)))
-records-snoc q c i (r ∷ ss) s [] h = absurd (not-suc-le-zero h)
-records-snoc q c i (r ∷ ss) s (x ∷ xs) h =
-    ap (λ (l : List Event). only (moved r x) (event q c i r x) ++ l) (records-snoc (cond (moved r x) (wrapped q) q) c (suc i) ss s xs (le-of-suc-le-suc h))
-    ∙ sym (append-assoc (only (moved r x) (event q c i r x)) (records (cond (moved r x) (wrapped q) q) c (suc i) ss xs) _)
-    ∙ ap (λ (k : ℕ). only (moved r x) (event q c i r x) ++ records (cond (moved r x) (wrapped q) q) c (suc i) ss xs
+events-snoc : (q c i : ℕ) (ss : List Signals) (s : Signals) (xs : List Slot) → length ss < length xs
+    → eventsFrom q c i (ss ++ (s ∷ [])) xs
+    ≡ eventsFrom q c i ss xs ++ only (moved s (getD xs (length ss) noSlot)) (event (seqAfter q ss xs) c (i + length ss) s (getD xs (length ss) noSlot))
+events-snoc q c i [] s [] h = absurd (not-suc-le-zero h)
+events-snoc q c i [] s (x ∷ xs) h = rw add-zero (append-nil (only (moved s x) (event q c i s x)))
+events-snoc q c i (r ∷ ss) s [] h = absurd (not-suc-le-zero h)
+events-snoc q c i (r ∷ ss) s (x ∷ xs) h =
+    ap (λ (l : List Event). only (moved r x) (event q c i r x) ++ l) (events-snoc (cond (moved r x) (wrapped q) q) c (suc i) ss s xs (le-of-suc-le-suc h))
+    ∙ sym (append-assoc (only (moved r x) (event q c i r x)) (eventsFrom (cond (moved r x) (wrapped q) q) c (suc i) ss xs) _)
+    ∙ ap (λ (k : ℕ). only (moved r x) (event q c i r x) ++ eventsFrom (cond (moved r x) (wrapped q) q) c (suc i) ss xs
     ++ only (moved s (getD xs (length ss) noSlot)) (event (seqAfter (cond (moved r x) (wrapped q) q) ss xs) c k s (getD xs (length ss) noSlot))) (suc-add i (length ss) ∙ sym (add-suc i (length ss)))
 
 seq-snoc : (q : ℕ) (ss : List Signals) (s : Signals) (xs : List Slot) → length ss < length xs
@@ -90,11 +84,20 @@ module _ (size : ℕ) (few : size ≤ 16) (s : ℕ → Signals) (xs : List Slot)
   abbrev ch : ℕ
   ch = wordOf (λ i. moved (s i) (x i)) size
 
+  abbrev was : Planes
+  was = planesOf size (λ i. x i .state)
+
+  abbrev is : Planes
+  is = planesOf size (λ i. y i .state)
+
+  abbrev firsts : List ℕ
+  firsts = padded size (λ i. y i .first)
+
   abbrev entries : ℕ → List (List ℕ)
-  entries n = entriesTo q c ch (planesOf size (λ i. x i .state)) (planesOf size (λ i. y i .state)) (padded size (λ i. y i .first)) n
+  entries n = entriesTo q c ch was is firsts n
 
   abbrev events : ℕ → List Event
-  events n = records q c 1 (tabulate s n) xs
+  events n = eventsFrom q c 1 (tabulate s n) xs
 
   record Same (n : ℕ) : Type 0 where
     count : length (entries n) ≡ length (events n)
@@ -102,7 +105,7 @@ module _ (size : ℕ) (few : size ≤ 16) (s : ℕ → Signals) (xs : List Slot)
     laid : joined (entries n) ≡ bytes (events n)
 
   more : (n : ℕ) → n < size → Same n → Same (suc n)
-  unfolding tabulate entryAt entry encode
+  unfolding tabulate entryAt encode
   more n h r = go (moved (s n) (x n)) refl
     where
       room : length (tabulate s n) < length xs
@@ -113,7 +116,7 @@ module _ (size : ℕ) (few : size ≤ 16) (s : ℕ → Signals) (xs : List Slot)
 
       next-events : events (suc n) ≡ events n ++ only (moved (s n) (x n)) (event (seqAfter q (tabulate s n) xs) c (1 + n) (s n) (x n))
       next-events =
-          records-snoc q c 1 (tabulate s n) (s n) xs room
+          events-snoc q c 1 (tabulate s n) (s n) xs room
           ∙ ap (λ (k : ℕ). events n ++ only (moved (s n) (getD xs k noSlot)) (event (seqAfter q (tabulate s n) xs) c (1 + k) (s n) (getD xs k noSlot))) (length-tabulate s n)
 
       next-number : seqAfter q (tabulate s (suc n)) xs ≡ cond (moved (s n) (x n)) (wrapped (seqAfter q (tabulate s n) xs)) (seqAfter q (tabulate s n) xs)
@@ -132,8 +135,8 @@ module _ (size : ℕ) (few : size ≤ 16) (s : ℕ → Signals) (xs : List Slot)
             ∙ sym (ap bytes ev ∙ bytes-append (events n) _);
       }
         where
-          yes : entries (suc n) ≡ entries n ++ (entryAt q c (planesOf size (λ i. x i .state)) (planesOf size (λ i. y i .state)) (padded size (λ i. y i .first)) (length (entries n)) n ∷ [])
-          yes = ap entries (sym (add-one n)) ∙ picked-yes (entryAt q c (planesOf size (λ i. x i .state)) (planesOf size (λ i. y i .state)) (padded size (λ i. y i .first))) (bitOf ch) n (set-here ∙ e)
+          yes : entries (suc n) ≡ entries n ++ (entryAt q c was is firsts (length (entries n)) n ∷ [])
+          yes = ap entries (sym (add-one n)) ∙ picked-yes (entryAt q c was is firsts) (bitOf ch) n (set-here ∙ e)
 
           ev : events (suc n) ≡ events n ++ (event (seqAfter q (tabulate s n) xs) c (1 + n) (s n) (x n) ∷ [])
           ev = next-events ∙ ap (λ (b : Bool). events n ++ only b (event (seqAfter q (tabulate s n) xs) c (1 + n) (s n) (x n))) e
@@ -141,7 +144,7 @@ module _ (size : ℕ) (few : size ≤ 16) (s : ℕ → Signals) (xs : List Slot)
           turn : (a b : ℕ) → b ≡ a + 1 → seqAfter q (tabulate s n) xs ≡ (q + a) % 2 ^ 16 → wrapped (seqAfter q (tabulate s n) xs) ≡ (q + b) % 2 ^ 16
           turn a b u v = rw (u, v) (omega arith)
 
-          entry-here : entry ((q + length (entries n)) % 2 ^ 16) c (n + 1) (codeAt (planesOf size (λ i. x i .state)) n) (codeAt (planesOf size (λ i. y i .state)) n) (getD (padded size (λ i. y i .first)) n 0)
+          entry-here : recordOf ((q + length (entries n)) % 2 ^ 16) c (n + 1) (codeAt was n) (codeAt is n) (getD firsts n 0)
               ≡ encode (event (seqAfter q (tabulate s n) xs) c (1 + n) (s n) (x n))
           entry-here =
               let k : n + 1 ≡ 1 + n = omega arith in
@@ -155,7 +158,7 @@ module _ (size : ℕ) (few : size ≤ 16) (s : ℕ → Signals) (xs : List Slot)
       }
         where
           no : entries (suc n) ≡ entries n
-          no = ap entries (sym (add-one n)) ∙ picked-no (entryAt q c (planesOf size (λ i. x i .state)) (planesOf size (λ i. y i .state)) (padded size (λ i. y i .first))) (bitOf ch) n (set-here ∙ e)
+          no = ap entries (sym (add-one n)) ∙ picked-no (entryAt q c was is firsts) (bitOf ch) n (set-here ∙ e)
 
           ev : events (suc n) ≡ events n
           ev = next-events ∙ ap (λ (b : Bool). events n ++ only b (event (seqAfter q (tabulate s n) xs) c (1 + n) (s n) (x n))) e ∙ append-nil (events n)
@@ -163,15 +166,16 @@ module _ (size : ℕ) (few : size ≤ 16) (s : ℕ → Signals) (xs : List Slot)
   upto : (n : ℕ) → n ≤ size → Same n
   unfolding tabulate joined
   upto zero h =
-      let e = picked-none (entryAt q c (planesOf size (λ i. x i .state)) (planesOf size (λ i. y i .state)) (padded size (λ i. y i .first))) (bitOf ch) in
+      let e = picked-none (entryAt q c was is firsts) (bitOf ch) in
       record { count = rw e; number = rw e (sym (ap (λ (k : ℕ). k % 2 ^ 16) (add-zero q) ∙ mod-eq-of-lt small)); laid = rw e }
   upto (suc n) h = more n h (upto n (omega arith))
 
   -- the word has no bit past the effects
   all : entries 16 ≡ entries size
   all =
-      picked-skip (entryAt q c (planesOf size (λ i. x i .state)) (planesOf size (λ i. y i .state)) (padded size (λ i. y i .first))) (bitOf ch) size 16 few
-      (λ j u v. bit-past ch size j (wordOf-lt (λ i. moved (s i) (x i)) size) u)
+      let inside = wordOf-lt (λ i. moved (s i) (x i)) size in
+      passed 16 ch entries (entries-rest q c ch was is firsts (lt-of-lt-of-le inside (pow-mono few))) size 16 few (omega arith)
+      (λ j u v. bit-past ch size j inside u)
 
   pub records-word : (length (entries 16) ≡ length (events size)) × (joined (entries 16) ≡ bytes (events size)) × (seqAfter q (tabulate s size) xs ≡ (q + length (entries 16)) % 2 ^ 16)
   records-word = let r = upto size (omega arith) in rw all (r .count, r .laid, r .number)

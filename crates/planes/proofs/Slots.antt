@@ -1,13 +1,12 @@
 -- Slots by words, and back.
-use mathlib.Core.Path.{_≡_, refl, ap, ap₂, sym, _∙_, subst}
-use mathlib.Core.Bool.{Bool, cond}
-use mathlib.Core.List.{List, [], _∷_, _++_}
+use mathlib.Core.Path.{_≡_, refl, ap₂, sym, _∙_, subst}
+use mathlib.Core.Bool.{cond}
+use mathlib.Core.List.{List, _++_}
 use Prim.Native.Nat.{ℕ, _-_, _<_, _≤_}
 use native.Mathlib.Omega.{arith}
 use lib.ListN.{drop, getD, length, replicate, take, take-append-drop, length-append, length-drop, length-replicate}
 use lib.Seq.{ext-getD, length-take-le, getD-take}
 use Rattle.bits.specs.Lists.{tabulate}
-use Rattle.bits.specs.Words.{bitOf, wordOf}
 use Rattle.bits.proofs.Lists.{length-tabulate, getD-tabulate}
 use Rattle.bits.proofs.Words.{bit-wordOf}
 use Rattle.rules.specs.declared.EffectState.{EffectState}
@@ -16,7 +15,7 @@ use Rattle.rules.specs.declared.Slot.{Slot}
 use Rattle.rules.specs.Rules.{noSlot, same}
 use Rattle.planes.specs.declared.Table.{Table}
 use Rattle.planes.specs.Planes.{planesOf, stateAt}
-use Rattle.planes.specs.Table.{tableOf, slotAt, slotsOf, padded}
+use Rattle.planes.specs.Table.{tableOf, slotAt, slotsOf}
 use Rattle.planes.proofs.Step.{padded-at}
 
 named : (p : EffectState)

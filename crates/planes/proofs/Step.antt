@@ -1,16 +1,14 @@
 -- A scan by words is the scan of the slots.
 use mathlib.Core.Path.{_≡_, refl, ap, ap₂, sym, _∙_}
-use mathlib.Core.Bool.{Bool}
 use mathlib.Core.List.{List, _++_}
-use Prim.Native.Nat.{ℕ, _-_, _*_, _<_, _≤_}
+use Prim.Native.Nat.{ℕ, _-_, _<_, _≤_}
 use native.Mathlib.Nat.{lt-of-lt-of-le}
-use native.Mathlib.Omega.{arith}
 use lib.Dec.{leb}
-use lib.ListN.{drop, getD, length, replicate, take-append-drop, List·getD-append}
+use lib.ListN.{drop, getD, length, replicate}
 use lib.Seq.{drop-at}
 use Rattle.bits.specs.Lists.{tabulate}
-use Rattle.bits.specs.Words.{bitOf, wordOf}
-use Rattle.bits.proofs.Lists.{length-tabulate, tabulate-ext, tabulate-take, getD-tabulate}
+use Rattle.bits.specs.Words.{wordOf}
+use Rattle.bits.proofs.Lists.{length-tabulate, tabulate-ext, getD-tabulate, getD-filled}
 use Rattle.bits.proofs.Words.{bit-wordOf, wordOf-ext}
 use Rattle.rules.specs.declared.EffectState.the-variants.{Normal, Delayed}
 use Rattle.rules.specs.declared.Slot.{Slot}
@@ -21,17 +19,17 @@ use Rattle.effects.proofs.Laws.{step-at}
 use Rattle.planes.specs.declared.Planes.{Planes}
 use Rattle.planes.specs.declared.Table.{Table}
 use Rattle.planes.specs.Planes.{planesOf, planesAfter}
-use Rattle.planes.specs.Table.{activeIn, dueAt, timerBy, firstBy, tableAfter, tableLater, padded, tableOf, askedOf}
+use Rattle.planes.specs.Table.{activeIn, dueAt, timerBy, firstBy, tableAfter, padded, tableOf, askedOf}
 use Rattle.planes.proofs.ByWord.{by-word, planesOf-ext}
 
 -- ## Arrays of which the first n matter
 
 -- what stands at one of the first n
 pub padded-at : (n : ℕ) (f : ℕ → ℕ) (i : ℕ) → i < n → getD (padded n f) i 0 ≡ f i
-padded-at n f i k = List·getD-append (tabulate f n) (drop n (replicate 16 0)) 0 i (rw length-tabulate k) ∙ getD-tabulate f n i 0 k
+padded-at n f i k = getD-filled f n _ i 0 k
 
 -- and past them
-pub padded-rest : (n : ℕ) (f : ℕ → ℕ) → drop n (padded n f) ≡ drop n (replicate 16 0)
+padded-rest : (n : ℕ) (f : ℕ → ℕ) → drop n (padded n f) ≡ drop n (replicate 16 0)
 padded-rest n f = drop-at (tabulate f n) (drop n (replicate 16 0)) n (length-tabulate f n)
 
 -- one that is filled anew
@@ -43,7 +41,7 @@ padded-ext n f g e = ap (λ (a : List ℕ). a ++ drop n (replicate 16 0)) (tabul
 
 -- ## A table by its parts
 
-abbrev table : Planes → List ℕ → List ℕ → Table
+abbrev pub table : Planes → List ℕ → List ℕ → Table
 table p t f = record { planes = p; timers = t; firsts = f }
 
 pub table-path : {p p′ : Planes} {t t′ f f′ : List ℕ} → p ≡ p′ → t ≡ t′ → f ≡ f′ → table p t f ≡ table p′ t′ f′

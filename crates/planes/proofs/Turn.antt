@@ -1,33 +1,32 @@
 -- The loop over rounds by words: a scan, a skip and a turn of it are those of the slots.
-use mathlib.Core.Path.{_≡_, refl, ap, ap₂, sym, _∙_, subst}
+use mathlib.Core.Path.{_≡_, refl, ap, sym, _∙_}
 use mathlib.Core.Bool.{Bool, true, false, not, cond}
-use mathlib.Core.List.{List, [], _∷_, _++_, map}
+use mathlib.Core.List.{List, [], _∷_}
 use Prim.Native.Nat.{ℕ, zero, suc, _+_, _-_, _*_, _%_, _^_, _<_, _≤_}
 use native.Mathlib.Nat.{mod-lt, zero-lt-suc}
 use native.Mathlib.Omega.{arith}
 use lib.Dec.{eqb}
-use lib.ListN.{getD, length}
+use lib.ListN.{getD, length, length-append}
 use lib.Seq.{sets, length-sets}
 use Rattle.bits.specs.Lists.{tabulate}
-use Rattle.bits.specs.Words.{bitOf, wordOf, one}
+use Rattle.bits.specs.Words.{wordOf, one}
 use Rattle.bits.proofs.Lists.{length-tabulate, map-tabulate}
 use Rattle.bits.proofs.Words.{wordOf-lt}
 use Rattle.rules.specs.declared.Slot.{Slot}
 use Rattle.rules.specs.Signals.{Signals}
 use Rattle.rules.specs.Rules.{noSlot, asks, moved, next}
-use Rattle.effects.specs.declared.Event.{Event}
-use Rattle.effects.specs.declared.Progress.{Progress}
-use Rattle.effects.specs.Records.{bytes}
-use Rattle.effects.specs.Run.{scanned as scannedRun}
-use Rattle.effects.specs.Scan.{wrapped, steps, anyMoved, records, seqAfter}
+use Rattle.effects.specs.Records.{recordLength, bytes}
+use Rattle.effects.specs.Scan.{wrapped, anyMoved, seqAfter}
 use Rattle.effects.proofs.Laws.{length-steps}
-use Rattle.rounds.specs.Steps.{Run, clear, held, progressOf, start}
-use Rattle.rounds.specs.Stroke.{Timed, quiets, advances, skipped}
+use Rattle.rounds.specs.Steps.{Run, scan, clear, held}
+use Rattle.rounds.specs.Stroke.{quiets, advances, skip}
+use Rattle.rounds.proofs.Effects.{timed-tabulate}
+use Rattle.rounds.proofs.Held.{due}
 use Rattle.planes.specs.declared.Asked.{Asked}
 use Rattle.planes.specs.declared.Board.{Board}
 use Rattle.planes.specs.declared.Table.{Table}
 use Rattle.planes.specs.Planes.{planesOf, changedOf}
-use Rattle.planes.specs.Table.{Settled, Within, tableOf, tableAfter, tableLater, askedOf, quietsBy, slotsOf, padded, joined, entriesTo}
+use Rattle.planes.specs.Table.{Settled, Within, tableOf, tableAfter, askedOf, quietsBy, slotsOf, padded, joined, entriesTo}
 use Rattle.planes.specs.Board.{entriesOf, scanned, later, unset, signalsBy, signalsIn, runOf, Right, boardOf}
 use Rattle.planes.proofs.ByWord.{changed-word}
 use Rattle.planes.proofs.Step.{Sees, table-step, table-middle}
@@ -76,12 +75,12 @@ board-path : {d q q′ a a′ l l′ : ℕ} {t t′ : Table} → q ≡ q′ → 
 board-path {d} e f g h = λ i. board d (e i) (f i) (g i) (h i)
 
 module _ (n : ℕ) (few : n ≤ 16) (causes delays : List ℕ) (period tripped : ℕ) (s : ℕ → Signals) (sees : Sees causes delays period tripped s)
-    (p : Progress) (long : length (p .slots) ≡ 16) where
+    (r : Run) (long : length (r .slots) ≡ 16) where
   abbrev T : List Signals
   T = tabulate s n
 
   abbrev xs : List Slot
-  xs = p .slots
+  xs = r .slots
 
   abbrev y : ℕ → Slot
   y i = next (s i) (getD xs i noSlot)
@@ -89,89 +88,72 @@ module _ (n : ℕ) (few : n ≤ 16) (causes delays : List ℕ) (period tripped :
   abbrev w : Asked
   w = askedOf n (λ i. asks (s i))
 
-  abbrev rs : List Event
-  rs = records (p .next) (p .done + 1) 1 T xs
-
   middle : tableAfter n causes delays period tripped w (tableOf n xs)
       ≡ record { planes = planesOf n (λ i. y i .state); timers = padded n (λ i. y i .timer); firsts = padded n (λ i. y i .first) }
   middle = table-middle n few causes delays period tripped s sees xs long
 
-  entries-middle : entriesOf n causes delays period tripped w (boardOf n p)
-      ≡ entriesTo (p .next) (p .done + 1) (wordOf (λ i. moved (s i) (getD xs i noSlot)) n) (planesOf n (λ i. getD xs i noSlot .state)) (planesOf n (λ i. y i .state)) (padded n (λ i. y i .first)) 16
+  entries-middle : entriesOf n causes delays period tripped w (boardOf n r)
+      ≡ entriesTo (r .next) (r .done + 1) (wordOf (λ i. moved (s i) (getD xs i noSlot)) n) (planesOf n (λ i. getD xs i noSlot .state)) (planesOf n (λ i. y i .state)) (padded n (λ i. y i .first)) 16
   unfolding tableOf
   entries-middle = rw (middle, changed-word n few)
 
-  module _ (small : p .next < 65536) where
-    pub laid-word : joined (entriesOf n causes delays period tripped w (boardOf n p)) ≡ bytes rs
-    laid-word = ap joined entries-middle ∙ records-word n few s xs long (p .next) (p .done + 1) small .1
+  module _ (small : r .next < 65536) where
+    pub laid-word : joined (entriesOf n causes delays period tripped w (boardOf n r)) ≡ bytes (due T r)
+    laid-word = ap joined entries-middle ∙ records-word n few s xs long (r .next) (r .done + 1) small .1
 
-    pub count-word : length (entriesOf n causes delays period tripped w (boardOf n p)) ≡ length rs
-    count-word = ap length entries-middle ∙ records-word n few s xs long (p .next) (p .done + 1) small .0
+    pub count-word : length (entriesOf n causes delays period tripped w (boardOf n r)) ≡ length (due T r)
+    count-word = ap length entries-middle ∙ records-word n few s xs long (r .next) (r .done + 1) small .0
 
-    seq-word : (p .next + length (entriesOf n causes delays period tripped w (boardOf n p))) % 2 ^ 16 ≡ seqAfter (p .next) T xs
-    seq-word = ap (λ (l : List (List ℕ)). (p .next + length l) % 2 ^ 16) entries-middle ∙ sym (records-word n few s xs long (p .next) (p .done + 1) small .2)
+    seq-word : (r .next + length (entriesOf n causes delays period tripped w (boardOf n r))) % 2 ^ 16 ≡ seqAfter (r .next) T xs
+    seq-word = ap (λ (l : List (List ℕ)). (r .next + length l) % 2 ^ 16) entries-middle ∙ sym (records-word n few s xs long (r .next) (r .done + 1) small .2)
 
     live-here : not (eqb (changedOf (tableOf n xs .planes) (tableAfter n causes delays period tripped w (tableOf n xs) .planes)) 0) ≡ anyMoved T xs
     unfolding tableOf
     live-here = ap (λ (b : Table). not (eqb (changedOf (planesOf n (λ i. getD xs i noSlot .state)) (b .planes)) 0)) middle ∙ live-word n few s xs long
 
-    pub scan-word : scanned n causes delays period tripped w (boardOf n p) ≡ boardOf n (scannedRun T p)
+    pub scan-word : scanned n causes delays period tripped w (boardOf n r) ≡ boardOf n (scan T r)
     unfolding scanned
     scan-word =
-        board-path seq-word (ap (λ (l : ℕ). p .at + 12 * l) count-word) (ap (λ (b : Bool). p .live + one b) live-here)
+        board-path seq-word (omega (arith, count-word, length-append (r .events) (due T r))) (ap (λ (b : Bool). r .live + one b) live-here)
         (table-step n few causes delays period tripped s sees xs long)
 
-  pub skip-word : (k : ℕ) → later k n period (boardOf n p) ≡ boardOf n (skipped k T p)
+  pub skip-word : (k : ℕ) → later k n period (boardOf n r) ≡ boardOf n (skip k T r)
   unfolding later
   skip-word k = board-path refl refl refl (later-word n few s xs long causes delays period tripped sees k)
 
 -- the words show no other effects
-within-shown : (n : ℕ) (p : Progress) → Within n (boardOf n p .table .planes)
+within-shown : (n : ℕ) (r : Run) → Within n (boardOf n r .table .planes)
 unfolding tableOf planesOf
-within-shown n p = (wordOf-lt _ n, wordOf-lt _ n)
+within-shown n r = (wordOf-lt _ n, wordOf-lt _ n)
 
 -- ## The loop
 
-timed-snoc : (ss : List Signals) (s : Signals) → Timed ss → (0 < s .period) × (s .period ≤ 1000) → Timed (ss ++ (s ∷ []))
-timed-snoc [] s h e = (e .0, e .1, tt)
-timed-snoc (r ∷ ss) s h e = (h .0, h .1, timed-snoc ss s (h .2) e)
-
-timed-all : (period : ℕ) → 0 < period → period ≤ 1000 → (s : ℕ → Signals) → ((i : ℕ) → s i .period ≡ period) → (n : ℕ) → Timed (tabulate s n)
-unfolding tabulate
-timed-all period pos short s e zero = tt
-timed-all period pos short s e (suc n) = timed-snoc (tabulate s n) (s n) (timed-all period pos short s e n) (rw (e n) pos, rw (e n) short)
-
 module _ (n : ℕ) (causes delays : List ℕ) (period tripped : ℕ) (hold : ℕ) (w₀ : Asked) (x₀ : Board) (buf₀ : List ℕ) where
-  abbrev ss₀ : List Signals
-  ss₀ = signalsIn n causes delays period tripped w₀
-
-  abbrev Going-here : List Signals → Progress → List ℕ → ℕ → ℕ → Type 0
-  Going-here ss p buf left fuel = Going hold ss₀ (x₀ .done) (x₀ .next) (slotsOf n (x₀ .table)) buf₀ ss p buf left fuel
+  -- what the whole run comes to
+  abbrev pub whole : Run
+  whole = held (signalsIn n causes delays period tripped w₀) hold (runOf n x₀)
 
   -- at the loop's head: the words are those of signals and slots of which the loop over lists holds
   pub record Kept (w : Asked) (x : Board) (buf : List ℕ) (left fuel : ℕ) : Type 0 where
     pub s : ℕ → Signals
-    pub p : Progress
+    pub r : Run
     pub sees : Sees causes delays period tripped s
-    pub long : length (p .slots) ≡ 16
-    pub small : p .next < 65536
+    pub long : length (r .slots) ≡ 16
+    pub small : r .next < 65536
     pub asked : w ≡ askedOf n (λ i. asks (s i))
-    pub shown : x ≡ boardOf n p
+    pub shown : x ≡ boardOf n r
     pub settled : Settled n (x .table)
-    pub going : Going-here (tabulate s n) p buf left fuel
+    pub going : Going whole buf₀ (tabulate s n) r buf left fuel
 
 module _ (n : ℕ) (few : n ≤ 16) (causes delays : List ℕ) (period tripped : ℕ) (pos : 0 < period) (short : period ≤ 1000) (hold : ℕ) (w₀ : Asked) (x₀ : Board) (buf₀ : List ℕ) where
-  abbrev first : List Signals
-  first = ss₀ n causes delays period tripped hold w₀ x₀ buf₀
-
-  abbrev Going-now : List Signals → Progress → List ℕ → ℕ → ℕ → Type 0
-  Going-now = Going-here n causes delays period tripped hold w₀ x₀ buf₀
+  abbrev all : Run
+  all = whole n causes delays period tripped hold w₀ x₀ buf₀
 
   abbrev Kept-now : Asked → Board → List ℕ → ℕ → ℕ → Type 0
   Kept-now = Kept n causes delays period tripped hold w₀ x₀ buf₀
 
-  module _ (s : ℕ → Signals) (sees : Sees causes delays period tripped s) (p : Progress) (long : length (p .slots) ≡ 16) (small : p .next < 65536)
-      {buf : List ℕ} {left fuel : ℕ} (g : Going-now (tabulate s n) p buf left fuel) (more : 0 < left) where
+  module _ (s : ℕ → Signals) (sees : Sees causes delays period tripped s) (r : Run) (long : length (r .slots) ≡ 16) (small : r .next < 65536)
+      {buf : List ℕ} {left fuel : ℕ} (g : Going all buf₀ (tabulate s n) r buf left fuel) (more : 0 < left) where
     abbrev S : List Signals
     S = tabulate s n
 
@@ -181,11 +163,11 @@ module _ (n : ℕ) (few : n ≤ 16) (causes delays : List ℕ) (period tripped :
     abbrev W : Asked
     W = askedOf n (λ i. asks (s i))
 
-    abbrev q : Progress
-    q = scannedRun S p
+    abbrev q : Run
+    q = scan S r
 
     long-q : length (q .slots) ≡ 16
-    long-q = length-steps S (p .slots) ∙ long
+    long-q = length-steps S (r .slots) ∙ long
 
     abbrev j : ℕ
     j = quiets (left - 1) C (q .slots)
@@ -193,43 +175,44 @@ module _ (n : ℕ) (few : n ≤ 16) (causes delays : List ℕ) (period tripped :
     quiet-here : quietsBy (left - 1) n period (askedOf n (λ i. asks (clear (s i)))) (tableOf n (q .slots) .planes) (tableOf n (q .slots) .timers) ≡ j
     quiet-here = quiets-word n few (λ i. clear (s i)) (q .slots) long-q causes delays period tripped (sees-clear causes delays period tripped s sees) (left - 1) pos short (omega (arith, g .few))
 
-    going-then : Going-now C (skipped j C q) (sets buf (p .at) (bytes (records (p .next) (p .done + 1) 1 S (p .slots)))) (left - 1 - j) (fuel - 1)
-    going-then = rw (map-tabulate clear s n) at (turn hold first (x₀ .done) (x₀ .next) (slotsOf n (x₀ .table)) buf₀ g more)
+    going-then : Going all buf₀ C (skip j C q) (sets buf (recordLength * length (r .events)) (bytes (due S r))) (left - 1 - j) (fuel - 1)
+    going-then = rw (map-tabulate clear s n) at (turn all buf₀ g more)
 
     -- the board after the scan, and the scans that it skips
     abbrev then : Board
-    then = scanned n causes delays period tripped W (boardOf n p)
+    then = scanned n causes delays period tripped W (boardOf n r)
 
     abbrev skips : ℕ
     skips = quietsBy (left - 1) n period (unset W) (then .table .planes) (then .table .timers)
 
     settled-then : Settled n (later skips n period then .table)
     unfolding later scanned
-    settled-then = settled-later skips n period (then .table) (settled-after n causes delays period tripped W (tableOf n (p .slots)))
+    settled-then = settled-later skips n period (then .table) (settled-after n causes delays period tripped W (tableOf n (r .slots)))
 
-    kept-then : Kept-now (unset W) (later skips n period then) (sets buf (p .at) (joined (entriesOf n causes delays period tripped W (boardOf n p)))) (left - 1 - skips) (fuel - 1)
+    kept-then : Kept-now (unset W) (later skips n period then) (sets buf (recordLength * length (r .events)) (joined (entriesOf n causes delays period tripped W (boardOf n r)))) (left - 1 - skips) (fuel - 1)
     kept-then =
-        rw (laid-word n few causes delays period tripped s sees p long small, scan-word n few causes delays period tripped s sees p long small, unset-word n s, quiet-here)
+        rw (laid-word n few causes delays period tripped s sees r long small, scan-word n few causes delays period tripped s sees r long small, unset-word n s, quiet-here)
         (record {
-          settled = rw (scan-word n few causes delays period tripped s sees p long small, unset-word n s, quiet-here) at settled-then;
+          settled = rw (scan-word n few causes delays period tripped s sees r long small, unset-word n s, quiet-here) at settled-then;
           s = λ i. clear (s i);
-          p = skipped j C q;
+          r = skip j C q;
           sees = sees-clear causes delays period tripped s sees;
           long = length-advances j C (q .slots) ∙ long-q;
-          small = seq-lt (p .next) S (p .slots) small;
+          small = seq-lt (r .next) S (r .slots) small;
           asked = refl;
           shown = skip-word n few causes delays period tripped (λ i. clear (s i)) (sees-clear causes delays period tripped s sees) q long-q j;
           going = going-then;
         })
 
-    fits-then : 12 * length (held first hold (runOf n x₀) .events) ≤ length buf₀ → p .at + 12 * length (entriesOf n causes delays period tripped W (boardOf n p)) ≤ length buf
+    fits-then : recordLength * length (all .events) ≤ length buf₀
+        → recordLength * length (r .events) + recordLength * length (entriesOf n causes delays period tripped W (boardOf n r)) ≤ length buf
     fits-then v =
-        rw (count-word n few causes delays period tripped s sees p long small)
-        (fit hold first (x₀ .done) (x₀ .next) (slotsOf n (x₀ .table)) buf₀ g more v)
+        rw (count-word n few causes delays period tripped s sees r long small)
+        (fit all buf₀ g more v)
 
   module _ {w : Asked} {x : Board} {buf : List ℕ} {left fuel : ℕ} (h : Kept-now w x buf left fuel) where
     pub as-long : length buf ≡ length buf₀
-    as-long = ap length (h .going .laid) ∙ length-sets buf₀ 0 (bytes (h .going .events))
+    as-long = ap length (h .going .laid) ∙ length-sets buf₀ 0 (bytes (h .r .events))
 
     pub done-fits : x .done + left ≤ 1000000000
     done-fits = rw (h .shown) (h .going .room)
@@ -239,28 +222,28 @@ module _ (n : ℕ) (few : n ≤ 16) (causes delays : List ℕ) (period tripped :
 
     -- before a scan and after it
     pub within : Within n (x .table .planes)
-    within = rw (h .shown) (within-shown n (h .p))
+    within = rw (h .shown) (within-shown n (h .r))
 
     pub within-then : Within n (scanned n causes delays period tripped w x .table .planes)
     within-then =
-        rw (h .shown, h .asked, scan-word n few causes delays period tripped (h .s) (h .sees) (h .p) (h .long) (h .small))
-        (within-shown n (scannedRun (tabulate (h .s) n) (h .p)))
+        rw (h .shown, h .asked, scan-word n few causes delays period tripped (h .s) (h .sees) (h .r) (h .long) (h .small))
+        (within-shown n (scan (tabulate (h .s) n) (h .r)))
 
     module _ (more : 0 < left) where
-      pub fits : 12 * length (held first hold (runOf n x₀) .events) ≤ length buf₀ → x .at + 12 * length (entriesOf n causes delays period tripped w x) ≤ length buf
-      fits v = rw (h .shown, h .asked) (fits-then (h .s) (h .sees) (h .p) (h .long) (h .small) (h .going) more v)
+      pub fits : recordLength * length (all .events) ≤ length buf₀ → x .at + recordLength * length (entriesOf n causes delays period tripped w x) ≤ length buf
+      fits v = rw (h .shown, h .asked) (fits-then (h .s) (h .sees) (h .r) (h .long) (h .small) (h .going) more v)
 
       -- a turn of the loop, by what the calls in it ensure
       pub turned : {y z : Board} {buf′ : List ℕ} {v : Asked} {k : ℕ}
           → y ≡ scanned n causes delays period tripped w x → buf′ ≡ sets buf (x .at) (joined (entriesOf n causes delays period tripped w x)) → v ≡ unset w
           → k ≡ quietsBy (left - 1) n period v (y .table .planes) (y .table .timers) → z ≡ later k n period y
           → Kept-now v z buf′ (left - 1 - k) (fuel - 1)
-      turned ey eb ev ek ez = rw (ez, ek, ev, eb, ey, h .shown, h .asked) (kept-then (h .s) (h .sees) (h .p) (h .long) (h .small) (h .going) more)
+      turned ey eb ev ek ez = rw (ez, ek, ev, eb, ey, h .shown, h .asked) (kept-then (h .s) (h .sees) (h .r) (h .long) (h .small) (h .going) more)
 
-    pub ended : left ≡ 0 → (x ≡ boardOf n (progressOf (held first hold (runOf n x₀)))) × (buf ≡ sets buf₀ 0 (bytes (held first hold (runOf n x₀) .events)))
+    pub ended : left ≡ 0 → (x ≡ boardOf n all) × (buf ≡ sets buf₀ 0 (bytes (all .events)))
     ended e =
-        let f = ends hold first (x₀ .done) (x₀ .next) (slotsOf n (x₀ .table)) buf₀ (h .going) e in
-        (h .shown ∙ ap (boardOf n) (f .0), f .1)
+        let f = ends all buf₀ (h .going) e in
+        (h .shown ∙ ap (boardOf n) f, h .going .laid ∙ ap (λ (r : Run). sets buf₀ 0 (bytes (r .events))) f)
 
 -- the run that starts at a board
 abbrev pub fresh : Board → Board
@@ -271,17 +254,17 @@ pub starts : (n : ℕ) (few : n ≤ 16) (causes delays : List ℕ) (period tripp
     → Right n causes delays period tripped w x → x .next < 65536 → hold ≤ 1000000 → x .done + hold ≤ 1000000000 → 2 * n < fuel
     → Kept n causes delays period tripped hold w (fresh x) buf w (fresh x) buf hold fuel
 unfolding signalsBy
-starts n few causes delays period tripped pos short hold w x buf fuel r small h room f =
+starts n few causes delays period tripped pos short hold w x buf fuel right small h room f =
     record {
       s = signalsBy causes delays period tripped w;
-      p = record { done = x .done; next = x .next; slots = slotsOf n (x .table); at = 0; live = 0 };
+      r = runOf n x;
       sees = record { active = λ i. refl; delay = λ i. refl; time = λ i. refl };
       long = length-slots n few (x .table);
       small = small;
-      asked = r .asked;
-      shown = board-path refl refl refl (r .table .slots);
-      settled = r .table .settled;
+      asked = right .asked;
+      shown = board-path refl refl refl (right .table .slots);
+      settled = right .table .settled;
       going =
           begins hold (signalsIn n causes delays period tripped w) (x .done) (x .next) (slotsOf n (x .table)) buf fuel
-          (timed-all period pos short (signalsBy causes delays period tripped w) (λ i. refl) n) h room (rw length-tabulate f);
+          (timed-tabulate (signalsBy causes delays period tripped w) n (λ i. (pos, short))) h room (rw length-tabulate f);
     }

@@ -9,7 +9,7 @@ use Rattle.bits.specs.Lists.{tabulate}
 use Rattle.bits.specs.Words.{bitOf, one}
 use Rattle.rules.specs.Signals.{Signals}
 use Rattle.rules.specs.Rules.{asks}
-use Rattle.effects.specs.declared.Progress.{Progress}
+use Rattle.effects.specs.Records.{recordLength}
 use Rattle.rounds.specs.Steps.{Run, start}
 use Rattle.planes.specs.declared.Asked.{Asked}
 use Rattle.planes.specs.declared.Board.{Board}
@@ -32,7 +32,7 @@ scanned n causes delays period tripped w x =
     record {
       done = x .done + 1;
       next = (x .next + length es) % 2 ^ 16;
-      at = x .at + 12 * length es;
+      at = x .at + recordLength * length es;
       live = x .live + one (not (eqb (changedOf (x .table .planes) (y .planes)) 0));
       table = y;
     }
@@ -42,7 +42,7 @@ unfoldable pub later : (k n period : ℕ) → Board → Board
 later k n period x =
     record { done = x .done + k; next = x .next; at = x .at; live = x .live; table = tableLater k n period (x .table) }
 
--- what is asked in the scans after the first
+-- what is asked in the scans after the first: the reset counts in the first scan and is zero afterwards
 abbrev pub unset : Asked → Asked
 unset w =
     record {
@@ -106,6 +106,7 @@ pub record Right (n : ℕ) (causes delays : List ℕ) (period tripped : ℕ) (w 
   pub asked : w ≡ askedOf n (λ i. asks (signalsBy causes delays period tripped w i))
   pub table : Shown n (x .table)
 
--- the board of a run
-abbrev pub boardOf : ℕ → Progress → Board
-boardOf n p = record { done = p .done; next = p .next; at = p .at; live = p .live; table = tableOf n (p .slots) }
+-- the board of a run: its place is after the records of its events
+abbrev pub boardOf : ℕ → Run → Board
+boardOf n r =
+    record { done = r .done; next = r .next; at = recordLength * length (r .events); live = r .live; table = tableOf n (r .slots) }

@@ -1,6 +1,6 @@
 -- The states of all effects as six words, one bit an effect, and the rules on them. No entry point's contract cites this page.
 use Prim.Native.Nat.{ℕ, _+_, _-_, _*_, _/_, _%_, _^_}
-use mathlib.Core.Bool.{Bool, cond}
+use mathlib.Core.Bool.{cond}
 use lib.Bits.{bitAnd, bitOr}
 use Rattle.bits.specs.Words.{bitOf, wordOf}
 use Rattle.rules.specs.declared.EffectState.{EffectState}

@@ -6,12 +6,12 @@ use mathlib.Core.List.{List, [], _∷_, _++_}
 use lib.Bits.{bitAnd}
 use lib.Dec.{leb, ltb, eqb}
 use lib.ListN.{drop, getD, length, replicate}
-use Rattle.bits.specs.Layout.{pack}
 use Rattle.bits.specs.Lists.{tabulate}
 use Rattle.bits.specs.Words.{bitOf, wordOf}
 use Rattle.rules.specs.Signals.{Asks}
 use Rattle.rules.specs.declared.Slot.{Slot}
 use Rattle.rules.specs.Rules.{noSlot}
+use Rattle.effects.specs.Records.{recordOf}
 use Rattle.planes.specs.declared.Asked.{Asked}
 use Rattle.planes.specs.declared.Planes.{Planes}
 use Rattle.planes.specs.declared.Table.{Table}
@@ -130,13 +130,9 @@ tableLater k n period b =
 
 -- ## Records
 
--- the bytes of a record of plain numbers, as effects encodes an event
-unfoldable pub entry : (seq scan effect from to first : ℕ) → List ℕ
-entry q c i p r f = pack (2 ∷ 4 ∷ 1 ∷ 1 ∷ 1 ∷ 1 ∷ 2 ∷ []) (q ∷ c ∷ i ∷ p ∷ r ∷ 0 ∷ f ∷ [])
-
 -- the record of effect i, the k-th of a scan
 unfoldable pub entryAt : (q c : ℕ) (was is : Planes) (firsts : List ℕ) → ℕ → ℕ → List ℕ
-entryAt q c was is firsts k i = entry ((q + k) % 2 ^ 16) c (i + 1) (codeAt was i) (codeAt is i) (getD firsts i 0)
+entryAt q c was is firsts k i = recordOf ((q + k) % 2 ^ 16) c (i + 1) (codeAt was i) (codeAt is i) (getD firsts i 0)
 
 -- the records of the effects in a word
 abbrev pub entriesTo : (q c ch : ℕ) (was is : Planes) (firsts : List ℕ) → ℕ → List (List ℕ)

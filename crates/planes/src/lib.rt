@@ -3,24 +3,26 @@
 // This crate is an algorithm alone. What a scan and a held run mean stands in the specs of effects and rounds, over lists of
 // signals and slots; here stands that the words come to the same. It rests on `rounds`, `effects`, `rules` and `bits`. All of it
 // may change without moving a contract of an entry point: inner functions alone cite it.
+mod words;
+
+pub use words::board_at;
+pub use words::mark_of;
+pub use words::slots_of;
+pub use words::table_of;
 ghost use mathlib.Core.Path.{_≡_};
 ghost use mathlib.Core.Bool.{cond};
-ghost use mathlib.Core.List.{[], _∷_, _++_};
+ghost use mathlib.Core.List.{_++_};
 ghost use Prim.Native.Nat.{_+_, _-_, _*_, _/_, _%_, _^_, _<_, _≤_, min};
 ghost use lib.Count.{trailingZeros};
-ghost use lib.ListN.{drop, getD, length, replicate};
+ghost use lib.ListN.{drop, getD, length};
 ghost use lib.Seq.{sets};
 ghost use Rattle.bits.specs.Lists.{tabulate};
-ghost use Rattle.bits.specs.Layout.{pack};
 ghost use Rattle.bits.specs.Words.{bitOf, wordOf, one};
-ghost use Rattle.rules.specs.Rules.{noSlot, same};
-ghost use Rattle.effects.specs.Records.{bytes};
-ghost use Rattle.rounds.specs.Steps.{held, progressOf};
-ghost use Rattle.planes.specs.Planes.{planesAfter, changedOf, oneOf, codeAt, stateAt};
-ghost use Rattle.planes.specs.Table.{activeAt, dueIn, timerBy, firstBy, Still, Blank, Settled, Within, lowTo, quietsBy, entriesTo, joined, tableOf, slotAt, slotsOf};
-ghost use Rattle.planes.specs.Board.{boardAt, markOf, entriesOf, scanned, unset as unsetOf, begun, Right, signalsIn, runOf, boardOf};
-use rules::EffectState;
-use rules::Slot;
+ghost use Rattle.effects.specs.Records.{recordLength, bytes};
+ghost use Rattle.rounds.specs.Steps.{held};
+ghost use Rattle.planes.specs.Planes.{planesAfter, changedOf, oneOf, codeAt};
+ghost use Rattle.planes.specs.Table.{activeAt, dueIn, timerBy, firstBy, Still, Blank, Settled, Within, lowTo, quietsBy, entriesTo, joined};
+ghost use Rattle.planes.specs.Board.{boardAt, entriesOf, scanned, unset as unsetOf, begun, Right, signalsIn, runOf, boardOf};
 
 // What the rules ask of all effects, a bit each. active and delayed: the active word and the delay are not 0.
 pub struct Asked {
@@ -79,20 +81,23 @@ fn planes_after(w: Asked, due: u16, p: Planes) -> Planes
     ensures { λ r. ⌜ r ≡ planesAfter w due p ⌝ }
 {
     let stop = w.trip | (w.normal | w.bad);
+    // where an active cause trips at once
+    let open = p.tripped | (p.wait | (p.ready | (p.start | (p.normal & !w.delayed))));
+    let trips = (p.delayed & due) | (w.active & open);
+    let asks = p.tripped & w.require;
+    let waits = p.wait | (p.ready | asks);
+    let permitted = w.permit & (p.wait | (asks | (p.ready & !w.reset)));
+    // what is left of the way to Normal is the start permit
     let way = p.start | ((p.tripped & !w.require) | (p.ready & (w.permit & w.reset)));
+    let starts = p.normal | (w.start & way);
+    let delays = (p.delayed & !due) | (p.normal & (w.active & w.delayed));
     Planes {
-        tripped: w.trip
-            | ((w.bad & !w.normal)
-                | (((p.delayed & due)
-                    | (w.active
-                        & (p.tripped | (p.wait | (p.ready | (p.start | (p.normal & !w.delayed)))))))
-                    & !stop)),
-        wait: (p.wait | (p.ready | (p.tripped & w.require))) & !(stop | (w.active | w.permit)),
-        ready: (w.permit & (p.wait | ((p.tripped & w.require) | (p.ready & !w.reset))))
-            & !(stop | w.active),
+        tripped: w.trip | ((w.bad & !w.normal) | (trips & !stop)),
+        wait: waits & !(stop | (w.active | w.permit)),
+        ready: permitted & !(stop | w.active),
         start: way & !(stop | (w.active | w.start)),
-        normal: (w.normal & !w.trip) | ((p.normal | (w.start & way)) & !(stop | w.active)),
-        delayed: ((p.delayed & !due) | (p.normal & (w.active & w.delayed))) & !stop,
+        normal: (w.normal & !w.trip) | (starts & !(stop | w.active)),
+        delayed: delays & !stop,
     }
 }
 
@@ -301,8 +306,8 @@ fn put_scan(
     is: Planes,
     firsts: &[u16; 16],
 ) -> usize
-    requires { ⌜ at0 + 12 * length (entriesTo q0 number ch was is (now firsts) 16) ≤ length (now buf) ⌝ }
-    ensures { λ r. ⌜ (r ≡ at0 + 12 * length (entriesTo q0 number ch was is (now (firsts .entry)) 16)) × (now (buf .exit) ≡ sets (now (buf .entry)) at0 (joined (entriesTo q0 number ch was is (now (firsts .entry)) 16))) ⌝ }
+    requires { ⌜ at0 + recordLength * length (entriesTo q0 number ch was is (now firsts) 16) ≤ length (now buf) ⌝ }
+    ensures { λ r. ⌜ (r ≡ at0 + recordLength * length (entriesTo q0 number ch was is (now (firsts .entry)) 16)) × (now (buf .exit) ≡ sets (now (buf .entry)) at0 (joined (entriesTo q0 number ch was is (now (firsts .entry)) 16))) ⌝ }
 {
     let mut at = at0;
     let mut q = q0;
@@ -331,7 +336,7 @@ fn put_scan(
 // The sequence number after the records from one place to another.
 fn seq_after(q: u16, from: usize, to: usize) -> u16
     requires { ⌜ (from ≤ to) × (to ≤ from + 192) ⌝ }
-    ensures { λ r. ⌜ r ≡ (q + (to - from) / 12) % 2 ^ 16 ⌝ }
+    ensures { λ r. ⌜ r ≡ (q + (to - from) / recordLength) % 2 ^ 16 ⌝ }
 {
     std::num::wrapping_add_u16(q, ((to - from) / 12) as u16)
 }
@@ -356,7 +361,7 @@ fn scan(
     timers: &mut [u32; 16],
     firsts: &mut [u16; 16],
 ) -> Mark
-    requires { ⌜ (count ≤ 16) × (x .done < 1000000000) × (x .live < 1000000) × Settled count (boardAt x (now timers) (now firsts) .table) × Within count (x .planes) × Within count (scanned count (now causes) (now delays) period tripped w (boardAt x (now timers) (now firsts)) .table .planes) × (x .at + 12 * length (entriesOf count (now causes) (now delays) period tripped w (boardAt x (now timers) (now firsts))) ≤ length (now buf)) ⌝ }
+    requires { ⌜ (count ≤ 16) × (x .done < 1000000000) × (x .live < 1000000) × Settled count (boardAt x (now timers) (now firsts) .table) × Within count (x .planes) × Within count (scanned count (now causes) (now delays) period tripped w (boardAt x (now timers) (now firsts)) .table .planes) × (x .at + recordLength * length (entriesOf count (now causes) (now delays) period tripped w (boardAt x (now timers) (now firsts))) ≤ length (now buf)) ⌝ }
     ensures { λ r. ⌜ (boardAt r (now (timers .exit)) (now (firsts .exit)) ≡ scanned count (now (causes .entry)) (now (delays .entry)) period tripped w (boardAt x (now (timers .entry)) (now (firsts .entry)))) × (now (buf .exit) ≡ sets (now (buf .entry)) (x .at) (joined (entriesOf count (now (causes .entry)) (now (delays .entry)) period tripped w (boardAt x (now (timers .entry)) (now (firsts .entry)))))) ⌝ }
 {
     let was = x.planes;
@@ -391,7 +396,7 @@ fn later(k: u32, x: Mark) -> Mark
     }
 }
 
-// What is asked in the scans after the first.
+// What is asked in the scans after the first: the reset counts in the first scan and is zero afterwards.
 fn unset(w: Asked) -> Asked
     ensures { λ r. ⌜ r ≡ unsetOf w ⌝ }
 {
@@ -429,8 +434,8 @@ pub fn stroke(
     timers: &mut [u32; 16],
     firsts: &mut [u16; 16],
 ) -> Mark
-    requires { ⌜ (count ≤ 16) × (hold ≤ 1000000) × (0 < period) × (period ≤ 1000) × (from .done + hold ≤ 1000000000) × Right count (now causes) (now delays) period tripped asked (boardAt from (now timers) (now firsts)) × (12 * length (held (signalsIn count (now causes) (now delays) period tripped asked) hold (runOf count (boardAt from (now timers) (now firsts))) .events) ≤ length (now buf)) ⌝ }
-    ensures { λ r. ⌜ (boardAt r (now (timers .exit)) (now (firsts .exit)) ≡ boardOf count (progressOf (held (signalsIn count (now (causes .entry)) (now (delays .entry)) period tripped asked) hold (runOf count (boardAt from (now (timers .entry)) (now (firsts .entry))))))) × (now (buf .exit) ≡ sets (now (buf .entry)) 0 (bytes (held (signalsIn count (now (causes .entry)) (now (delays .entry)) period tripped asked) hold (runOf count (boardAt from (now (timers .entry)) (now (firsts .entry)))) .events))) ⌝ }
+    requires { ⌜ (count ≤ 16) × (hold ≤ 1000000) × (0 < period) × (period ≤ 1000) × (from .done + hold ≤ 1000000000) × Right count (now causes) (now delays) period tripped asked (boardAt from (now timers) (now firsts)) × (recordLength * length (held (signalsIn count (now causes) (now delays) period tripped asked) hold (runOf count (boardAt from (now timers) (now firsts))) .events) ≤ length (now buf)) ⌝ }
+    ensures { λ r. ⌜ (boardAt r (now (timers .exit)) (now (firsts .exit)) ≡ boardOf count (held (signalsIn count (now (causes .entry)) (now (delays .entry)) period tripped asked) hold (runOf count (boardAt from (now (timers .entry)) (now (firsts .entry)))))) × (now (buf .exit) ≡ sets (now (buf .entry)) 0 (bytes (held (signalsIn count (now (causes .entry)) (now (delays .entry)) period tripped asked) hold (runOf count (boardAt from (now (timers .entry)) (now (firsts .entry)))) .events))) ⌝ }
 {
     let mut w = asked;
     let mut x = begin(from);
@@ -460,164 +465,4 @@ pub fn stroke(
         left = rest - k;
     }
     x
-}
-
-// ---- a mark and its board
-
-// The mark of a board, without its timers and first-outs.
-pub fn mark_of(x: Board) -> Mark
-    ensures { λ r. ⌜ r ≡ markOf x ⌝ }
-{
-    let table = x.table;
-    let planes = table.planes;
-    Mark {
-        done: x.done,
-        next: x.next,
-        at: x.at,
-        live: x.live,
-        planes,
-    }
-}
-
-// The board of a mark, with its timers and first-outs.
-pub fn board_at(x: Mark, timers: [u32; 16], firsts: [u16; 16]) -> Board
-    ensures { λ r. ⌜ r ≡ boardAt x timers firsts ⌝ }
-{
-    let planes = x.planes;
-    let table = Table {
-        planes,
-        timers,
-        firsts,
-    };
-    Board {
-        done: x.done,
-        next: x.next,
-        at: x.at,
-        live: x.live,
-        table,
-    }
-}
-
-// ---- to words and back
-
-// The effects in state q.
-fn plane(count: usize, xs: [Slot; 16], q: EffectState) -> u16
-    requires { ⌜ count ≤ 16 ⌝ }
-    ensures { λ r. ⌜ r ≡ wordOf (λ i. same (getD xs i noSlot .state) q) count ⌝ }
-{
-    let mut word: u16 = 0;
-    let mut i: usize = 0;
-    while i < count {
-        let x = xs[i];
-        let p = x.state;
-        word = bits::put_bit(word, i, rules::same(p, q));
-        i += 1;
-    }
-    word
-}
-
-fn timers_of(count: usize, xs: [Slot; 16]) -> [u32; 16]
-    requires { ⌜ count ≤ 16 ⌝ }
-    ensures { λ r. ⌜ r ≡ tabulate (λ i. getD xs i noSlot .timer) count ++ drop count (replicate 16 0) ⌝ }
-{
-    let mut ts = [0u32; 16];
-    let mut i: usize = 0;
-    while i < count {
-        let x = xs[i];
-        ts[i] = x.timer;
-        i += 1;
-    }
-    ts
-}
-
-fn firsts_of(count: usize, xs: [Slot; 16]) -> [u16; 16]
-    requires { ⌜ count ≤ 16 ⌝ }
-    ensures { λ r. ⌜ r ≡ tabulate (λ i. getD xs i noSlot .first) count ++ drop count (replicate 16 0) ⌝ }
-{
-    let mut fs = [0u16; 16];
-    let mut i: usize = 0;
-    while i < count {
-        let x = xs[i];
-        fs[i] = x.first;
-        i += 1;
-    }
-    fs
-}
-
-// The slots, by words.
-pub fn table_of(count: usize, xs: [Slot; 16]) -> Table
-    requires { ⌜ count ≤ 16 ⌝ }
-    ensures { λ r. ⌜ r ≡ tableOf count xs ⌝ }
-{
-    let planes = Planes {
-        tripped: plane(count, xs, EffectState::Tripped),
-        wait: plane(count, xs, EffectState::WaitReset),
-        ready: plane(count, xs, EffectState::Ready),
-        start: plane(count, xs, EffectState::WaitStart),
-        normal: plane(count, xs, EffectState::Normal),
-        delayed: plane(count, xs, EffectState::Delayed),
-    };
-    Table {
-        planes,
-        timers: timers_of(count, xs),
-        firsts: firsts_of(count, xs),
-    }
-}
-
-// The state of effect i.
-fn state_at(p: Planes, i: usize) -> EffectState
-    requires { ⌜ i < 16 ⌝ }
-    ensures { λ r. ⌜ r ≡ stateAt p i ⌝ }
-{
-    if bits::bit(p.tripped, i) {
-        return EffectState::Tripped;
-    }
-    if bits::bit(p.wait, i) {
-        return EffectState::WaitReset;
-    }
-    if bits::bit(p.ready, i) {
-        return EffectState::Ready;
-    }
-    if bits::bit(p.start, i) {
-        return EffectState::WaitStart;
-    }
-    if bits::bit(p.normal, i) {
-        return EffectState::Normal;
-    }
-    EffectState::Delayed
-}
-
-fn slot_of(p: Planes, t: u32, f: u16, i: usize) -> Slot
-    requires { ⌜ i < 16 ⌝ }
-    ensures { λ r. ⌜ r ≡ (record { state = stateAt p i; timer = t; first = f }) ⌝ }
-{
-    Slot {
-        state: state_at(p, i),
-        timer: t,
-        first: f,
-    }
-}
-
-// And back; slots past the count are those of no effect.
-pub fn slots_of(count: usize, b: Table) -> [Slot; 16]
-    requires { ⌜ count ≤ 16 ⌝ }
-    ensures { λ r. ⌜ r ≡ slotsOf count b ⌝ }
-{
-    let planes = b.planes;
-    let timers = b.timers;
-    let firsts = b.firsts;
-    let none = Slot {
-        state: EffectState::Tripped,
-        timer: 0,
-        first: 0,
-    };
-    let mut xs = [none; 16];
-    let mut i: usize = 0;
-    while i < count {
-        let t = timers[i];
-        let f = firsts[i];
-        xs[i] = slot_of(planes, t, f, i);
-        i += 1;
-    }
-    xs
 }

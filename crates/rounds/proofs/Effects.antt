@@ -1,21 +1,37 @@
 -- All effects: what holds of one holds of the lists, by recursion on both, signals and slots.
 use mathlib.Core.Path.{_≡_, refl, ap, ap₂, sym, subst}
 use mathlib.Core.Bool.{Bool, true, false, cond, _||_}
-use mathlib.Core.List.{List, [], _∷_, map}
+use mathlib.Core.List.{List, [], _∷_, _++_, map}
 use mathlib.Core.Logic.{⊎-elim}
-use Prim.Native.Nat.{ℕ, suc, _+_, _*_, _≤_, _<_}
+use Prim.Native.Nat.{ℕ, zero, suc, _+_, _*_, _≤_, _<_}
 use native.Mathlib.Nat.{eq-or-lt-of-le, le-trans, lt-of-lt-of-le}
 use native.Mathlib.Omega.{arith}
 use lib.ListN.{length}
+use Rattle.bits.specs.Lists.{tabulate}
 use Rattle.bits.specs.Words.{one}
+use Rattle.bits.proofs.Lists.{or-none}
 use Rattle.rules.specs.declared.Slot.{Slot}
 use Rattle.rules.specs.Signals.{Signals}
 use Rattle.rules.specs.Rules.{asks, moved}
-use Rattle.effects.specs.Scan.{steps, anyMoved, wrapped, seqAfter, records, event}
+use Rattle.effects.specs.Scan.{steps, anyMoved, wrapped, seqAfter, eventsFrom, event}
 use Rattle.effects.proofs.Records.{length-only}
 use Rattle.rounds.specs.Steps.{clear}
-use Rattle.rounds.specs.Stroke.{Timed, quiet, advance, quiets, advances}
+use Rattle.rounds.specs.Stroke.{quiet, advance, quiets, advances}
 use Rattle.rounds.proofs.Effect as each
+
+-- every period is 1 to 1,000
+abbrev pub Timed : List Signals → Type 0
+Timed [] = Unit {0}
+Timed (s ∷ ss) = (0 < s .period) × (s .period ≤ 1000) × Timed ss
+
+timed-append : (ss ts : List Signals) → Timed ss → Timed ts → Timed (ss ++ ts)
+timed-append [] ts h k = k
+timed-append (s ∷ ss) ts h k = (h .0, h .1, timed-append ss ts (h .2) k)
+
+pub timed-tabulate : (f : ℕ → Signals) (n : ℕ) → ((i : ℕ) → (0 < f i .period) × (f i .period ≤ 1000)) → Timed (tabulate f n)
+unfolding tabulate
+timed-tabulate f zero h = tt
+timed-tabulate f (suc n) h = timed-append (tabulate f n) (f n ∷ []) (timed-tabulate f n h) (h n .0, h n .1, tt)
 
 -- ## The resets cleared
 
@@ -82,25 +98,20 @@ still n k (s ∷ ss) (x ∷ xs) h w =
     (each.unmoved n k s x (h .0) (lt-of-lt-of-le w (quiets-le (quiet n s x) ss xs)))
     (still (quiet n s x) k ss xs (h .2) w)
 
--- where neither holds
-or-false : (a b : Bool) → (a || b) ≡ false → (a ≡ false) × (b ≡ false)
-or-false true b e = (e, cc)
-or-false false b e = (refl, e)
-
--- a scan that is not live gives no record
-pub no-records : (q c i : ℕ) (ss : List Signals) (xs : List Slot) → anyMoved ss xs ≡ false → records q c i ss xs ≡ []
-no-records q c i [] xs e = refl
-no-records q c i (s ∷ ss) [] e = refl
-no-records q c i (s ∷ ss) (x ∷ xs) e =
-    let h = or-false (moved s x) (anyMoved ss xs) e in
-    rw (h .0) (no-records q c (suc i) ss xs (h .1))
+-- a scan that is not live gives no event
+pub no-events : (q c i : ℕ) (ss : List Signals) (xs : List Slot) → anyMoved ss xs ≡ false → eventsFrom q c i ss xs ≡ []
+no-events q c i [] xs e = refl
+no-events q c i (s ∷ ss) [] e = refl
+no-events q c i (s ∷ ss) (x ∷ xs) e =
+    let h = or-none (moved s x) (anyMoved ss xs) e in
+    rw (h .0) (no-events q c (suc i) ss xs (h .1))
 
 -- and takes no sequence number
 pub same-seq : (q : ℕ) (ss : List Signals) (xs : List Slot) → anyMoved ss xs ≡ false → seqAfter q ss xs ≡ q
 same-seq q [] xs e = refl
 same-seq q (s ∷ ss) [] e = refl
 same-seq q (s ∷ ss) (x ∷ xs) e =
-    let h = or-false (moved s x) (anyMoved ss xs) e in
+    let h = or-none (moved s x) (anyMoved ss xs) e in
     rw (h .0) (same-seq q ss xs (h .1))
 
 -- where the second holds
@@ -144,35 +155,35 @@ ranks-advances k (s ∷ ss) [] xs = refl
 ranks-advances k (s ∷ ss) (c ∷ cs) [] = refl
 ranks-advances k (s ∷ ss) (c ∷ cs) (x ∷ xs) = ap (λ (m : ℕ). each.rank (asks s) (x .state) + m) (ranks-advances k ss cs xs)
 
--- each record of a scan without reset takes one of the moves left
-pub records-fall : (q c i : ℕ) (ss : List Signals) (xs : List Slot)
-    → length (records q c i (map clear ss) xs) + ranks ss (steps (map clear ss) xs) ≤ ranks ss xs
+-- each event of a scan without reset takes one of the moves left
+pub events-fall : (q c i : ℕ) (ss : List Signals) (xs : List Slot)
+    → length (eventsFrom q c i (map clear ss) xs) + ranks ss (steps (map clear ss) xs) ≤ ranks ss xs
 unfolding ranks
-records-fall q c i [] xs = omega arith
-records-fall q c i (s ∷ ss) [] = omega arith
-records-fall q c i (s ∷ ss) (x ∷ xs) =
+events-fall q c i [] xs = omega arith
+events-fall q c i (s ∷ ss) [] = omega arith
+events-fall q c i (s ∷ ss) (x ∷ xs) =
     let m = moved (clear s) x in
     let r = cond m (wrapped q) q in
-    omega (arith, length-only m (event q c i (clear s) x) (records r c (suc i) (map clear ss) xs), each.falls s x, records-fall r c (suc i) ss xs)
+    omega (arith, length-only m (event q c i (clear s) x) (eventsFrom r c (suc i) (map clear ss) xs), each.falls s x, events-fall r c (suc i) ss xs)
 
--- the records of the first scan and the moves left after it are at most two an effect
-pub records-two : (q c i : ℕ) (ss : List Signals) (xs : List Slot) → length (records q c i ss xs) + ranks ss (steps ss xs) ≤ 2 * length ss
+-- the events of the first scan and the moves left after it are at most two an effect
+pub events-two : (q c i : ℕ) (ss : List Signals) (xs : List Slot) → length (eventsFrom q c i ss xs) + ranks ss (steps ss xs) ≤ 2 * length ss
 unfolding ranks
-records-two q c i [] xs = omega arith
-records-two q c i (s ∷ ss) [] = omega arith
-records-two q c i (s ∷ ss) (x ∷ xs) =
+events-two q c i [] xs = omega arith
+events-two q c i (s ∷ ss) [] = omega arith
+events-two q c i (s ∷ ss) (x ∷ xs) =
     let r = cond (moved s x) (wrapped q) q in
-    omega (arith, length-only (moved s x) (event q c i s x) (records r c (suc i) ss xs), each.two s x, records-two r c (suc i) ss xs)
+    omega (arith, length-only (moved s x) (event q c i s x) (eventsFrom r c (suc i) ss xs), each.two s x, events-two r c (suc i) ss xs)
 
 -- the count of a disjunction
 one-or : (a b : Bool) → one (a || b) ≤ one a + one b
 one-or true b = omega arith
 one-or false b = omega arith
 
--- a live scan gives a record
-pub live-recorded : (q c i : ℕ) (ss : List Signals) (xs : List Slot) → one (anyMoved ss xs) ≤ length (records q c i ss xs)
+-- a live scan gives an event
+pub live-recorded : (q c i : ℕ) (ss : List Signals) (xs : List Slot) → one (anyMoved ss xs) ≤ length (eventsFrom q c i ss xs)
 live-recorded q c i [] xs = omega arith
 live-recorded q c i (s ∷ ss) [] = omega arith
 live-recorded q c i (s ∷ ss) (x ∷ xs) =
     let r = cond (moved s x) (wrapped q) q in
-    omega (arith, one-or (moved s x) (anyMoved ss xs), length-only (moved s x) (event q c i s x) (records r c (suc i) ss xs), live-recorded r c (suc i) ss xs)
+    omega (arith, one-or (moved s x) (anyMoved ss xs), length-only (moved s x) (event q c i s x) (eventsFrom r c (suc i) ss xs), live-recorded r c (suc i) ss xs)

@@ -1,4 +1,4 @@
--- A held run: rounds give what the scans give one by one, and it has at most two records an effect.
+-- A held run: rounds give what the scans give one by one, and it has at most two events an effect.
 -- The scans after the first are steps of one kind, so the generic theorem of Rounds applies: the skip is a law of the
 -- lists of effects, and the rank is the moves left to them.
 use mathlib.Core.Path.{_≡_, refl, ap, sym, _∙_}
@@ -12,17 +12,16 @@ use Rattle.bits.specs.Words.{one}
 use Rattle.rules.specs.declared.Slot.{Slot}
 use Rattle.rules.specs.Signals.{Signals}
 use Rattle.effects.specs.declared.Event.{Event}
-use Rattle.effects.specs.Scan.{steps, records}
+use Rattle.effects.specs.Scan.{steps, eventsFrom}
 use Rattle.effects.proofs.Laws.{length-steps}
-use Rattle.rounds.specs.Iterate.{iterate, rounds}
 use Rattle.rounds.specs.Steps.{Run, start, scan, clear, held}
-use Rattle.rounds.specs.Stroke.{Timed, quiets, advances, skip, byRounds}
-use Rattle.rounds.proofs.Rounds.{Skips, joined, rounds-are-steps}
-use Rattle.rounds.proofs.Effects.{clear-clear, timed-clear, Settled, settled-steps, settled-clear, quiets-le, advances-none, steps-more, still, no-records, same-seq, wakes, ranks, ranks-clear, ranks-advances, records-fall, records-two, live-recorded}
+use Rattle.rounds.specs.Stroke.{quiets, advances, skip, byRounds}
+use Rattle.rounds.proofs.Rounds.{iterate, rounds, Skips, joined, rounds-are-steps}
+use Rattle.rounds.proofs.Effects.{Timed, clear-clear, timed-clear, Settled, settled-steps, settled-clear, quiets-le, advances-none, steps-more, still, no-events, same-seq, wakes, ranks, ranks-clear, ranks-advances, events-fall, events-two, live-recorded}
 
 -- the events of a run's next scan
 abbrev pub due : List Signals → Run → List Event
-due ss r = records (r .next) (r .done + 1) 1 ss (r .slots)
+due ss r = eventsFrom (r .next) (r .done + 1) 1 ss (r .slots)
 
 -- ## What a held run keeps
 
@@ -59,7 +58,7 @@ run-path a b c d e = λ i. record { done = a i; next = b i; slots = c i; events 
 skip-none : (cs : List Signals) (r : Run) → skip 0 cs r ≡ r
 skip-none cs r = run-path (add-zero (r .done)) refl (advances-none cs (r .slots)) refl refl
 
--- a scan that is not live gives no record, takes no sequence number, counts as no live scan, and advances the timers and
+-- a scan that is not live gives no event, takes no sequence number, counts as no live scan, and advances the timers and
 -- the scan number
 skip-more : (n k : ℕ) (cs : List Signals) (r : Run) → Timed cs → Settled cs (r .slots) → k < quiets n cs (r .slots)
     → scan cs (skip k cs r) ≡ skip (suc k) cs r
@@ -69,7 +68,7 @@ skip-more n k cs r h g w =
     (omega arith)
     (same-seq (r .next) cs (advances k cs (r .slots)) e)
     (steps-more n k cs (r .slots) h g w)
-    (ap (λ (l : List Event). r .events ++ l) (no-records (r .next) (r .done + k + 1) 1 cs (advances k cs (r .slots)) e) ∙ append-nil (r .events))
+    (ap (λ (l : List Event). r .events ++ l) (no-events (r .next) (r .done + k + 1) 1 cs (advances k cs (r .slots)) e) ∙ append-nil (r .events))
     (omega (arith, ap one e))
 
 -- scans without reset are steps that can be skipped
@@ -85,7 +84,7 @@ skips ss h =
       falls = λ n r g w.
           let k = quiets n cs (r .slots) in
           let xs = advances k cs (r .slots) in
-          omega (arith, records-fall 0 0 0 ss xs, live-recorded 0 0 0 cs xs, ap one (wakes n cs (r .slots) h w), ranks-advances k ss cs (r .slots));
+          omega (arith, events-fall 0 0 0 ss xs, live-recorded 0 0 0 cs xs, ap one (wakes n cs (r .slots) h w), ranks-advances k ss cs (r .slots));
     }
 
 -- ## Rounds
@@ -108,7 +107,7 @@ settled-first ss xs = settled-clear ss (steps ss xs) (settled-steps ss xs)
 
 -- and has at most two moves left an effect
 pub ranks-first : (ss : List Signals) (xs : List Slot) → ranks ss (steps ss xs) ≤ 2 * length ss
-ranks-first ss xs = omega (arith, records-two 0 0 0 ss xs)
+ranks-first ss xs = omega (arith, events-two 0 0 0 ss xs)
 
 -- the central theorem: as many rounds as twice the effects and one give what the scans give one by one
 pub one-stroke : (ss : List Signals) (n : ℕ) (r : Run) → Timed ss → byRounds (2 * length ss + 1) ss n r ≡ held ss n r
@@ -123,23 +122,23 @@ one-stroke ss n r h = rw add-one (go n)
         ∙ rounds-are-steps (skips ss (timed-clear ss h)) (2 * length ss) n y (settled-first ss (r .slots)) (ranks-first ss (r .slots))
         ∙ sym (held-iterate n ss y)
 
--- ## At most two records an effect, and no more live scans than records
+-- ## At most two events an effect, and no more live scans than events
 
--- without reset, the records and the moves left are together no more than before
+-- without reset, the events and the moves left are together no more than before
 due-falls : (n : ℕ) (ss : List Signals) (r : Run)
     → length ((iterate (scan (map clear ss)) n r) .events) + ranks ss ((iterate (scan (map clear ss)) n r) .slots) ≤ length (r .events) + ranks ss (r .slots)
 due-falls zero ss r = omega arith
 due-falls (suc n) ss r =
-    omega (arith, due-falls n ss (scan (map clear ss) r), records-fall (r .next) (r .done + 1) 1 ss (r .slots), length-append (r .events) (due (map clear ss) r))
+    omega (arith, due-falls n ss (scan (map clear ss) r), events-fall (r .next) (r .done + 1) 1 ss (r .slots), length-append (r .events) (due (map clear ss) r))
 
--- a held run gives at most two records an effect
+-- a held run gives at most two events an effect
 pub due-at-most : (ss : List Signals) (n : ℕ) (r : Run) → length ((held ss n r) .events) ≤ length (r .events) + 2 * length ss
 due-at-most ss zero r = omega arith
 due-at-most ss (suc n) r =
     rw (held-iterate n ss (scan ss r))
-    (omega (arith, due-falls n ss (scan ss r), records-two (r .next) (r .done + 1) 1 ss (r .slots), length-append (r .events) (due ss r)))
+    (omega (arith, due-falls n ss (scan ss r), events-two (r .next) (r .done + 1) 1 ss (r .slots), length-append (r .events) (due ss r)))
 
--- each live scan gives a record
+-- each live scan gives an event
 live-due : (ss : List Signals) (n : ℕ) (r : Run) → (held ss n r) .live + length (r .events) ≤ r .live + length ((held ss n r) .events)
 live-due ss zero r = omega arith
 live-due ss (suc n) r =

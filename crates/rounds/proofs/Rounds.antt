@@ -4,7 +4,19 @@ use mathlib.Core.Path.{_≡_, refl, ap, sym, _∙_}
 use Prim.Native.Nat.{ℕ, zero, suc, _+_, _-_, _≤_, _<_}
 use native.Mathlib.Nat.{zero-add, suc-add, add-sub-of-le}
 use native.Mathlib.Omega.{arith}
-use Rattle.rounds.specs.Iterate.{iterate, rounds}
+
+module _ {X : Type 0} (step : X → X) where
+  -- n single steps
+  abbrev pub iterate : ℕ → X → X
+  iterate zero x = x
+  iterate (suc n) x = iterate n (step x)
+
+  module _ (skip : ℕ → X → X) (quiet : ℕ → X → ℕ) where
+    -- the same in rounds: one step, and then a skip of the steps that `quiet` counts, at most those left
+    abbrev pub rounds : ℕ → ℕ → X → X
+    rounds zero n x = x
+    rounds (suc f) zero x = x
+    rounds (suc f) (suc n) x = let y = step x in let k = quiet n y in rounds f (n - k) (skip k y)
 
 module _ {X : Type 0} (step : X → X) where
   -- the last step apart

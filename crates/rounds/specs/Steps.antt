@@ -1,16 +1,14 @@
 -- A held run over lists of signals and slots, scan by scan, as inner functions promise it. Document 01, "Held runs and their
 -- two counts". The held run that users are promised is `run` (block/specs/Held); block/proofs/Stepping shows that both agree.
-use Prim.Native.Nat.{ℕ, zero, suc, _+_, _*_}
+use Prim.Native.Nat.{ℕ, zero, suc, _+_}
 use mathlib.Core.Bool.{false}
 use mathlib.Core.List.{List, [], _++_, map}
-use lib.ListN.{length}
 use Rattle.bits.specs.Words.{one}
 use Rattle.rules.specs.Signals.{Signals}
 use Rattle.rules.specs.declared.Slot.{Slot}
 use Rattle.rules.specs.Rules.{next, moved}
 use Rattle.effects.specs.declared.Event.{Event}
-use Rattle.effects.specs.declared.Progress.{Progress}
-use Rattle.effects.specs.Scan.{steps, anyMoved, seqAfter, records}
+use Rattle.effects.specs.Scan.{steps, anyMoved, seqAfter, eventsFrom}
 
 -- a run: the scans done, the next sequence number and the slots, and what it has given so far, its events and its live scans
 pub record Run : Type 0 where
@@ -31,7 +29,7 @@ scan ss r =
       done = r .done + 1;
       next = seqAfter (r .next) ss (r .slots);
       slots = steps ss (r .slots);
-      events = r .events ++ records (r .next) (r .done + 1) 1 ss (r .slots);
+      events = r .events ++ eventsFrom (r .next) (r .done + 1) 1 ss (r .slots);
       live = r .live + one (anyMoved ss (r .slots));
     }
 
@@ -60,14 +58,3 @@ held ss (suc n) r = held (map clear ss) n (scan ss r)
 abbrev pub moves : Signals → ℕ → Slot → ℕ
 moves s zero x = 0
 moves s (suc n) x = one (moved s x) + moves (clear s) n (next s x)
-
--- the run as the proofs carry it: its events lie in a buffer, 12 bytes each
-abbrev pub progressOf : Run → Progress
-progressOf r =
-    record {
-      done = r .done;
-      next = r .next;
-      slots = r .slots;
-      at = 12 * length (r .events);
-      live = r .live;
-    }

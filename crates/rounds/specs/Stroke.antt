@@ -1,19 +1,13 @@
--- One stroke by rounds. Document 01, "Held runs and their two counts". Of this page one promise cites `byRounds`
--- (`rounds-suffice`, block/proofs/Theorems); the rest serves its proof.
-use Prim.Native.Nat.{ℕ, zero, suc, _+_, _-_, _*_, _/_, min, _≤_, _<_}
+-- One stroke by rounds. Document 01, "Held runs and their two counts". A promise cites `byRounds` (`rounds-suffice`,
+-- block/proofs/Theorems); no contract does.
+use Prim.Native.Nat.{ℕ, zero, suc, _+_, _-_, _*_, _/_, min}
 use mathlib.Core.Bool.{cond}
 use mathlib.Core.List.{List, [], _∷_, map}
 use Rattle.rules.specs.declared.EffectState.the-variants.{Delayed}
 use Rattle.rules.specs.Signals.{Signals}
 use Rattle.rules.specs.declared.Slot.{Slot}
 use Rattle.rules.specs.Rules.{same, moved}
-use Rattle.effects.specs.declared.Progress.{Progress}
 use Rattle.rounds.specs.Steps.{Run, scan, clear}
-
--- every period is 1 to 1,000
-abbrev pub Timed : List Signals → Type 0
-Timed [] = Unit {0}
-Timed (s ∷ ss) = (0 < s .period) × (s .period ≤ 1000) × Timed ss
 
 -- ## One effect
 
@@ -40,17 +34,6 @@ advances k (s ∷ ss) [] = []
 advances k (s ∷ ss) (x ∷ xs) = advance k s x ∷ advances k ss xs
 
 -- ## A run
-
--- the run after k such scans, as the proofs carry it
-abbrev pub skipped : ℕ → List Signals → Progress → Progress
-skipped k ss p =
-    record {
-      done = p .done + k;
-      next = p .next;
-      slots = advances k ss (p .slots);
-      at = p .at;
-      live = p .live;
-    }
 
 -- the run after k such scans: they give no event and are not live
 abbrev pub skip : ℕ → List Signals → Run → Run

@@ -1,15 +1,14 @@
 -- The stroke by the words of settings and a row is the held run of what the effects see.
-use mathlib.Core.Path.{_≡_, refl, ap, sym, _∙_}
+use mathlib.Core.Path.{_≡_, ap, _∙_}
 use mathlib.Core.Bool.{Bool, not}
 use mathlib.Core.List.{List}
-use Prim.Native.Nat.{ℕ, _≤_}
+use Prim.Native.Nat.{ℕ}
 use lib.Bits.{bitAnd, bitOr}
 use lib.Dec.{eqb}
 use Rattle.rules.specs.Signals.{Signals}
 use Rattle.rules.specs.Rules.{asks}
-use Rattle.effects.specs.declared.Progress.{Progress}
-use Rattle.effects.specs.Scan.{latentWord, anyExercised, effectWord}
-use Rattle.rounds.specs.Steps.{Run, held, progressOf}
+use Rattle.effects.specs.Scan.{latentWord, anyExercised}
+use Rattle.rounds.specs.Steps.{Run, held}
 use Rattle.planes.specs.declared.Asked.{Asked}
 use Rattle.planes.specs.declared.Board.{Board}
 use Rattle.planes.specs.Table.{askedOf}
@@ -68,11 +67,11 @@ module _ (st : Settings) (right : settingsNumber st ≡ 0) (row : Row) (row-righ
     pub right-words : Right (x .count) causes delays (x .period) t asked from
     right-words = record { asked = asked-is; table = rw (count-of st x ex) shown }
 
-  module _ (from : Board) (b : Board) (eb : b ≡ boardOf (x .count) (progressOf (held ss (row .hold) (runOf (x .count) from)))) where
+  module _ (from : Board) (b : Board) (eb : b ≡ boardOf (x .count) (held ss (row .hold) (runOf (x .count) from))) where
     abbrev run : Run
     run = held (signals st w) (row .hold) (runOf (st .count) from)
 
-    comes-to : b ≡ boardOf (st .count) (progressOf run)
+    comes-to : b ≡ boardOf (st .count) run
     comes-to = eb ∙ rw (ss-are, count-of st x ex)
 
     pub stroked-is : stroked b (bitOr (b .table .planes .normal) (b .table .planes .delayed)) (bitAnd (asked .normal) (bitOr (asked .active) (asked .bad))) (not (eqb (asked .active) 0))

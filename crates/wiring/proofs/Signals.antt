@@ -1,18 +1,17 @@
 -- The words are those of what the effects see.
-use mathlib.Core.Path.{_≡_, refl, ap, ap₂, sym, _∙_}
-use mathlib.Core.Bool.{Bool, true, false, cond, not, _&&_, _||_}
+use mathlib.Core.Path.{_≡_, refl, ap, sym, _∙_}
+use mathlib.Core.Bool.{Bool, true, false, cond, not, _&&_, _||_, or-assoc, or-false, Bool·not-not}
 use mathlib.Core.List.{List, [], _∷_, _++_}
-use Prim.Native.Nat.{ℕ, zero, suc, _+_, _-_, _%_, _^_, _<_, _≤_}
-use native.Mathlib.Nat.{zero-div, lt-of-lt-of-le}
-use native.Mathlib.Omega.{arith}
+use Prim.Native.Nat.{ℕ, zero, suc, _+_, _-_, _^_, _<_, _≤_}
+use native.Mathlib.Nat.{lt-of-lt-of-le}
 use lib.Bits.{bitAnd, bitOr}
-use lib.Dec.{eqb, ltb}
-use lib.ListN.{getD, length}
+use lib.Dec.{eqb}
+use lib.ListN.{getD}
 use lib.Pow.{pow-pos}
 use Rattle.bits.specs.Lists.{tabulate}
 use Rattle.bits.specs.Words.{bitOf, wordOf}
 use Rattle.bits.proofs.Lists.{length-tabulate, tabulate-ext, getD-tabulate}
-use Rattle.bits.proofs.Words.{bit-wordOf, wordOf-ext, wordOf-lt, word-bits, and-assoc, and-word, or-word}
+use Rattle.bits.proofs.Words.{bit-wordOf, bit-none, wordOf-ext, wordOf-lt, word-bits, and-assoc, and-word, or-word}
 use Rattle.rules.specs.declared.EffectState.{EffectState}
 use Rattle.rules.specs.declared.EffectState.the-variants.{Tripped, WaitReset, Ready, WaitStart, Normal, Delayed}
 use Rattle.rules.specs.Signals.{Signals}
@@ -21,18 +20,15 @@ use Rattle.rules.specs.Rules.{noSlot, noSignals, asks, same, isOn, isLatent, is
 use Rattle.effects.specs.Scan.{effectWord, latentWord, anyExercised}
 use Rattle.planes.specs.declared.Asked.{Asked}
 use Rattle.planes.specs.Planes.{planesOf}
-use Rattle.planes.specs.Table.{activeAt, askedOf, tableOf}
+use Rattle.planes.specs.Table.{askedOf, tableOf}
 use Rattle.planes.specs.Board.{signalsBy, signalsIn}
 use Rattle.planes.proofs.Quiet.{anyTo, none-set}
 use Rattle.settings.specs.declared.Settings.{Settings}
 use Rattle.settings.specs.declared.Words.{Words}
 use Rattle.settings.specs.Right.{limitsOf, settingsNumber, wordsNumber}
-use Rattle.settings.specs.Signals.{activeOf, badTrip, forcesCount, signals, signalsOf}
-use Rattle.settings.proofs.Right.{count-few, association-lt, Inside, inside}
+use Rattle.settings.specs.Signals.{badTrip, forcesCount, signals, signalsOf}
+use Rattle.settings.proofs.Right.{count-few, association-lt, inside}
 use Rattle.wiring.specs.Wiring.{associationAt, delayAt, causesOf, delaysOf, wiringOf, trippedOf, askedBy}
-
-bit-none : (i : ℕ) → bitOf 0 i ≡ false
-bit-none i = ap (λ (x : ℕ). eqb (x % 2) 1) (zero-div (2 ^ i))
 
 -- a bit of a word that counts, or does not
 bit-if : (b : Bool) (w i : ℕ) → bitOf (cond b w 0) i ≡ (b && bitOf w i)
@@ -96,14 +92,11 @@ module _ (st : Settings) (right : settingsNumber st ≡ 0) (w : Words) (words : 
       asked-path
       (sym (word-bits _ n (lt-if c (w .«force_trip») n (h .trip))))
       (sym (word-bits _ n (lt-if c (w .«force_normal») n (h .normal))))
-      (sym (word-bits _ n (lt-if (badTrip (st .options) w) (wordOf (λ i. true) n) n (all-lt n))))
+      (sym (word-bits _ n (lt-if (badTrip (st .options) w) (wordOf (λ i. true) n) n (wordOf-lt _ n))))
       (sym (word-bits _ n (h .require)))
       (sym (word-bits _ n (h .permit)))
       (sym (word-bits _ n (h .start)))
       (sym (word-bits _ n (h .reset)))
-    where
-      all-lt : (m : ℕ) → wordOf (λ i. true) m < 2 ^ m
-      all-lt m = wordOf-lt (λ i. true) m
 
 -- ## The words that are reported
 
@@ -129,27 +122,15 @@ latent-is m s =
     (wordOf-ext _ _ m (λ i k. ap isLatent (sym (getD-tabulate s m i noSignals k))) ∙ ap (wordOf (λ i. isLatent (getD (tabulate s m) i noSignals))) (sym (length-tabulate s m)))
 
 -- some effect is exercised where the active word is not 0
-or-assoc : (a b c : Bool) → (a || (b || c)) ≡ ((a || b) || c)
-or-assoc true b c = refl
-or-assoc false b c = refl
-
-or-false : (a : Bool) → (a || false) ≡ a
-or-false true = refl
-or-false false = refl
-
 exercised-snoc : (ss : List Signals) (s : Signals) → anyExercised (ss ++ (s ∷ [])) ≡ (anyExercised ss || isExercised s)
 exercised-snoc [] s = or-false (isExercised s)
-exercised-snoc (r ∷ ss) s = ap (λ (b : Bool). isExercised r || b) (exercised-snoc ss s) ∙ or-assoc (isExercised r) (anyExercised ss) (isExercised s)
+exercised-snoc (r ∷ ss) s = ap (λ (b : Bool). isExercised r || b) (exercised-snoc ss s) ∙ sym (or-assoc (isExercised r) (anyExercised ss) (isExercised s))
 
 exercised-upto : (s : ℕ → Signals) (m : ℕ) → anyTo (λ i. isExercised (s i)) m ≡ anyExercised (tabulate s m)
 unfolding anyTo tabulate
 exercised-upto s zero = refl
 exercised-upto s (suc m) = ap (λ (b : Bool). b || isExercised (s m)) (exercised-upto s m) ∙ sym (exercised-snoc (tabulate s m) (s m))
 
-twice : (b : Bool) → not (not b) ≡ b
-twice true = refl
-twice false = refl
-
 pub exercised-is : (m : ℕ) (s : ℕ → Signals) → not (eqb (askedOf m (λ i. asks (s i)) .active) 0) ≡ anyExercised (tabulate s m)
 unfolding askedOf
-exercised-is m s = ap not (none-set (λ i. isExercised (s i)) m) ∙ twice _ ∙ exercised-upto s m
+exercised-is m s = ap not (none-set (λ i. isExercised (s i)) m) ∙ Bool·not-not _ ∙ exercised-upto s m

@@ -9,7 +9,7 @@ use lib.ListN.{getD}
 use Rattle.bits.specs.Lists.{tabulate}
 use Rattle.bits.specs.Words.{wordOf}
 use Rattle.effects.specs.Scan.{effectWord, latentWord, anyExercised}
-use Rattle.rounds.specs.Steps.{Run, progressOf}
+use Rattle.rounds.specs.Steps.{Run}
 use Rattle.planes.specs.declared.Asked.{Asked}
 use Rattle.planes.specs.Table.{activeAt}
 use Rattle.planes.specs.declared.Board.{Board}
@@ -89,7 +89,7 @@ strokedAt r timers firsts =
 abbrev pub strokedBy : Settings → Words → Run → Stroked
 strokedBy st w r =
     record {
-      board = boardOf (st .count) (progressOf r);
+      board = boardOf (st .count) r;
       effect = effectWord (st .count) (r .slots);
       latent = latentWord (signals st w);
       exercised = anyExercised (signals st w);

@@ -1,5 +1,5 @@
 -- `block::run_kept` meets its contract: the stroke is the run of single scans from the state that the words show.
-use mathlib.Core.Path.{_≡_, refl, sym, subst}
+use mathlib.Core.Path.{refl, sym, subst}
 use borrow.Author.Needs.{needs}
 use denote.Ref.{now}
 use Rattle.planes.specs.declared.Table.{Table}

@@ -1,6 +1,6 @@
 -- `block::run_right` meets its contract: the stroke is the run of single scans, and its records are those of the definitions.
 use mathlib.Core.Path.{_≡_, refl, ap, _∙_}
-use Prim.Native.Nat.{_*_, _≤_}
+use Prim.Native.Nat.{_≤_}
 use borrow.Author.Needs.{needs}
 use denote.Ref.{now}
 use lib.ListN.{length}

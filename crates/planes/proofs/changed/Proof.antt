@@ -1,7 +1,6 @@
 -- `planes::changed` meets its contract: the code is the definition.
 use mathlib.Core.Path.{refl}
 use Rattle.planes.specs.Planes.{changedOf}
-use borrow.Author.Needs.{needs}
 use Rattle.planes.proofs.changed.Statement.{statement}
 use Rattle.planes.proofs.changed.Tie as tie
 

@@ -1,7 +1,6 @@
 -- `planes::planes_after` meets its contract: the code is the definition.
 use mathlib.Core.Path.{refl}
 use Rattle.planes.specs.Planes.{planesAfter}
-use borrow.Author.Needs.{needs}
 use Rattle.planes.proofs.planes_after.Statement.{statement}
 use Rattle.planes.proofs.planes_after.Tie as tie
 

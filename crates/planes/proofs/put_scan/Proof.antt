@@ -3,7 +3,6 @@ use Prim.Native.Nat.{_-_}
 use native.Mathlib.Omega.{arith}
 use borrow.Author.Needs.{needs}
 use lib.Bits.{and-le-r}
-use Rattle.planes.specs.Table.{entry}
 use Rattle.planes.proofs.Records.{Put, begun, finished, roomy, as-long, put-one}
 use Rattle.planes.proofs.put_scan.Statement.{statement}
 use Rattle.planes.proofs.put_scan.Tie as tie
@@ -34,7 +33,6 @@ loop-less c =
     omega (arith, and-le-r r (r - 1))
 
 loop-again : tie.Need-loop-again Inv-loop μ-loop
-unfolding entry
 loop-again c =
     rw (c .wrapping-add-u16 .ensures, c .before .before .before .put-record .ensures, c .before .before .before .before .before .code-at2 .ensures, c .before .before .before .before .before .before .code-at .ensures, c .before .before .before .before .before .before .before .before .lowest .ensures .0)
     (put-one _ _ _ _ _ _ _ _ (c .before .before .before .before .before .before .before .before .before .before .loop .inv) (omega arith))

@@ -9,7 +9,7 @@ use Rattle.planes.specs.Planes.{planesAfter, changedOf}
 use Rattle.planes.specs.Table.{dueAt, quietsBy}
 use Rattle.planes.proofs.Due.{changed-due}
 use Rattle.planes.proofs.Quiet.{quiets-by-le}
-use Rattle.planes.proofs.Rest.{none-low}
+use Rattle.planes.proofs.Low.{none-low}
 use Rattle.planes.proofs.quiets.Statement.{statement}
 use Rattle.planes.proofs.quiets.Tie as tie
 
@@ -39,7 +39,7 @@ returns-3 c =
     let s = k .before .before .before .before in
     let a = s .args in
     rw (changes k, eq-eqb _ 0 (c .before .before .if2 .left))
-    (sym (none-low (a .n) (a .period) (a .p .delayed) (a .count) (now (a .timers)) (s .pre .1) (s .pre .2) (s .pre .3) (c .if3 .taken)))
+    (sym (none-low (a .n) (a .period) (a .p .delayed) (a .count) _ (s .pre .1) (s .pre .2) (s .pre .3) (c .if3 .taken)))
 
 returns-4 : tie.Need-returns-4
 unfolding quietsBy

@@ -8,8 +8,9 @@ use denote.Ref.{now}
 use lib.Bits.{bitXor, and-le-r}
 use lib.ListN.{drop}
 use Rattle.bits.specs.Lists.{tabulate}
+use Rattle.bits.proofs.Words.{bit-xor}
 use Rattle.planes.specs.Table.{firstBy}
-use Rattle.planes.proofs.Bits.{Done, bit-xor, started, ended}
+use Rattle.planes.proofs.Bits.{Done, started, ended}
 use Rattle.planes.proofs.Rest.{stored, new-first, firsts-rest}
 use Rattle.planes.proofs.set_firsts.Statement.{statement}
 use Rattle.planes.proofs.set_firsts.Tie as tie

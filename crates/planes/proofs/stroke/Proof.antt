@@ -1,6 +1,6 @@
 -- `planes::stroke` meets its contract: a turn of the loop is a round, and the rest of the run gives what the whole gives.
 use mathlib.Core.Path.{_≡_, ap}
-use Prim.Native.Nat.{ℕ, _+_, _-_, _≤_}
+use Prim.Native.Nat.{_+_, _-_, _≤_}
 use native.Mathlib.Omega.{arith}
 use borrow.Author.Needs.{needs}
 use denote.Ref.{now}

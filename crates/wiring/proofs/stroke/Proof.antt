@@ -1,10 +1,9 @@
 -- `wiring::stroke` meets its contract: the words are those of what the effects see.
-use mathlib.Core.Path.{_≡_, ap, _∙_}
-use Prim.Native.Nat.{ℕ, _*_, _≤_, _<_}
+use mathlib.Core.Path.{ap, _∙_}
+use Prim.Native.Nat.{_≤_}
 use native.Mathlib.Omega.{arith}
 use borrow.Author.Needs.{needs}
 use denote.Ref.{now}
-use lib.ListN.{length}
 use lib.Seq.{sets}
 use Rattle.effects.specs.Records.{bytes}
 use Rattle.rounds.specs.Steps.{Run}

@@ -1,9 +1,9 @@
--- `planes::table_of` meets its contract, from what its callees ensure.
+-- `planes::words::table_of` meets its contract, from what its callees ensure.
 use Rattle.planes.specs.Planes.{planesOf}
 use Rattle.planes.specs.Table.{tableOf}
 use borrow.Author.Needs.{needs}
-use Rattle.planes.proofs.table_of.Statement.{statement}
-use Rattle.planes.proofs.table_of.Tie as tie
+use Rattle.planes.proofs.words.table_of.Statement.{statement}
+use Rattle.planes.proofs.words.table_of.Tie as tie
 
 returns : tie.Need-returns
 unfolding tableOf planesOf

@@ -1,4 +1,4 @@
--- `planes::timers_of` meets its contract. The loop's invariant: what stands before i is filled, and the rest is 0.
+-- `planes::words::timers_of` meets its contract. The loop's invariant: what stands before i is filled, and the rest is 0.
 use mathlib.Core.Path.{_≡_, refl}
 use mathlib.Core.List.{_++_}
 use Prim.Native.Nat.{_≤_, _-_}
@@ -8,8 +8,8 @@ use Rattle.bits.specs.Lists.{tabulate}
 use Rattle.bits.proofs.Lists.{fill}
 use Rattle.rules.specs.Rules.{noSlot}
 use borrow.Author.Needs.{needs}
-use Rattle.planes.proofs.timers_of.Statement.{statement}
-use Rattle.planes.proofs.timers_of.Tie as tie
+use Rattle.planes.proofs.words.timers_of.Statement.{statement}
+use Rattle.planes.proofs.words.timers_of.Tie as tie
 
 abbrev Inv-loop : tie.InvT-loop
 Inv-loop count xs ts₀ i₀ ts i = (i ≤ count) × (ts ≡ tabulate (λ k. getD xs k noSlot .timer) i ++ drop i (replicate 16 0))

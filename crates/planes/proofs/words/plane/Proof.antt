@@ -1,4 +1,4 @@
--- `planes::plane` meets its contract. The loop's invariant: the word is that of the first i effects.
+-- `planes::words::plane` meets its contract. The loop's invariant: the word is that of the first i effects.
 use mathlib.Core.Path.{_≡_, refl}
 use Prim.Native.Nat.{_≤_, _-_}
 use native.Mathlib.Omega.{arith}
@@ -7,8 +7,8 @@ use Rattle.rules.specs.Rules.{same, noSlot}
 use Rattle.bits.specs.Words.{wordOf}
 use Rattle.bits.proofs.Words.{wordOf-lt, wordOf-more}
 use borrow.Author.Needs.{needs}
-use Rattle.planes.proofs.plane.Statement.{statement}
-use Rattle.planes.proofs.plane.Tie as tie
+use Rattle.planes.proofs.words.plane.Statement.{statement}
+use Rattle.planes.proofs.words.plane.Tie as tie
 
 abbrev Inv-loop : tie.InvT-loop
 Inv-loop count q xs word₀ i₀ word i = (i ≤ count) × (word ≡ wordOf (λ k. same (getD xs k noSlot .state) q) i)

@@ -1,9 +1,9 @@
--- `planes::state_at` meets its contract: each return by the tests that led there.
+-- `planes::words::state_at` meets its contract: each return by the tests that led there.
 use mathlib.Core.Path.{sym, _∙_}
 use borrow.Author.Needs.{needs}
 use Rattle.planes.specs.Planes.{stateAt}
-use Rattle.planes.proofs.state_at.Statement.{statement}
-use Rattle.planes.proofs.state_at.Tie as tie
+use Rattle.planes.proofs.words.state_at.Statement.{statement}
+use Rattle.planes.proofs.words.state_at.Tie as tie
 
 returns : tie.Need-returns
 unfolding stateAt

@@ -1,7 +1,7 @@
--- `planes::slot_of` meets its contract, from what its callees ensure.
+-- `planes::words::slot_of` meets its contract, from what its callees ensure.
 use borrow.Author.Needs.{needs}
-use Rattle.planes.proofs.slot_of.Statement.{statement}
-use Rattle.planes.proofs.slot_of.Tie as tie
+use Rattle.planes.proofs.words.slot_of.Statement.{statement}
+use Rattle.planes.proofs.words.slot_of.Tie as tie
 
 returns : tie.Need-returns
 returns c = rw (c .state-at .ensures)

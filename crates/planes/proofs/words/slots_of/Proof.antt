@@ -1,4 +1,4 @@
--- `planes::slots_of` meets its contract. The loop's invariant: what stands before i is filled, and the rest is of no effect.
+-- `planes::words::slots_of` meets its contract. The loop's invariant: what stands before i is filled, and the rest is of no effect.
 use mathlib.Core.Path.{_≡_, refl}
 use mathlib.Core.List.{_++_}
 use Prim.Native.Nat.{_≤_, _-_}
@@ -10,8 +10,8 @@ use Rattle.bits.proofs.Lists.{fill}
 use Rattle.rules.specs.Rules.{noSlot}
 use Rattle.planes.specs.Planes.{stateAt}
 use Rattle.planes.specs.Table.{slotsOf}
-use Rattle.planes.proofs.slots_of.Statement.{statement}
-use Rattle.planes.proofs.slots_of.Tie as tie
+use Rattle.planes.proofs.words.slots_of.Statement.{statement}
+use Rattle.planes.proofs.words.slots_of.Tie as tie
 
 abbrev Inv-loop : tie.InvT-loop
 Inv-loop count planes timers firsts xs₀ i₀ xs i =
