@@ -7,13 +7,12 @@ use mathlib.Core.List.{List, _++_}
 use mathlib.Core.Logic.{_⊎_}
 use Prim.Native.Nat.{ℕ, suc, _+_, _*_, _≤_, _<_}
 use native.Mathlib.Omega.{arith}
-use lib.Dec.{leb}
 use lib.ListN.{length, getD, take, drop}
 use Rattle.bits.proofs.Numbers.{Bytes}
 use Rattle.settings.specs.declared.Row.{Row}
 use Rattle.settings.specs.declared.Settings.{Settings}
 use Rattle.settings.specs.declared.Limits.{Limits}
-use Rattle.settings.specs.Refusals.{unless, orElse}
+use Rattle.settings.specs.Refusals.{orElse, roomNumber}
 use Rattle.recording.specs.declared.Answer.the-variants as A
 use Rattle.recording.specs.declared.Reading.{Reading}
 use Rattle.recording.specs.declared.Kind.{Kind}
@@ -118,7 +117,7 @@ same-without-reading = same-at-place
 -- ## The writer, of any piece that `n` refuses if it is not 0
 
 -- the number is the piece's own, and 10 last, exactly if it doesn't fit
-pub written-number : (n : ℕ) (piece : List ℕ) (room : ℕ) → writtenNumber (written n piece room) ≡ orElse n (unless (leb (length piece) room) 10)
+pub written-number : (n : ℕ) (piece : List ℕ) (room : ℕ) → writtenNumber (written n piece room) ≡ orElse n (roomNumber (length piece) room)
 written-number = number-of
 
 -- without refusal the piece stands at the front, and the bytes past it as they were

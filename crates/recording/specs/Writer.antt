@@ -1,12 +1,10 @@
 -- What writing a piece comes to, and what the lent bytes are after it. Document 01, "Recordings" and "Refusal numbers".
-use Prim.Native.Nat.{ℕ, zero, suc}
-use mathlib.Core.Bool.{cond}
+use Prim.Native.Nat.{ℕ}
 use mathlib.Core.List.{List, _++_}
-use lib.Dec.{leb}
 use lib.ListN.{length, drop}
 use Rattle.settings.specs.declared.Row.{Row}
 use Rattle.settings.specs.declared.Settings.{Settings}
-use Rattle.settings.specs.Refusals.{unless, orElse}
+use Rattle.settings.specs.Refusals.{unless, orElse, granted, roomNumber}
 use Rattle.settings.specs.Right.{limitsOf, settingsNumber, rowNumber}
 use Rattle.recording.specs.declared.Kind.the-variants.{Rows}
 use Rattle.recording.specs.declared.Written.{Written}
@@ -28,13 +26,11 @@ rowPieceNumber st row = orElse (settingsNumber st) (rowNumber (limitsOf st) row)
 -- ## A piece that `number` refuses if it is not 0, into `room` bytes; 10 last, exactly if it doesn't fit
 
 abbrev pub written : (number : ℕ) (piece : List ℕ) (room : ℕ) → Written
-written zero piece room = cond (leb (length piece) room) (W.Bytes (length piece)) (W.Refused 10)
-written (suc k) piece room = W.Refused (suc k)
+written number piece room = granted (orElse number (roomNumber (length piece) room)) (W.Bytes (length piece)) (λ n. W.Refused n)
 
 -- bytes past the piece stay as they were, and all of them on refusal
 abbrev pub after : (number : ℕ) (piece out : List ℕ) → List ℕ
-after zero piece out = cond (leb (length piece) (length out)) (piece ++ drop (length piece) out) out
-after (suc k) piece out = out
+after number piece out = granted (orElse number (roomNumber (length piece) (length out))) (piece ++ drop (length piece) out) (λ n. out)
 
 -- ## The two pieces
 

@@ -8,6 +8,7 @@ use Rattle.bits.proofs.Lists.{length-mapped}
 use Rattle.recording.proofs.Opening.{opening-count, right-length}
 use Rattle.recording.proofs.Pieces.{piece-refused, piece-short, piece-fits}
 use borrow.Author.Needs.{needs}
+use denote.Ref.{now}
 use Rattle.recording.proofs.writer.write_opening.Statement.{statement}
 use Rattle.recording.proofs.writer.write_opening.Tie as tie
 
@@ -39,7 +40,9 @@ returns-3 : tie.Need-returns-3
 returns-3 c =
     let e = c .before .before .put-opening .ensures in
     let is = c .before .before .before .before .before .entries-of .ensures ∙ ap (λ (k : ℕ). k + 2) (c .before .before .before .before .before .before .rows-section .ensures) in
-    piece-fits _ _ _ _ (c .before .before .before .before .before .before .before .before .before .opening-number .ensures) (c .before .before .before .before .before .before .before .before .if1 .left) _ (omega (arith, e .1, is)) _ (omega (arith, is)) (e .0)
+    let i = c .before .before .before .before .before .before .before .before .before in
+    let a = i .before .before .args in
+    piece-fits _ _ (opening (a .st) (a .rows)) (now (a .out)) (i .opening-number .ensures) (c .before .before .before .before .before .before .before .before .if1 .left) _ (omega (arith, e .1, is)) _ (omega (arith, is)) (e .0)
 
 pub write-opening-spec : {M : Type 1} → statement M
 write-opening-spec =
