@@ -14,8 +14,9 @@ use Rattle.recording.specs.Reader.{reading}
 use Rattle.recording.specs.Answers.{rowCount}
 use Rattle.recording.specs.Steps.{rowsOf}
 use Rattle.recording.specs.Encode.{opening, All}
-use Rattle.recording.specs.Writer.{after, rowPieceNumber, rowAfter}
-use Rattle.recording.proofs.Theorems.{Accepted, written-as-read}
+use Rattle.recording.proofs.Theorems.{Accepted}
+use Rattle.writing.specs.Writer.{after, rowPieceNumber, rowAfter}
+use Rattle.writing.proofs.Theorems.{written-as-read}
 use Rattle.demands.specs.Back.{writtenBack}
 
 -- a piece that nothing refuses, in a buffer that it fills, is what stands there

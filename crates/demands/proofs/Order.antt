@@ -24,11 +24,11 @@ use Rattle.recording.specs.declared.Kind.the-variants.{Rows}
 use Rattle.recording.specs.Sections as sections
 use Rattle.recording.specs.Entries.{putRow}
 use Rattle.recording.specs.Encode.{opening}
-use Rattle.recording.specs.declared.Written.{Written}
-use Rattle.recording.specs.declared.Written.the-variants as W
-use Rattle.recording.specs.Answers.{writtenNumber, writtenPlace, writtenLength}
-use Rattle.recording.specs.Writer.{openingNumber, rowPieceNumber, written, after}
-use Rattle.recording.proofs.Theorems.{written-number, refused-piece}
+use Rattle.writing.specs.declared.Written.{Written}
+use Rattle.writing.specs.declared.Written.the-variants as W
+use Rattle.writing.specs.Answers.{writtenNumber, writtenPlace, writtenLength}
+use Rattle.writing.specs.Writer.{openingNumber, rowPieceNumber, written, after}
+use Rattle.writing.proofs.Theorems.{written-number, refused-piece}
 use Rattle.demands.specs.Order.{Case, _when_, firstOf, InOrder, settingsCases, wordsCases, rowCases, stateCases, scansCases, roomCases, heldCases, scanCases, openingCases, rowPieceCases}
 
 -- ## Any table

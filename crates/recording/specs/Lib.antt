@@ -4,6 +4,5 @@ pub mod Reader
 pub mod Answers
 pub mod Steps
 pub mod Encode
-pub mod Writer
 pub mod Refused
 pub mod Barred
