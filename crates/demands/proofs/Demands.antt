@@ -14,7 +14,7 @@ use denote.Ref.{RefT, now}
 use lib.ListN.{length, getD, drop}
 use lib.Seq.{sets}
 use Rattle.bits.specs.Words.{bitOf}
-use Rattle.bits.proofs.Numbers.{Bytes}
+use Rattle.bits.specs.Numbers.{Bytes}
 use Rattle.bits.proofs.Words.{bit-wordOf, wordOf-lt}
 use Rattle.rules.specs.declared.Slot.{Slot}
 use Rattle.rules.specs.Rules as rules
@@ -57,8 +57,8 @@ use Rattle.recording.specs.Answers.{number, place, rowCount, firstRow, rowWidth
 use Rattle.recording.specs.Steps.{stepAt, rowsOf}
 use Rattle.recording.specs.Encode.{encode, opening, Right}
 use Rattle.recording.specs.Refused.{Refused}
+use Rattle.recording.specs.Accepted.{Accepted, Answers}
 use Rattle.recording.proofs.Theorems as recording
-use Rattle.recording.proofs.Theorems.{Accepted, Answers}
 use Rattle.writing.specs.declared.Written.{Written}
 use Rattle.writing.specs.Answers.{writtenNumber, writtenPlace, writtenLength}
 use Rattle.writing.specs.Writer.{openingNumber, openingWritten, openingAfter, rowPieceNumber, rowWritten, rowAfter}

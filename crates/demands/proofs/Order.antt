@@ -24,8 +24,6 @@ use Rattle.recording.specs.declared.Kind.the-variants.{Rows}
 use Rattle.recording.specs.Sections as sections
 use Rattle.recording.specs.Entries.{putRow}
 use Rattle.recording.specs.Encode.{opening}
-use Rattle.writing.specs.declared.Written.{Written}
-use Rattle.writing.specs.declared.Written.the-variants as W
 use Rattle.writing.specs.Answers.{writtenNumber, writtenPlace, writtenLength}
 use Rattle.writing.specs.Writer.{openingNumber, rowPieceNumber, written, after}
 use Rattle.writing.proofs.Theorems.{written-number, refused-piece}
@@ -92,18 +90,9 @@ module _ {A : Type 0} (num : A → ℕ) (yes : A) (no : ℕ → A) (left out : L
   granted-in-order (suc n) cs t = record { first = own (suc n) ∙ t .first; otherwise = λ h. (ap no (sym (own (suc n))), refl) }
 
 -- a piece that the writer writes
-no-place : (a : Written) → writtenPlace a ≡ 0
-no-place (W.Bytes n) = refl
-no-place (W.Refused k) = refl
-
 pub piece-in-order : (n : ℕ) (piece out : List ℕ) (cs : List Case) → Table (orElse n (roomNumber (length piece) (length out))) cs
     → let a = written n piece (length out) in InOrder cs (writtenNumber a) ((writtenPlace a ≡ 0) × (writtenLength a ≡ 0) × (after n piece out ≡ out))
-piece-in-order n piece out cs t =
-    let a = written n piece (length out) in
-    record {
-      first = written-number n piece (length out) ∙ t .first;
-      otherwise = λ h. let k = refused-piece n piece out h in (no-place a, k .0, k .1);
-    }
+piece-in-order n piece out cs t = record { first = written-number n piece (length out) ∙ t .first; otherwise = refused-piece n piece out }
 
 -- ## Its parts
 

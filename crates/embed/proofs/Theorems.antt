@@ -13,7 +13,7 @@ use Rattle.settings.proofs.Refusals.{or-else-first, or-else-next, or-else-none}
 use Rattle.settings.proofs.Right.{count-few}
 use Rattle.recording.specs.Answers.{number, rowCount}
 use Rattle.recording.specs.Reader.{reading}
-use Rattle.recording.proofs.Theorems.{Accepted}
+use Rattle.recording.specs.Accepted.{Accepted}
 use Rattle.rerun.specs.declared.Replayed.{Replayed}
 use Rattle.rerun.specs.Replay.{Outcome, replay, answered}
 use Rattle.rerun.proofs.Rows.{first-alone, granted-none, granted-refused, granted-either}

@@ -7,7 +7,7 @@ use mathlib.Core.Logic.{_⊎_}
 use Prim.Native.Nat.{ℕ, suc, _+_, _*_, _≤_, _<_}
 use native.Mathlib.Omega.{arith}
 use lib.ListN.{length, getD, take}
-use Rattle.bits.proofs.Numbers.{Bytes}
+use Rattle.bits.specs.Numbers.{Bytes}
 use Rattle.settings.specs.declared.Row.{Row}
 use Rattle.settings.specs.declared.Settings.{Settings}
 use Rattle.settings.specs.declared.Limits.{Limits}
@@ -18,6 +18,7 @@ use Rattle.recording.specs.Entries.{rowAt, putRow, putAll}
 use Rattle.recording.specs.Reader.{refusal, reading}
 use Rattle.recording.specs.Answers.{number, place, rowCount, firstRow, rowWidth, sectionNumber, sectionPlace, ended, noRow, stepRow, nextPlace}
 use Rattle.recording.specs.Steps.{rowIn, stepAt, rowsOf}
+use Rattle.recording.specs.Accepted.{Accepted, Answers}
 use Rattle.recording.specs.Encode.{encode, opening, Right}
 use Rattle.recording.specs.Sections.{sectionOf}
 use Rattle.recording.specs.Refused.{Stops, Refused}
@@ -28,20 +29,6 @@ use Rattle.recording.proofs.Numbers.{not-accepted-refused, reading-numb
 use Rattle.recording.proofs.Front.{reading-of-front}
 use Rattle.recording.proofs.Exact.{complete, rows-are-back, spare, length-encode}
 use Rattle.recording.proofs.Trips.{accepted-encodes, accepted-right, first-row-place, accepted-case as case-of, length-rowsOf, in-pieces}
-
--- the reader accepts
-abbrev pub Accepted : List ℕ → Type 0
-Accepted s = number (reading s .answer) ≡ 0
-
--- the answer is these settings and so many rows
-abbrev pub Answers : List ℕ → Settings → List Row → Type 0
-Answers s st rows =
-    (number (reading s .answer) ≡ 0)
-    × (reading s .settings ≡ st)
-    × (rowCount (reading s .answer) ≡ length rows)
-    × (firstRow (reading s .answer) ≡ 10 + 6 * st .count)
-    × (rowWidth (reading s .answer) ≡ 24)
-    × (rowsOf s ≡ rows)
 
 -- ## Exactness
 

@@ -11,7 +11,7 @@ use Rattle.settings.proofs.Refusals.{granted-none, granted-refused}
 use Rattle.settings.proofs.Answers.{answers-refused, answers-no-room, answers-granted}
 use Rattle.writing.specs.declared.Written.{Written}
 use Rattle.writing.specs.declared.Written.the-variants as W
-use Rattle.writing.specs.Answers.{writtenNumber, writtenLength}
+use Rattle.writing.specs.Answers.{writtenNumber, writtenPlace, writtenLength}
 use Rattle.writing.specs.Writer.{written, after}
 
 module _ (num res : ℕ) (piece out : List ℕ) (is : res ≡ num) where
@@ -53,10 +53,12 @@ module _ (n : ℕ) (piece out : List ℕ) where
         granted-none (piece ++ drop (length piece) out) (λ k. out) number none,
       )
 
-  pub untouched : (writtenNumber (written n piece (length out)) ≡ 0 → ⊥)
-      → (writtenLength (written n piece (length out)) ≡ 0) × (after n piece out ≡ out)
+  pub untouched : let a = written n piece (length out) in (writtenNumber a ≡ 0 → ⊥)
+      → (writtenPlace a ≡ 0) × (writtenLength a ≡ 0) × (after n piece out ≡ out)
   untouched h =
-      let some : number ≡ 0 → ⊥ = λ z. h (number-of n piece (length out) ∙ z) in (
-        ap writtenLength (granted-refused (W.Bytes (length piece)) (λ k. W.Refused k) number some),
+      let some : number ≡ 0 → ⊥ = λ z. h (number-of n piece (length out) ∙ z) in
+      let is = granted-refused (W.Bytes (length piece)) (λ k. W.Refused k) number some in (
+        ap writtenPlace is,
+        ap writtenLength is,
         granted-refused (piece ++ drop (length piece) out) (λ k. out) number some,
       )

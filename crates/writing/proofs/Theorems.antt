@@ -5,7 +5,7 @@ use mathlib.Core.Path.{_≡_, sym, _∙_}
 use mathlib.Core.List.{List, _++_}
 use Prim.Native.Nat.{ℕ}
 use lib.ListN.{length, drop}
-use Rattle.bits.proofs.Numbers.{Bytes}
+use Rattle.bits.specs.Numbers.{Bytes}
 use Rattle.settings.specs.declared.Row.{Row}
 use Rattle.settings.specs.declared.Settings.{Settings}
 use Rattle.settings.specs.Refusals.{orElse, roomNumber}
@@ -14,8 +14,9 @@ use Rattle.recording.specs.Reader.{reading}
 use Rattle.recording.specs.Answers.{rowCount}
 use Rattle.recording.specs.Steps.{rowsOf}
 use Rattle.recording.specs.Encode.{opening, All}
-use Rattle.recording.proofs.Theorems.{Accepted, Answers, accepted-is-encoding, encoding-is-accepted, encoding-in-pieces, rows-counted}
-use Rattle.writing.specs.Answers.{writtenNumber, writtenLength}
+use Rattle.recording.specs.Accepted.{Accepted, Answers}
+use Rattle.recording.proofs.Theorems.{accepted-is-encoding, encoding-is-accepted, encoding-in-pieces, rows-counted}
+use Rattle.writing.specs.Answers.{writtenNumber, writtenPlace, writtenLength}
 use Rattle.writing.specs.Writer.{openingNumber, rowPieceNumber, written, after}
 use Rattle.writing.proofs.Pieces.{number-of, stands, untouched}
 use Rattle.writing.proofs.Passes.{right-passes, passes-right}
@@ -49,7 +50,7 @@ pub written-piece : (n : ℕ) (piece out : List ℕ) → writtenNumber (written 
     → (writtenLength (written n piece (length out)) ≡ length piece) × (after n piece out ≡ piece ++ drop (length piece) out)
 written-piece = stands
 
--- on refusal no byte is touched, and the length is 0
-pub refused-piece : (n : ℕ) (piece out : List ℕ) → (writtenNumber (written n piece (length out)) ≡ 0 → ⊥)
-    → (writtenLength (written n piece (length out)) ≡ 0) × (after n piece out ≡ out)
+-- on refusal the place is 0, as it is outside the reader, the length is 0, and no byte is touched
+pub refused-piece : (n : ℕ) (piece out : List ℕ) → let a = written n piece (length out) in (writtenNumber a ≡ 0 → ⊥)
+    → (writtenPlace a ≡ 0) × (writtenLength a ≡ 0) × (after n piece out ≡ out)
 refused-piece = untouched
