@@ -9,12 +9,8 @@ use lib.ListN.{length, getD, take, drop, set, length-append}
 use lib.Seq.{sets, drop-cons, getD-at, take-add, drop-drop}
 use lib.Pow.{pow-add}
 use lib.Arith.{digits-div, digits-mod, digits-lt, mod-mul}
-use Rattle.bits.specs.Numbers.{numAt, lowAt, turned, digits}
+use Rattle.bits.specs.Numbers.{Bytes, numAt, lowAt, turned, digits}
 use Rattle.bits.specs.Layout.{total, fieldsAt, pack}
-
--- every element is a byte: what owning a slice of bytes tells
-abbrev pub Bytes : List ℕ → Type 0
-Bytes s = (i : ℕ) → getD s i 0 < 256
 
 -- as many numbers as the layout has, each within its width
 abbrev pub Fit : List ℕ → List ℕ → Type 0

@@ -1,8 +1,12 @@
 -- A number of w bytes, the highest first: read at a place of a list of bytes, and written as a list. Document 01, "Recordings"
 -- and "The rules of one scan": big-endian.
-use Prim.Native.Nat.{ℕ, zero, suc, _+_, _*_, _/_, _%_, _^_}
+use Prim.Native.Nat.{ℕ, zero, suc, _+_, _*_, _/_, _%_, _^_, _<_}
 use mathlib.Core.List.{List, [], _∷_}
 use lib.ListN.{getD}
+
+-- every element is a byte: what owning a slice of bytes tells
+abbrev pub Bytes : List ℕ → Type 0
+Bytes s = (i : ℕ) → getD s i 0 < 256
 
 -- the number that the w bytes from `at` spell
 abbrev pub numAt : ℕ → List ℕ → ℕ → ℕ

@@ -6,13 +6,13 @@ use native.Mathlib.Omega.{arith}
 use lib.ListN.{length}
 use Rattle.settings.specs.declared.Settings.{Settings}
 use Rattle.settings.specs.declared.Words.{Words}
-use Rattle.settings.specs.Refusals.{orElse}
+use Rattle.settings.specs.Refusals.{orElse, granted, roomNumber}
 use Rattle.settings.specs.Right.{limitsOf}
 use Rattle.settings.proofs.Right.{row-words}
 use Rattle.block.specs.declared.State.{State}
 use Rattle.block.specs.declared.Scanned.{Scanned}
 use Rattle.block.specs.declared.Held.{Held}
-use Rattle.block.specs.Scan.{inputNumber, roomNumber, granted, once, events, scanNumber, scanOf, scanInto, grantedScan, refusedScan}
+use Rattle.block.specs.Scan.{inputNumber, once, events, scanNumber, scanOf, scanInto, grantedScan, refusedScan}
 use Rattle.block.specs.Held.{run, heldNumber, heldOf, heldInto, grantedHeld, refusedHeld}
 use Rattle.block.specs.Run.{scannedBy}
 use Rattle.block.proofs.Answers.{settings-right, state-right, row-right, countable}
@@ -45,7 +45,7 @@ pub scan-is-held : (st : Settings) (w : Words) (x : State) (room : ℕ) (h : Hel
 unfolding heldOf scanOf heldNumber scanNumber
 scan-is-held st w x room h e =
     ap scannedBy e
-    ∙ alike (grantedHeld st (once w) x) (grantedScan st w x) x (inputNumber st x (once w)) (roomNumber (length (run st (once w) x .events)) room) (once-answer st w x)
+    ∙ alike (grantedHeld st (once w) x) (grantedScan st w x) x (inputNumber st x (once w)) (roomNumber (12 * length (run st (once w) x .events)) room) (once-answer st w x)
     ∙ ap (λ (n : ℕ). granted n (grantedScan st w x) (refusedScan x)) (once-number st w x room)
 
 pub scan-into-held : (st : Settings) (w : Words) (x : State) (out : List ℕ) → heldInto st (once w) x out ≡ scanInto st w x out

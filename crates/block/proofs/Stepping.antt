@@ -15,12 +15,12 @@ use Rattle.settings.specs.declared.Words.{Words}
 use Rattle.settings.specs.Limits.{mostScans}
 use Rattle.settings.specs.Right.{limitsOf, settingsNumber, wordsNumber}
 use Rattle.settings.specs.Signals.{signals}
+use Rattle.settings.proofs.Answers.{granted-in-room}
 use Rattle.block.specs.declared.State.{State}
 use Rattle.block.specs.declared.Scanned.{Scanned}
 use Rattle.block.specs.State.{stateNumber}
 use Rattle.block.specs.Scan.{inputNumber, once, after, events, scanNumber, grantedScan, refusedScan, scanOf}
 use Rattle.block.specs.Held.{later, Stepped, single, step, stepped}
-use Rattle.block.proofs.Answers.{granted-in-room}
 use Rattle.block.proofs.Later.{later-right, once-right, signals-later, latent-clear, exercised-clear}
 use Rattle.block.proofs.RightStates.{scan-keeps-right}
 
@@ -49,7 +49,7 @@ module _ (st : Settings) (right : settingsNumber st ≡ 0) where
       → scanOf st w x room ≡ grantedScan st w x
   unfolding scanOf scanNumber
   scan-accepted w x room ok state h fits =
-      sym (granted-in-room (inputNumber st x (once w)) (length (events st w x)) room 0 (sym (input-accepted w x ok state h)) (grantedScan st w x) (refusedScan x) refl fits)
+      sym (granted-in-room (inputNumber st x (once w)) (12 * length (events st w x)) room 0 (sym (input-accepted w x ok state h)) (grantedScan st w x) (refusedScan x) refl fits)
 
   -- what can go on for n scans more
   pub record Ready (w : Words) (n : ℕ) (x : State) : Type 0 where

@@ -20,13 +20,13 @@ use Rattle.settings.specs.declared.Row.{Row}
 use Rattle.settings.specs.Limits.{mostScans}
 use Rattle.settings.specs.Right.{limitsOf, settingsNumber, wordsNumber, rowNumber}
 use Rattle.settings.specs.Signals.{signals, signalsOf}
+use Rattle.settings.proofs.Answers.{granted-in-room}
 use Rattle.settings.proofs.Right.{row-words}
 use Rattle.block.specs.declared.State.{State}
 use Rattle.block.specs.declared.Scanned.{Scanned}
 use Rattle.block.specs.State.{stateNumber, fresh}
 use Rattle.block.specs.Scan.{inputNumber, atFront, events, scanOf, grantedScan}
 use Rattle.block.specs.Held.{start, stepped, run, grantedHeld, refusedHeld, heldNumber, heldOf, heldInto}
-use Rattle.block.proofs.Answers.{granted-in-room}
 use Rattle.block.proofs.Later.{signals-timed}
 use Rattle.block.proofs.RightStates as states
 use Rattle.block.proofs.Runs as runs
@@ -69,8 +69,8 @@ module _ (st : Settings) (row : Row) (x : State) (settings : settingsNumber st �
       → (heldOf st row x (length out) ≡ grantedHeld st row x) × (heldInto st row x out ≡ atFront (run st row x .events) out)
   unfolding heldOf heldInto heldNumber
   one-stroke-is-single-scans out fits = (
-    sym (granted-in-room (inputNumber st x row) (length (run st row x .events)) (length out) 0 (sym right-input-is-accepted) (grantedHeld st row x) (refusedHeld x) refl fits),
-    sym (granted-in-room (inputNumber st x row) (length (run st row x .events)) (length out) 0 (sym right-input-is-accepted) (atFront (run st row x .events) out) (λ n. out) refl fits),
+    sym (granted-in-room (inputNumber st x row) (12 * length (run st row x .events)) (length out) 0 (sym right-input-is-accepted) (grantedHeld st row x) (refusedHeld x) refl fits),
+    sym (granted-in-room (inputNumber st x row) (12 * length (run st row x .events)) (length out) 0 (sym right-input-is-accepted) (atFront (run st row x .events) out) (λ n. out) refl fits),
   )
 
   -- rounds, as many as twice the effects and one, come to those single scans

@@ -8,12 +8,12 @@ use Rattle.effects.specs.Scan.{anyMoved, anyExercised}
 use Rattle.settings.specs.declared.Settings.{Settings}
 use Rattle.settings.specs.declared.Words.{Words}
 use Rattle.settings.specs.declared.Row.{Row}
-use Rattle.settings.specs.Refusals.{orElse}
+use Rattle.settings.specs.Refusals.{orElse, granted, roomNumber}
 use Rattle.settings.specs.Signals.{signals}
 use Rattle.block.specs.declared.State.{State}
 use Rattle.block.specs.declared.Scanned.{Scanned}
 use Rattle.block.specs.declared.Held.{Held}
-use Rattle.block.specs.Scan.{inputNumber, roomNumber, granted, atFront, events, scanOf}
+use Rattle.block.specs.Scan.{inputNumber, atFront, events, scanOf}
 
 -- the words of the scans after the first: the reset word counts in the first scan and is zero afterwards
 abbrev pub later : Words → Words
@@ -70,7 +70,7 @@ unfoldable pub run : Settings → Row → State → Stepped
 run st row x = stepped st (row .words) (row .hold) (start x)
 
 unfoldable pub heldNumber : Settings → Row → State → (room : ℕ) → ℕ
-heldNumber st row x room = orElse (inputNumber st x row) (roomNumber (length (run st row x .events)) room)
+heldNumber st row x room = orElse (inputNumber st x row) (roomNumber (12 * length (run st row x .events)) room)
 
 abbrev pub refusedHeld : State → ℕ → Held
 refusedHeld x number =

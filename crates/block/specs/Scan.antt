@@ -1,5 +1,5 @@
 -- One scan of the block, refusals too. Document 01, "The rules of one scan" and "Refusal numbers".
-use Prim.Native.Nat.{ℕ, zero, suc, _+_, _*_}
+use Prim.Native.Nat.{ℕ, _+_, _*_}
 use mathlib.Core.List.{List, _++_}
 use lib.Dec.{leb}
 use lib.ListN.{length, drop}
@@ -10,7 +10,7 @@ use Rattle.settings.specs.declared.Settings.{Settings}
 use Rattle.settings.specs.declared.Words.{Words}
 use Rattle.settings.specs.declared.Row.{Row}
 use Rattle.settings.specs.Limits.{mostScans}
-use Rattle.settings.specs.Refusals.{unless, orElse}
+use Rattle.settings.specs.Refusals.{unless, orElse, granted, roomNumber}
 use Rattle.settings.specs.Right.{limitsOf, settingsNumber, rowNumber}
 use Rattle.settings.specs.Signals.{signals}
 use Rattle.block.specs.declared.State.{State}
@@ -23,20 +23,11 @@ use Rattle.block.specs.State.{stateNumber}
 abbrev pub scansNumber : (done hold : ℕ) → ℕ
 scansNumber done hold = unless (leb (done + hold) mostScans) 9
 
--- 10: room below 12 bytes times the records due
-abbrev pub roomNumber : (due room : ℕ) → ℕ
-roomNumber due room = unless (leb (12 * due) room) 10
-
 -- the order in a scan or held run: settings (2, 3), state (8), row (4, 5, 6), 9; then 10
 unfoldable pub inputNumber : Settings → State → Row → ℕ
 inputNumber st x row =
     orElse (settingsNumber st)
     (orElse (stateNumber st x) (orElse (rowNumber (limitsOf st) row) (scansNumber (x .done) (row .hold))))
-
--- what is given where nothing is refused, and else for the refusal's number
-abbrev pub granted : {A : Type 0} → ℕ → A → (ℕ → A) → A
-granted zero a refused = a
-granted (suc k) a refused = refused (suc k)
 
 -- the records at the front of a lent buffer; bytes past the last record stay as they were
 abbrev pub atFront : List Event → List ℕ → List ℕ
@@ -62,7 +53,7 @@ unfoldable pub events : Settings → Words → State → List Event
 events st w x = eventsFrom (x .next) (x .done + 1) 1 (signals st w) (x .slots)
 
 unfoldable pub scanNumber : Settings → Words → State → (room : ℕ) → ℕ
-scanNumber st w x room = orElse (inputNumber st x (once w)) (roomNumber (length (events st w x)) room)
+scanNumber st w x room = orElse (inputNumber st x (once w)) (roomNumber (12 * length (events st w x)) room)
 
 -- a refusal returns its number, place 0, the given state, and zeros
 abbrev pub refusedScan : State → ℕ → Scanned

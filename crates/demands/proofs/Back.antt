@@ -6,7 +6,7 @@ use native.Mathlib.Omega.{arith}
 use borrow.Author.Tests.{le-leb}
 use lib.ListN.{length, drop}
 use lib.Seq.{drop-length}
-use Rattle.bits.proofs.Numbers.{Bytes}
+use Rattle.bits.specs.Numbers.{Bytes}
 use Rattle.settings.specs.declared.Row.{Row}
 use Rattle.settings.specs.declared.Settings.{Settings}
 use Rattle.recording.specs.Entries.{putRow, putAll}
@@ -14,8 +14,9 @@ use Rattle.recording.specs.Reader.{reading}
 use Rattle.recording.specs.Answers.{rowCount}
 use Rattle.recording.specs.Steps.{rowsOf}
 use Rattle.recording.specs.Encode.{opening, All}
-use Rattle.recording.specs.Writer.{after, rowPieceNumber, rowAfter}
-use Rattle.recording.proofs.Theorems.{Accepted, written-as-read}
+use Rattle.recording.specs.Accepted.{Accepted}
+use Rattle.writing.specs.Writer.{after, rowPieceNumber, rowAfter}
+use Rattle.writing.proofs.Theorems.{written-as-read}
 use Rattle.demands.specs.Back.{writtenBack}
 
 -- a piece that nothing refuses, in a buffer that it fills, is what stands there

@@ -14,7 +14,7 @@ use denote.Ref.{RefT, now}
 use lib.ListN.{length, getD, drop}
 use lib.Seq.{sets}
 use Rattle.bits.specs.Words.{bitOf}
-use Rattle.bits.proofs.Numbers.{Bytes}
+use Rattle.bits.specs.Numbers.{Bytes}
 use Rattle.bits.proofs.Words.{bit-wordOf, wordOf-lt}
 use Rattle.rules.specs.declared.Slot.{Slot}
 use Rattle.rules.specs.Rules as rules
@@ -44,23 +44,24 @@ use Rattle.block.proofs.State.scan.Reads as scan
 use Rattle.block.proofs.State.held.Reads as held
 use Rattle.recording.proofs.read.Reads as read
 use Rattle.recording.proofs.row_step.Reads as row-step
-use Rattle.recording.proofs.write_opening.Reads as write-opening
-use Rattle.recording.proofs.write_row.Reads as write-row
+use Rattle.writing.proofs.write_opening.Reads as write-opening
+use Rattle.writing.proofs.write_row.Reads as write-row
 use Rattle.rerun.proofs.replay.Reads as whole-file
 use Rattle.embed.proofs.pohandira_check.Reads as crossed-check
 use Rattle.embed.proofs.pohandira_replay.Reads as crossed-replay
 use Rattle.recording.specs.declared.Reading.{Reading}
 use Rattle.recording.specs.declared.Step.{Step}
-use Rattle.recording.specs.declared.Written.{Written}
 use Rattle.recording.specs.Reader.{refusal, reading}
 use Rattle.recording.specs.Entries.{putRow}
-use Rattle.recording.specs.Answers.{number, place, rowCount, firstRow, rowWidth, ended, writtenNumber, writtenPlace, writtenLength}
+use Rattle.recording.specs.Answers.{number, place, rowCount, firstRow, rowWidth, ended}
 use Rattle.recording.specs.Steps.{stepAt, rowsOf}
 use Rattle.recording.specs.Encode.{encode, opening, Right}
 use Rattle.recording.specs.Refused.{Refused}
-use Rattle.recording.specs.Writer.{openingNumber, openingWritten, openingAfter, rowPieceNumber, rowWritten, rowAfter}
+use Rattle.recording.specs.Accepted.{Accepted, Answers}
 use Rattle.recording.proofs.Theorems as recording
-use Rattle.recording.proofs.Theorems.{Accepted, Answers}
+use Rattle.writing.specs.declared.Written.{Written}
+use Rattle.writing.specs.Answers.{writtenNumber, writtenPlace, writtenLength}
+use Rattle.writing.specs.Writer.{openingNumber, openingWritten, openingAfter, rowPieceNumber, rowWritten, rowAfter}
 use Rattle.walk.specs.declared.Walk.{Walk}
 use Rattle.walk.specs.Walks.{startOf, nextOf, movedOn}
 use Rattle.walk.proofs.Theorems as walk

@@ -21,6 +21,10 @@ use Rattle.bits.proofs.put_decimal.Reads as bits·put-decimal
 use Rattle.effects.proofs.event_at.Reads as effects·event-at
 use Rattle.effects.proofs.put_record.Reads as effects·put-record
 use Rattle.recording.proofs.row_at.Reads as recording·row-at
+use Rattle.recording.proofs.entries_of.Reads as recording·entries-of
+use Rattle.recording.proofs.width_of.Reads as recording·width-of
+use Rattle.recording.proofs.number_of.Reads as recording·number-of
+use Rattle.recording.proofs.count_ok.Reads as recording·count-ok
 use Rattle.block.proofs.run_right.Reads as block·run-right
 use Rattle.block.proofs.run_kept.Reads as block·run-kept
 use Rattle.block.proofs.fresh_board.Reads as block·fresh-board
@@ -117,10 +121,22 @@ effects-event-at κs = by-equation (effects·event-at.Learnt κs) _ (λ a r e h.
 pub effects-put-record : (κs : Lfts 1) → Unique (effects·put-record.Learnt κs) (λ e. now (e .0))
 effects-put-record κs = by-equations (effects·put-record.Learnt κs) (λ e. now (e .0)) (λ a. tt) _ (λ a r e h. (refl, h))
 
--- ## A row at a known place (`recording`)
+-- ## A row at a known place, and the table of sections (`recording`)
 
 pub recording-row-at : (κs : Lfts 1) → Unique (recording·row-at.Learnt κs) none
 recording-row-at κs = by-equation (recording·row-at.Learnt κs) _ (λ a r e h. h)
+
+pub recording-entries-of : (κs : Lfts 0) → Unique (recording·entries-of.Learnt κs) none
+recording-entries-of κs = by-equation (recording·entries-of.Learnt κs) _ (λ a r e h. h)
+
+pub recording-width-of : (κs : Lfts 0) → Unique (recording·width-of.Learnt κs) none
+recording-width-of κs = by-equation (recording·width-of.Learnt κs) _ (λ a r e h. h)
+
+pub recording-number-of : (κs : Lfts 0) → Unique (recording·number-of.Learnt κs) none
+recording-number-of κs = by-equation (recording·number-of.Learnt κs) _ (λ a r e h. h)
+
+pub recording-count-ok : (κs : Lfts 0) → Unique (recording·count-ok.Learnt κs) none
+recording-count-ok κs = by-equation (recording·count-ok.Learnt κs) _ (λ a r e h. h)
 
 -- ## A held run without its checks (`block`)
 

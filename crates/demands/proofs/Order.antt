@@ -14,21 +14,19 @@ use Rattle.settings.specs.declared.Words.{Words}
 use Rattle.settings.specs.declared.Row.{Row}
 use Rattle.settings.specs.declared.Limits.{Limits}
 use Rattle.settings.specs.Limits.{mostHold, mostScans}
-use Rattle.settings.specs.Refusals.{unless, orElse}
+use Rattle.settings.specs.Refusals.{unless, orElse, granted, roomNumber}
 use Rattle.settings.specs.Right.{blockOk, countOk, slotOk, limitsOf, settingsNumber, wordsOk, apart, several, wordsNumber, rowNumber}
 use Rattle.block.specs.declared.State.{State}
 use Rattle.block.specs.State.{stateOk, stateNumber}
-use Rattle.block.specs.Scan.{scansNumber, roomNumber, inputNumber, granted, once, events, scanNumber}
+use Rattle.block.specs.Scan.{scansNumber, inputNumber, once, events, scanNumber}
 use Rattle.block.specs.Held.{run, heldNumber}
 use Rattle.recording.specs.declared.Kind.the-variants.{Rows}
 use Rattle.recording.specs.Sections as sections
 use Rattle.recording.specs.Entries.{putRow}
 use Rattle.recording.specs.Encode.{opening}
-use Rattle.recording.specs.declared.Written.{Written}
-use Rattle.recording.specs.declared.Written.the-variants as W
-use Rattle.recording.specs.Answers.{writtenNumber, writtenPlace, writtenLength}
-use Rattle.recording.specs.Writer.{openingNumber, rowPieceNumber, written, after}
-use Rattle.recording.proofs.Theorems.{written-number, refused-piece}
+use Rattle.writing.specs.Answers.{writtenNumber, writtenPlace, writtenLength}
+use Rattle.writing.specs.Writer.{openingNumber, rowPieceNumber, written, after}
+use Rattle.writing.proofs.Theorems.{written-number, refused-piece}
 use Rattle.demands.specs.Order.{Case, _when_, firstOf, InOrder, settingsCases, wordsCases, rowCases, stateCases, scansCases, roomCases, heldCases, scanCases, openingCases, rowPieceCases}
 
 -- ## Any table
@@ -92,18 +90,9 @@ module _ {A : Type 0} (num : A → ℕ) (yes : A) (no : ℕ → A) (left out : L
   granted-in-order (suc n) cs t = record { first = own (suc n) ∙ t .first; otherwise = λ h. (ap no (sym (own (suc n))), refl) }
 
 -- a piece that the writer writes
-no-place : (a : Written) → writtenPlace a ≡ 0
-no-place (W.Bytes n) = refl
-no-place (W.Refused k) = refl
-
-pub piece-in-order : (n : ℕ) (piece out : List ℕ) (cs : List Case) → Table (orElse n (unless (leb (length piece) (length out)) 10)) cs
+pub piece-in-order : (n : ℕ) (piece out : List ℕ) (cs : List Case) → Table (orElse n (roomNumber (length piece) (length out))) cs
     → let a = written n piece (length out) in InOrder cs (writtenNumber a) ((writtenPlace a ≡ 0) × (writtenLength a ≡ 0) × (after n piece out ≡ out))
-piece-in-order n piece out cs t =
-    let a = written n piece (length out) in
-    record {
-      first = written-number n piece (length out) ∙ t .first;
-      otherwise = λ h. let k = refused-piece n piece out h in (no-place a, k .0, k .1);
-    }
+piece-in-order n piece out cs t = record { first = written-number n piece (length out) ∙ t .first; otherwise = refused-piece n piece out }
 
 -- ## Its parts
 
@@ -135,27 +124,27 @@ scans-in-order x row = beyond (x .done + row .hold) mostScans 8
 
 -- ## The order at each entry point
 
--- the input, and then the room for so many records
+-- the input, and then the room for so many bytes
 run-in-order : (st : Settings) (row : Row) (x : State) (due room : ℕ) → Table (orElse (inputNumber st x row) (roomNumber due room))
-    (settingsCases st ++ stateCases st x ++ rowCases (limitsOf st) row ++ scansCases x row ++ roomCases (12 * due) room)
+    (settingsCases st ++ stateCases st x ++ rowCases (limitsOf st) row ++ scansCases x row ++ roomCases due room)
 unfolding inputNumber
 run-in-order st row x due room =
-    then (then (settings-in-order st) (then (state-in-order st x) (then (row-in-order (limitsOf st) row) (scans-in-order x row)))) (beyond (12 * due) room 9)
+    then (then (settings-in-order st) (then (state-in-order st x) (then (row-in-order (limitsOf st) row) (scans-in-order x row)))) (beyond due room 9)
 
 pub held-in-order : (st : Settings) (row : Row) (x : State) (room : ℕ) → Table (heldNumber st row x room) (heldCases st row x room)
 unfolding heldNumber
-held-in-order st row x room = run-in-order st row x (length (run st row x .events)) room
+held-in-order st row x room = run-in-order st row x (12 * length (run st row x .events)) room
 
 pub scan-in-order : (st : Settings) (w : Words) (x : State) (room : ℕ) → Table (scanNumber st w x room) (scanCases st w x room)
 unfolding scanNumber
-scan-in-order st w x room = run-in-order st (once w) x (length (events st w x)) room
+scan-in-order st w x room = run-in-order st (once w) x (12 * length (events st w x)) room
 
 pub opening-in-order : (st : Settings) (rows room : ℕ)
-    → Table (orElse (openingNumber st rows) (unless (leb (length (opening st rows)) room) 10)) (openingCases st rows room)
+    → Table (orElse (openingNumber st rows) (roomNumber (length (opening st rows)) room)) (openingCases st rows room)
 unfolding openingNumber
 opening-in-order st rows room = then (then (settings-in-order st) (check (sections.countOk Rows rows) 3)) (beyond (length (opening st rows)) room 9)
 
 pub row-piece-in-order : (st : Settings) (row : Row) (room : ℕ)
-    → Table (orElse (rowPieceNumber st row) (unless (leb (length (putRow row)) room) 10)) (rowPieceCases st row room)
+    → Table (orElse (rowPieceNumber st row) (roomNumber (length (putRow row)) room)) (rowPieceCases st row room)
 unfolding rowPieceNumber
 row-piece-in-order st row room = then (then (settings-in-order st) (row-in-order (limitsOf st) row)) (beyond (length (putRow row)) room 9)

@@ -18,11 +18,11 @@ use Rattle.settings.specs.declared.Words.{Words}
 use Rattle.settings.specs.Limits.{mostHold, mostScans}
 use Rattle.settings.specs.Right.{limitsOf, settingsNumber, wordsNumber, rowNumber}
 use Rattle.settings.specs.Signals.{signals, signalsOf}
+use Rattle.settings.proofs.Answers.{granted-in-room}
 use Rattle.block.specs.declared.State.{State}
 use Rattle.block.specs.State.{stateNumber}
 use Rattle.block.specs.Scan.{inputNumber, atFront, once, after, events, scanNumber, grantedScan, refusedScan, scanOf, scanInto}
 use Rattle.block.specs.Held.{later, Stepped, step, stepped}
-use Rattle.block.proofs.Answers.{granted-in-room}
 use Rattle.block.proofs.Theorems.{right-input-is-accepted}
 use Rattle.block.proofs.Later.{once-right}
 use Rattle.block.proofs.Stepping.{wordsAt}
@@ -58,7 +58,7 @@ pub scan-granted : (st : Settings) (w : Words) (x : State) (out : List ℕ) → 
     → (scanOf st w x (length out) ≡ grantedScan st w x) × (scanInto st w x out ≡ atFront (events st w x) out)
 unfolding scanOf scanInto scanNumber
 scan-granted st w x out right state words scans fits =
-    let due = length (events st w x) in
+    let due = 12 * length (events st w x) in
     let none = right-input-is-accepted st (once w) x right state (once-right (limitsOf st) w words) scans in (
       sym (granted-in-room (inputNumber st x (once w)) due (length out) 0 (sym none) (grantedScan st w x) (refusedScan x) refl fits),
       sym (granted-in-room (inputNumber st x (once w)) due (length out) 0 (sym none) (atFront (events st w x) out) (λ n. out) refl fits),

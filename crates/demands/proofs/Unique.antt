@@ -25,8 +25,8 @@ use Rattle.block.proofs.scans_number.Reads as block·scans-number
 use Rattle.recording.proofs.read.Reads as recording·read
 use Rattle.recording.proofs.row_step.Reads as recording·row-step
 use Rattle.recording.proofs.row_in.Reads as recording·row-in
-use Rattle.recording.proofs.write_opening.Reads as recording·write-opening
-use Rattle.recording.proofs.write_row.Reads as recording·write-row
+use Rattle.writing.proofs.write_opening.Reads as writing·write-opening
+use Rattle.writing.proofs.write_row.Reads as writing·write-row
 use Rattle.rerun.proofs.replay.Reads as rerun·replay
 use Rattle.listing.proofs.opening.Reads as listing·opening
 use Rattle.listing.proofs.closing.Reads as listing·closing
@@ -94,11 +94,11 @@ recording-row-step κs = record { nothing-asked = λ a. tt; unique = by-equation
 pub recording-row-in : (κs : Lfts 1) → OneAnswer (recording·row-in.Asked κs) (recording·row-in.Learnt κs) none
 recording-row-in κs = record { nothing-asked = λ a. tt; unique = by-equation (recording·row-in.Learnt κs) _ (λ a r e h. h) }
 
-pub recording-write-opening : (κs : Lfts 1) → OneAnswer (recording·write-opening.Asked κs) (recording·write-opening.Learnt κs) (λ e. now (e .1 .1 .0))
-recording-write-opening κs = record { nothing-asked = λ a. tt; unique = by-equations (recording·write-opening.Learnt κs) (λ e. now (e .1 .1 .0)) _ _ (λ a r e h. h) }
+pub writing-write-opening : (κs : Lfts 1) → OneAnswer (writing·write-opening.Asked κs) (writing·write-opening.Learnt κs) (λ e. now (e .1 .1 .0))
+writing-write-opening κs = record { nothing-asked = λ a. tt; unique = by-equations (writing·write-opening.Learnt κs) (λ e. now (e .1 .1 .0)) _ _ (λ a r e h. h) }
 
-pub recording-write-row : (κs : Lfts 1) → OneAnswer (recording·write-row.Asked κs) (recording·write-row.Learnt κs) (λ e. now (e .1 .1 .0))
-recording-write-row κs = record { nothing-asked = λ a. tt; unique = by-equations (recording·write-row.Learnt κs) (λ e. now (e .1 .1 .0)) _ _ (λ a r e h. h) }
+pub writing-write-row : (κs : Lfts 1) → OneAnswer (writing·write-row.Asked κs) (writing·write-row.Learnt κs) (λ e. now (e .1 .1 .0))
+writing-write-row κs = record { nothing-asked = λ a. tt; unique = by-equations (writing·write-row.Learnt κs) (λ e. now (e .1 .1 .0)) _ _ (λ a r e h. h) }
 
 -- ## Whole files (`rerun`)
 

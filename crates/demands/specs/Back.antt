@@ -10,7 +10,7 @@ use Rattle.recording.specs.Reader.{reading}
 use Rattle.recording.specs.Answers.{rowCount}
 use Rattle.recording.specs.Steps.{rowsOf}
 use Rattle.recording.specs.Encode.{encode, opening, Right}
-use Rattle.recording.specs.Writer.{openingAfter, rowAfter}
+use Rattle.writing.specs.Writer.{openingAfter, rowAfter}
 
 -- a recording: the bytes of right settings and 1 to 2,048 right rows, section by section, nothing after the last
 abbrev pub Recording : List ℕ → Type 0

@@ -9,9 +9,8 @@ use lib.Dec.{leb}
 use lib.ListN.{length}
 use lib.Seq.{sets}
 use Rattle.effects.specs.Records.{bytes}
-use Rattle.settings.specs.Refusals.{unless, orElse}
+use Rattle.settings.specs.Refusals.{unless, orElse, roomNumber}
 use Rattle.settings.proofs.Refusals.{or-else-first, or-else-next, unless-none}
-use Rattle.block.specs.Scan.{roomNumber}
 use Rattle.recording.specs.declared.Answer.the-variants as A
 use Rattle.recording.specs.Answers.{number, rowCount}
 use Rattle.recording.specs.Reader.{reading}
@@ -21,7 +20,7 @@ use Rattle.rerun.specs.declared.Replayed.{Replayed}
 use Rattle.rerun.specs.Replay.{Outcome, replay, answered}
 use Rattle.rerun.proofs.Rows.{granted-none, granted-refused}
 use Rattle.rerun.proofs.Files.{refused-replay, all-the-rows, whole-so-far}
-use Rattle.embed.specs.Crossing.{numbers, pieceNumber, fitted, crossing, refusal, replayNumber, recordsInto, totalsOrRefusal, totalsInto}
+use Rattle.embed.specs.Crossing.{numbers, fitted, crossing, refusal, replayNumber, recordsInto, totalsOrRefusal, totalsInto}
 use Rattle.embed.proofs.Stores.{length-numbers, stays}
 
 -- ## 10 or nothing
@@ -30,14 +29,14 @@ ten-either-way : (b : Bool) → orElse (unless b 10) 10 ≡ 10
 ten-either-way true = refl
 ten-either-way false = refl
 
-pub piece-fits : (size room : ℕ) → size ≤ room → pieceNumber size room ≡ 0
+pub piece-fits : (size room : ℕ) → size ≤ room → roomNumber size room ≡ 0
 piece-fits size room h = ap (λ (b : Bool). unless b 10) (le-leb size room h)
 
-pub piece-too-long : (size room : ℕ) → room < size → pieceNumber size room ≡ 10
+pub piece-too-long : (size room : ℕ) → room < size → roomNumber size room ≡ 10
 piece-too-long size room h = ap (λ (b : Bool). unless b 10) (lt-leb size room h)
 
-pub records-fit : (due room : ℕ) → roomNumber due room ≡ 0 → 12 * due ≤ room
-records-fit due room z = leb-true (12 * due) room (unless-none _ 9 z)
+pub records-fit : (due room : ℕ) → roomNumber due room ≡ 0 → due ≤ room
+records-fit due room z = leb-true due room (unless-none _ 9 z)
 
 -- ## A replay's number
 
@@ -54,20 +53,20 @@ module _ (s : List ℕ) (room totalsRoom : ℕ) where
 
   module _ (whole : replay s .number ≡ 0) where
     abbrev due : ℕ
-    due = length (replay s .replay .events)
+    due = 12 * length (replay s .replay .events)
 
-    pub by-room : replayNumber s room totalsRoom ≡ orElse (roomNumber due room) (pieceNumber 56 totalsRoom)
+    pub by-room : replayNumber s room totalsRoom ≡ orElse (roomNumber due room) (roomNumber 56 totalsRoom)
     by-room = sym (or-else-next (replay s .number) _ (replay s .number) _ refl whole refl)
 
     -- 10 for the totals, or for the records
     pub totals-do-not-fit : totalsRoom < 56 → replayNumber s room totalsRoom ≡ 10
-    totals-do-not-fit h = by-room ∙ ap (orElse (roomNumber due room)) (piece-too-long 56 totalsRoom h) ∙ ten-either-way (leb (12 * due) room)
+    totals-do-not-fit h = by-room ∙ ap (orElse (roomNumber due room)) (piece-too-long 56 totalsRoom h) ∙ ten-either-way (leb due room)
 
     pub records-do-not-fit : (roomNumber due room ≡ 0 → ⊥) → replayNumber s room totalsRoom ≡ roomNumber due room
     records-do-not-fit h = by-room ∙ sym (or-else-first (roomNumber due room) _ (roomNumber due room) refl h)
 
     pub all-fits : roomNumber due room ≡ 0 → 56 ≤ totalsRoom → replayNumber s room totalsRoom ≡ 0
-    all-fits z h = by-room ∙ sym (or-else-next (roomNumber due room) (pieceNumber 56 totalsRoom) (roomNumber due room) 0 refl z (sym (piece-fits 56 totalsRoom h)))
+    all-fits z h = by-room ∙ sym (or-else-next (roomNumber due room) (roomNumber 56 totalsRoom) (roomNumber due room) 0 refl z (sym (piece-fits 56 totalsRoom h)))
 
 -- ## What the buffers hold
 

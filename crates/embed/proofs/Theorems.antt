@@ -8,33 +8,32 @@ use native.Mathlib.Omega.{arith}
 use lib.ListN.{length}
 use lib.Seq.{sets}
 use Rattle.effects.specs.Records.{bytes}
-use Rattle.settings.specs.Refusals.{orElse}
+use Rattle.settings.specs.Refusals.{orElse, roomNumber}
 use Rattle.settings.proofs.Refusals.{or-else-first, or-else-next, or-else-none}
 use Rattle.settings.proofs.Right.{count-few}
-use Rattle.block.specs.Scan.{roomNumber}
 use Rattle.recording.specs.Answers.{number, rowCount}
 use Rattle.recording.specs.Reader.{reading}
-use Rattle.recording.proofs.Theorems.{Accepted}
+use Rattle.recording.specs.Accepted.{Accepted}
 use Rattle.rerun.specs.declared.Replayed.{Replayed}
 use Rattle.rerun.specs.Replay.{Outcome, replay, answered}
 use Rattle.rerun.proofs.Rows.{first-alone, granted-none, granted-refused, granted-either}
 use Rattle.rerun.proofs.Files.{settings-right}
 use Rattle.rerun.proofs.Theorems.{a-refused-file-is-not-run, two-records-an-effect-and-row}
-use Rattle.embed.specs.Crossing.{pieceNumber, refusal, checkNumber, replayNumber, recordsInto, totalsOrRefusal}
+use Rattle.embed.specs.Crossing.{refusal, checkNumber, replayNumber, recordsInto, totalsOrRefusal}
 use Rattle.embed.proofs.Answers.{piece-fits, piece-too-long, place-of-whole, stopped-number, by-room, totals-do-not-fit, records-do-not-fit, all-fits}
 
 -- ## A check
 
 -- a refused file has the reader's number, whatever the room
 pub check-ten-is-last : (s : List ℕ) (room : ℕ) → (Accepted s → ⊥) → checkNumber s room ≡ number (reading s .answer)
-check-ten-is-last s room h = let n = number (reading s .answer) in sym (or-else-first n (pieceNumber 24 room) n refl h)
+check-ten-is-last s room h = let n = number (reading s .answer) in sym (or-else-first n (roomNumber 24 room) n refl h)
 
 -- and so has every file where the answer fits; where it does not, an accepted one has 10
 pub check-with-room : (s : List ℕ) (room : ℕ) → 24 ≤ room → checkNumber s room ≡ number (reading s .answer)
 check-with-room s room h = ap (orElse (number (reading s .answer))) (piece-fits 24 room h) ∙ first-alone (number (reading s .answer)) 0 (λ z. refl)
 
 pub check-without-room : (s : List ℕ) (room : ℕ) → Accepted s → room < 24 → checkNumber s room ≡ 10
-check-without-room s room a h = let n = number (reading s .answer) in sym (or-else-next n (pieceNumber 24 room) n 10 refl a (sym (piece-too-long 24 room h)))
+check-without-room s room a h = let n = number (reading s .answer) in sym (or-else-next n (roomNumber 24 room) n 10 refl a (sym (piece-too-long 24 room h)))
 
 -- ## A replay
 
@@ -54,7 +53,7 @@ module _ (s : List ℕ) (room totalsRoom : ℕ) where
   -- and then 10 is given exactly if the records due or the totals do not fit
   pub ten-for-the-records : replay s .number ≡ 0 → room < 12 * length (replay s .replay .events) → replayNumber s room totalsRoom ≡ 10
   ten-for-the-records z h =
-      let ten : roomNumber (length (replay s .replay .events)) room ≡ 10 = piece-too-long (12 * length (replay s .replay .events)) room h in
+      let ten : roomNumber (12 * length (replay s .replay .events)) room ≡ 10 = piece-too-long (12 * length (replay s .replay .events)) room h in
       records-do-not-fit s room totalsRoom z (λ e. omega (arith, ten, e)) ∙ ten
 
   pub ten-for-the-totals : replay s .number ≡ 0 → totalsRoom < 56 → replayNumber s room totalsRoom ≡ 10

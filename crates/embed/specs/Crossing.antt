@@ -1,6 +1,6 @@
 -- What crosses to a caller of the library, and when. The numbers 1 to 7, 9 and 10 are document 01's, "Refusal numbers", and
 -- 10 comes last. A refusal gives its number, its place and zeros, and no record. Records are as in "The rules of one scan".
-use Prim.Native.Nat.{ℕ}
+use Prim.Native.Nat.{ℕ, _*_}
 use mathlib.Core.Bool.{cond}
 use mathlib.Core.List.{List, [], _∷_, _++_}
 use lib.Dec.{leb}
@@ -8,8 +8,7 @@ use lib.ListN.{length}
 use lib.Seq.{sets}
 use Rattle.bits.specs.Numbers.{digits}
 use Rattle.effects.specs.Records.{bytes}
-use Rattle.settings.specs.Refusals.{unless, orElse}
-use Rattle.block.specs.Scan.{roomNumber, granted}
+use Rattle.settings.specs.Refusals.{orElse, granted, roomNumber}
 use Rattle.recording.specs.declared.Answer.{Answer}
 use Rattle.recording.specs.Answers.{number, place, rowCount}
 use Rattle.recording.specs.Reader.{reading}
@@ -20,10 +19,6 @@ use Rattle.rerun.specs.Replay.{replay, answered}
 unfoldable pub numbers : List ℕ → List ℕ
 numbers [] = []
 numbers (v ∷ vs) = digits 8 v ++ numbers vs
-
--- 10: room below the piece written
-abbrev pub pieceNumber : (size room : ℕ) → ℕ
-pieceNumber size room = unless (leb size room) 10
 
 -- a piece at the front of the lent bytes, if it fits; else they stay as they were
 abbrev pub fitted : List ℕ → List ℕ → List ℕ
@@ -36,7 +31,7 @@ abbrev pub checked : Answer → List ℕ
 checked answer = number answer ∷ place answer ∷ rowCount answer ∷ []
 
 abbrev pub checkNumber : List ℕ → (room : ℕ) → ℕ
-checkNumber s room = orElse (number (reading s .answer)) (pieceNumber 24 room)
+checkNumber s room = orElse (number (reading s .answer)) (roomNumber 24 room)
 
 abbrev pub checkInto : List ℕ → List ℕ → List ℕ
 checkInto s out = fitted (numbers (checked (reading s .answer))) out
@@ -54,7 +49,7 @@ refusal place number = record { number = number; place = place; records = 0; row
 -- the reader's number or 9; else 10 if the records due or the totals do not fit
 abbrev pub replayNumber : List ℕ → (room totalsRoom : ℕ) → ℕ
 replayNumber s room totalsRoom =
-    orElse (replay s .number) (orElse (roomNumber (length (replay s .replay .events)) room) (pieceNumber 56 totalsRoom))
+    orElse (replay s .number) (orElse (roomNumber (12 * length (replay s .replay .events)) room) (roomNumber 56 totalsRoom))
 
 -- on 0 all records, and on any other number nothing
 abbrev pub recordsInto : List ℕ → (totalsRoom : ℕ) → List ℕ → List ℕ

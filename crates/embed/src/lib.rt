@@ -5,13 +5,12 @@ ghost use mathlib.Core.List.{[], _∷_};
 ghost use Prim.Native.Nat.{_+_, _*_, _≤_, _<_};
 ghost use lib.ListN.{length};
 ghost use lib.Seq.{sets};
-ghost use Rattle.settings.specs.Refusals.{orElse};
+ghost use Rattle.settings.specs.Refusals.{orElse, roomNumber};
 ghost use Rattle.wiring.specs.Wiring.{Wired};
-ghost use Rattle.block.specs.Scan.{roomNumber};
 ghost use Rattle.recording.specs.declared.Answer.the-variants.{Accepted};
 ghost use Rattle.recording.specs.Reader.{reading};
 ghost use Rattle.rerun.specs.Replay.{replay};
-ghost use Rattle.embed.specs.Crossing.{numbers, pieceNumber, fitted, checkNumber, checkInto, crossing, refusal, replayNumber, recordsInto, totalsInto};
+ghost use Rattle.embed.specs.Crossing.{numbers, fitted, checkNumber, checkInto, crossing, refusal, replayNumber, recordsInto, totalsInto};
 use recording::Answer;
 use rerun::Replayed;
 use settings::Settings;
@@ -63,7 +62,7 @@ fn or_ten(number: u8) -> u8
 
 // Writes the answer to a check, if it fits, and answers its number.
 fn put_check(out: &mut [u8], number: u8, place: usize, rows: u16) -> u8
-    ensures { λ r. ⌜ r ≡ orElse number (pieceNumber 24 (length (now (out .entry)))) ⌝ }
+    ensures { λ r. ⌜ r ≡ orElse number (roomNumber 24 (length (now (out .entry)))) ⌝ }
     ensures { λ _. ⌜ now (out .exit) ≡ fitted (numbers (number ∷ place ∷ rows ∷ [])) (now (out .entry)) ⌝ }
 {
     if out.len() < 24 {
@@ -106,7 +105,7 @@ fn records_number(
     room: usize,
 ) -> u8
     requires { ⌜ (reading (now s) .answer ≡ Accepted rows first width) × (st ≡ reading (now s) .settings) × Wired st x (now causes) (now times) ⌝ }
-    ensures { λ r. ⌜ r ≡ roomNumber (length (replay (now (s .entry)) .replay .events)) room ⌝ }
+    ensures { λ r. ⌜ r ≡ roomNumber (12 * length (replay (now (s .entry)) .replay .events)) room ⌝ }
 {
     if 24 * x.count * (rows as usize) <= room {
         return 0;

@@ -11,7 +11,7 @@ use lib.Seq.{sets, sets-eq}
 use Rattle.effects.specs.declared.Event.{Event}
 use Rattle.effects.specs.Records.{bytes, eventsAt}
 use Rattle.effects.proofs.Records.{length-bytes, events-of-bytes}
-use Rattle.block.specs.Scan.{granted}
+use Rattle.settings.specs.Refusals.{granted}
 use Rattle.rerun.specs.declared.Totals.{Totals}
 use Rattle.rerun.specs.declared.Turn.{Turn}
 use Rattle.rerun.specs.Replay.{firstRows, rowRun}

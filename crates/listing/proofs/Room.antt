@@ -4,8 +4,9 @@ use Prim.Native.Nat.{ℕ, zero, suc, _+_, _*_, _^_, _≤_, _<_}
 use native.Mathlib.Omega.{arith}
 use lib.Dec.{lit≤}
 use lib.ListN.{length, length-append}
+use Rattle.bits.specs.Numbers.{Bytes}
 use Rattle.bits.proofs.Decimal.{length-decimal, length-of-32-bits, length-of-64-bits}
-use Rattle.bits.proofs.Numbers.{Bytes, num-lt}
+use Rattle.bits.proofs.Numbers.{num-lt}
 use Rattle.rules.specs.declared.EffectState.{EffectState}
 use Rattle.rules.specs.declared.EffectState.the-variants.{Tripped, WaitReset, Ready, WaitStart, Normal, Delayed}
 use Rattle.effects.specs.declared.Event.{Event}

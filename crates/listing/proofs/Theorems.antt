@@ -7,7 +7,8 @@ use mathlib.Core.Logic.{⊎-elim}
 use Prim.Native.Nat.{ℕ, _+_}
 use native.Mathlib.Numerals.{add-one}
 use native.Mathlib.Omega.{arith}
-use Rattle.block.specs.Scan.{scansNumber, granted}
+use Rattle.settings.specs.Refusals.{granted}
+use Rattle.block.specs.Scan.{scansNumber}
 use Rattle.recording.specs.declared.Answer.the-variants.{Accepted, Refused}
 use Rattle.recording.specs.Answers.{number, rowCount}
 use Rattle.recording.specs.Reader.{reading}

@@ -1,7 +1,7 @@
 -- The listing of a file: what the program prints. Document 01, "One session, whole".
 use Prim.Native.Nat.{ℕ}
 use mathlib.Core.List.{List, _++_}
-use Rattle.block.specs.Scan.{granted}
+use Rattle.settings.specs.Refusals.{granted}
 use Rattle.recording.specs.declared.Answer.{Answer}
 use Rattle.recording.specs.declared.Answer.the-variants.{Accepted, Refused}
 use Rattle.recording.specs.Reader.{reading}

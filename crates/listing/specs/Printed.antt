@@ -7,7 +7,7 @@ use mathlib.Core.List.{List, [], _++_}
 use lib.Dec.{leb}
 use lib.ListN.{length}
 use lib.Seq.{sets}
-use Rattle.block.specs.Scan.{granted}
+use Rattle.settings.specs.Refusals.{granted}
 use Rattle.recording.specs.declared.Answer.{Answer}
 use Rattle.recording.specs.declared.Answer.the-variants.{Accepted, Refused}
 use Rattle.rerun.specs.declared.Totals.{Totals}

@@ -4,7 +4,7 @@ use Prim.Native.Nat.{ℕ}
 use mathlib.Core.Path.{_≡_}
 use mathlib.Core.Bool.{Bool, true, cond}
 use mathlib.Core.Logic.{_⊎_}
-use Rattle.block.specs.Scan.{granted}
+use Rattle.settings.specs.Refusals.{granted}
 
 -- by whether all was written, and the refusal's number or 0
 abbrev pub status : Bool → (number : ℕ) → ℕ

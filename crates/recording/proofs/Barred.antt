@@ -12,9 +12,9 @@ use lib.Count.{ones, ones-cat}
 use lib.Dec.{eqb, eqb·suc-zero, leb, ltb}
 use lib.Arith.{digits-div}
 use lib.Pow.{pow-mono, pow-pos, shr-mod, split}
-use Rattle.bits.specs.Numbers.{numAt}
+use Rattle.bits.specs.Numbers.{Bytes, numAt}
 use Rattle.bits.specs.Words.{bitOf}
-use Rattle.bits.proofs.Numbers.{Bytes, num-lt, num-parts}
+use Rattle.bits.proofs.Numbers.{num-lt, num-parts}
 use Rattle.settings.specs.declared.Limits.{Limits}
 use Rattle.settings.specs.Limits.{mostHold}
 use Rattle.settings.specs.Refusals.{unless, orElse}

@@ -6,8 +6,8 @@ use native.Mathlib.Nat.{add-zero, mul-suc, mul-zero}
 use native.Mathlib.Omega.{arith}
 use lib.ListN.{length, take, drop, length-append}
 use lib.Seq.{take-add, drop-drop}
-use Rattle.bits.specs.Numbers.{numAt, digits}
-use Rattle.bits.proofs.Numbers.{Bytes, length-digits, digits-num, num-digits}
+use Rattle.bits.specs.Numbers.{Bytes, numAt, digits}
+use Rattle.bits.proofs.Numbers.{length-digits, digits-num, num-digits}
 use Rattle.recording.specs.Entries.{listOf, putAll}
 use Rattle.recording.specs.Encode.{counted, All}
 use Rattle.recording.proofs.Lists.{length-listOf, length-putAll}

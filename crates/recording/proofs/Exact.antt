@@ -6,8 +6,7 @@ use Prim.Native.Nat.{ℕ, _+_, _-_, _*_, _≤_, _<_}
 use native.Mathlib.Omega.{arith}
 use lib.ListN.{length, getD, take, drop, replicate, length-append, length-take, length-replicate}
 use lib.Seq.{take-at, take-add}
-use Rattle.bits.specs.Numbers.{numAt}
-use Rattle.bits.proofs.Numbers.{Bytes}
+use Rattle.bits.specs.Numbers.{Bytes, numAt}
 use Rattle.settings.specs.declared.Effect.{Effect}
 use Rattle.settings.specs.declared.Row.{Row}
 use Rattle.settings.specs.declared.Limits.{Limits}

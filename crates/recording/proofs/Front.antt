@@ -17,7 +17,7 @@ use Rattle.recording.specs.declared.Section.the-variants as S
 use Rattle.recording.specs.declared.Kind.{Kind}
 use Rattle.recording.specs.declared.Kind.the-variants.{Block, Effects, Rows}
 use Rattle.recording.specs.Entries.{blockCheck}
-use Rattle.recording.specs.Sections.{passed, entries, widthOf, leastOf, mostOf, countOk, testOf, sectionOf}
+use Rattle.recording.specs.Sections.{entries, widthOf, leastOf, mostOf, countOk, testOf, sectionOf}
 use Rattle.recording.specs.Reader.{noLimits, blockLimits, settingsAt, reading}
 use Rattle.bits.proofs.Lists.{and-right}
 use Rattle.recording.proofs.Sections.{section-count, section-entries}

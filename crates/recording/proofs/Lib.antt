@@ -4,8 +4,6 @@ pub mod Sections
 pub mod Codec
 pub mod Entries
 pub mod Between
-pub mod Pieces
-pub mod Opening
 pub mod Cases
 pub mod Steps
 pub mod Right

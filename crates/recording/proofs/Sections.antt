@@ -11,14 +11,10 @@ use lib.Dec.{leb}
 use lib.ListN.{length}
 use Rattle.bits.specs.Numbers.{numAt}
 use Rattle.bits.proofs.Lists.{and-left, and-right}
-use Rattle.recording.specs.declared.Section.{Section}
+use Rattle.settings.proofs.Refusals.{granted-refused}
 use Rattle.recording.specs.declared.Section.the-variants as S
-use Rattle.recording.specs.Sections.{passed, entries, section}
+use Rattle.recording.specs.Sections.{entries, section}
 use Rattle.recording.specs.Barred.{Skipped}
-
-passed-bad : (k at : ℕ) (next : Section) → (k ≡ 0 → ⊥) → passed k at next ≡ S.Refused k at
-passed-bad zero at next h = absurd (h refl)
-passed-bad (suc k) at next h = refl
 
 module _ (test : ℕ → ℕ) (w len : ℕ) where
   pub entries-short : (n at : ℕ) → 0 < n → len < at + w → entries test w len n at ≡ S.Refused 1 len
@@ -27,7 +23,7 @@ module _ (test : ℕ → ℕ) (w len : ℕ) where
 
   pub entries-bad : (n at k : ℕ) → 0 < n → at + w ≤ len → k ≡ test at → (k ≡ 0 → ⊥) → entries test w len n at ≡ S.Refused k at
   entries-bad zero at k p h e b = absurd (omega arith)
-  entries-bad (suc n) at k p h e b = rw (le-leb (at + w) len h, ← e) (passed-bad k at _ b)
+  entries-bad (suc n) at k p h e b = rw (le-leb (at + w) len h, ← e) (granted-refused _ (λ number. S.Refused number at) k b)
 
   pub entries-step : (n at k : ℕ) → 0 < n → at + w ≤ len → k ≡ test at → k ≡ 0 → entries test w len n at ≡ entries test w len (n - 1) (at + w)
   entries-step zero at k p h e b = absurd (omega arith)

@@ -1,52 +1,34 @@
 -- What is promised of recordings, each theorem stated once by what it says. Document 01, "Recordings" and "Refusal numbers".
--- `reading`, `stepAt`, `rowIn`, `openingWritten`, `openingAfter`, `rowWritten` and `rowAfter` are what the code returns and
--- leaves in the lent buffer, by the contracts in src/; `Bytes s` is what every slice of bytes is.
+-- `reading`, `stepAt` and `rowIn` are what the code returns, by the contracts in src/; `Bytes s` is what every slice of bytes is.
 use mathlib.Core.Path.{_≡_, refl, sym, ap, _∙_}
 use mathlib.Core.Bool.{true, false}
 use mathlib.Core.List.{List, _++_}
 use mathlib.Core.Logic.{_⊎_}
 use Prim.Native.Nat.{ℕ, suc, _+_, _*_, _≤_, _<_}
 use native.Mathlib.Omega.{arith}
-use lib.Dec.{leb}
-use lib.ListN.{length, getD, take, drop}
-use Rattle.bits.proofs.Numbers.{Bytes}
+use lib.ListN.{length, getD, take}
+use Rattle.bits.specs.Numbers.{Bytes}
 use Rattle.settings.specs.declared.Row.{Row}
 use Rattle.settings.specs.declared.Settings.{Settings}
 use Rattle.settings.specs.declared.Limits.{Limits}
-use Rattle.settings.specs.Refusals.{unless, orElse}
 use Rattle.recording.specs.declared.Answer.the-variants as A
 use Rattle.recording.specs.declared.Reading.{Reading}
 use Rattle.recording.specs.declared.Kind.{Kind}
 use Rattle.recording.specs.Entries.{rowAt, putRow, putAll}
 use Rattle.recording.specs.Reader.{refusal, reading}
-use Rattle.recording.specs.Answers.{number, place, rowCount, firstRow, rowWidth, sectionNumber, sectionPlace, ended, noRow, stepRow, nextPlace, writtenNumber, writtenLength}
+use Rattle.recording.specs.Answers.{number, place, rowCount, firstRow, rowWidth, sectionNumber, sectionPlace, ended, noRow, stepRow, nextPlace}
 use Rattle.recording.specs.Steps.{rowIn, stepAt, rowsOf}
-use Rattle.recording.specs.Encode.{encode, opening, All, Right}
-use Rattle.recording.specs.Writer.{openingNumber, rowPieceNumber, written, after}
+use Rattle.recording.specs.Accepted.{Accepted, Answers}
+use Rattle.recording.specs.Encode.{encode, opening, Right}
 use Rattle.recording.specs.Sections.{sectionOf}
 use Rattle.recording.specs.Refused.{Stops, Refused}
 use Rattle.recording.proofs.Right.{in-parts}
-use Rattle.recording.proofs.Pieces.{number-of, stands, untouched}
 use Rattle.recording.proofs.Places.{same-at-place, row-at-place, row-within, ended-elsewhere as nothing-elsewhere}
 use Rattle.recording.proofs.Refusals.{refused-as-said as said, said-is-refused as answered, section-said, stops-refuses}
 use Rattle.recording.proofs.Numbers.{not-accepted-refused, reading-numbers, before-spare}
 use Rattle.recording.proofs.Front.{reading-of-front}
 use Rattle.recording.proofs.Exact.{complete, rows-are-back, spare, length-encode}
-use Rattle.recording.proofs.Trips.{accepted-encodes, accepted-right, first-row-place, accepted-case as case-of, length-rowsOf, in-pieces, right-passes, passes-right}
-
--- the reader accepts
-abbrev pub Accepted : List ℕ → Type 0
-Accepted s = number (reading s .answer) ≡ 0
-
--- the answer is these settings and so many rows
-abbrev pub Answers : List ℕ → Settings → List Row → Type 0
-Answers s st rows =
-    (number (reading s .answer) ≡ 0)
-    × (reading s .settings ≡ st)
-    × (rowCount (reading s .answer) ≡ length rows)
-    × (firstRow (reading s .answer) ≡ 10 + 6 * st .count)
-    × (rowWidth (reading s .answer) ≡ 24)
-    × (rowsOf s ≡ rows)
+use Rattle.recording.proofs.Trips.{accepted-encodes, accepted-right, first-row-place, accepted-case as case-of, length-rowsOf, in-pieces}
 
 -- ## Exactness
 
@@ -66,23 +48,15 @@ encoding-is-accepted st rows right = rw (complete st rows right) (refl, refl, re
 pub accepted-case : (s : List ℕ) → Accepted s → reading s .answer ≡ A.Accepted (rowCount (reading s .answer)) (firstRow (reading s .answer)) (rowWidth (reading s .answer))
 accepted-case = case-of
 
--- ## Round trips
+-- ## Pieces
 
--- the opening and the rows that were read are written without refusal, and they are the file's bytes
-pub written-as-read : (s : List ℕ) → Bytes s → Accepted s
-    → let st = reading s .settings in let n = rowCount (reading s .answer) in
-    (openingNumber st n ≡ 0) × All (rowPieceNumber st) (rowsOf s) × (opening st n ++ putAll putRow (rowsOf s) ≡ s)
-written-as-read s bytes h =
-    let e = accepted-encodes s bytes h in
-    let st = reading s .settings in
-    let w = right-passes st (rowsOf s) (e .0) in
-    let n = length-rowsOf s in
-    (rw n at (w .0), w .1, rw n at (sym (in-pieces st (rowsOf s)) ∙ e .1))
+-- an encoding is its opening and its rows
+pub encoding-in-pieces : (st : Settings) (rows : List Row) → encode st rows ≡ opening st (length rows) ++ putAll putRow rows
+encoding-in-pieces = in-pieces
 
--- an opening and as many rows as it says, all written without refusal, are read as those settings and rows
-pub read-as-written : (st : Settings) (rows : List Row) → length (st .effects) ≡ 16 → openingNumber st (length rows) ≡ 0 → All (rowPieceNumber st) rows
-    → Answers (opening st (length rows) ++ putAll putRow rows) st rows
-read-as-written st rows sixteen h each = rw (← in-pieces st rows) (encoding-is-accepted st rows (passes-right st rows sixteen h each))
+-- the count that is answered is the number of the rows
+pub rows-counted : (s : List ℕ) → length (rowsOf s) ≡ rowCount (reading s .answer)
+rows-counted = length-rowsOf
 
 -- ## The rows at the row places
 
@@ -114,22 +88,6 @@ pub same-without-reading : (s : List ℕ) (i : ℕ) → i < rowCount (reading s 
     → let at = firstRow (reading s .answer) + rowWidth (reading s .answer) * i in rowIn s at (rowWidth (reading s .answer)) ≡ stepAt s at
 unfolding stepAt
 same-without-reading = same-at-place
-
--- ## The writer, of any piece that `n` refuses if it is not 0
-
--- the number is the piece's own, and 10 last, exactly if it doesn't fit
-pub written-number : (n : ℕ) (piece : List ℕ) (room : ℕ) → writtenNumber (written n piece room) ≡ orElse n (unless (leb (length piece) room) 10)
-written-number = number-of
-
--- without refusal the piece stands at the front, and the bytes past it as they were
-pub written-piece : (n : ℕ) (piece out : List ℕ) → writtenNumber (written n piece (length out)) ≡ 0
-    → (writtenLength (written n piece (length out)) ≡ length piece) × (after n piece out ≡ piece ++ drop (length piece) out)
-written-piece = stands
-
--- on refusal no byte is touched, and the length is 0
-pub refused-piece : (n : ℕ) (piece out : List ℕ) → (writtenNumber (written n piece (length out)) ≡ 0 → ⊥)
-    → (writtenLength (written n piece (length out)) ≡ 0) × (after n piece out ≡ out)
-refused-piece = untouched
 
 -- ## Refusals
 

@@ -9,8 +9,6 @@ use Rattle.recording.specs.declared.Answer.{Answer}
 use Rattle.recording.specs.declared.Answer.the-variants as A
 use Rattle.recording.specs.declared.Step.{Step}
 use Rattle.recording.specs.declared.Step.the-variants as T
-use Rattle.recording.specs.declared.Written.{Written}
-use Rattle.recording.specs.declared.Written.the-variants as W
 
 -- ## The reader
 
@@ -75,17 +73,3 @@ stepRow T.Ended = noRow
 abbrev pub nextPlace : Step → ℕ
 nextPlace (T.Row row next) = next
 nextPlace T.Ended = 0
-
--- ## The writer: a refusal's place is 0 outside the reader, and its length too
-
-abbrev pub writtenNumber : Written → ℕ
-writtenNumber (W.Bytes n) = 0
-writtenNumber (W.Refused k) = k
-
-abbrev pub writtenPlace : Written → ℕ
-writtenPlace (W.Bytes n) = 0
-writtenPlace (W.Refused k) = 0
-
-abbrev pub writtenLength : Written → ℕ
-writtenLength (W.Bytes n) = n
-writtenLength (W.Refused k) = 0

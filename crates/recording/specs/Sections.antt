@@ -6,6 +6,8 @@ use lib.Dec.{leb}
 use lib.ListN.{length}
 use Rattle.bits.specs.Numbers.{numAt}
 use Rattle.settings.specs.declared.Limits.{Limits}
+use Rattle.settings.specs.Limits.{mostEffects}
+use Rattle.settings.specs.Refusals.{granted}
 use Rattle.settings.specs.Right.{effectNumber, rowNumber}
 use Rattle.recording.specs.declared.Section.{Section}
 use Rattle.recording.specs.declared.Section.the-variants.{Next, Refused}
@@ -15,15 +17,10 @@ use Rattle.recording.specs.Entries.{blockAt, blockCheck, effectAt, rowAt
 
 -- ## Any section
 
--- an entry's number, 0 where it is right, and what follows it
-abbrev pub passed : (number at : ℕ) → Section → Section
-passed zero at next = next
-passed (suc k) at next = Refused (suc k) at
-
 -- n entries of w bytes from `at`, in a file of `len` bytes: each entry's bytes, then its fields
 abbrev pub entries : (test : ℕ → ℕ) (w len n at : ℕ) → Section
 entries test w len zero at = Next at
-entries test w len (suc n) at = cond (leb (at + w) len) (passed (test at) at (entries test w len n (at + w))) (Refused 1 len)
+entries test w len (suc n) at = cond (leb (at + w) len) (granted (test at) (entries test w len n (at + w)) (λ number. Refused number at)) (Refused 1 len)
 
 -- a section at `at`: its count's bytes, its count, its entries
 unfoldable pub section : (test : ℕ → ℕ) (w least most number : ℕ) → List ℕ → (at : ℕ) → Section
@@ -48,7 +45,7 @@ leastOf Rows = 1
 
 abbrev pub mostOf : Kind → ℕ
 mostOf Block = 1
-mostOf Effects = 16
+mostOf Effects = mostEffects
 mostOf Rows = 2048
 
 abbrev pub countOk : Kind → ℕ → Bool

@@ -1,12 +1,9 @@
-// Recordings: the reader, and the row at a place; quick.rt has the reader's quick test of rows, writer.rt the writer. Document
-// 01, "Recordings" and "Refusal numbers".
-// It rests on `settings` and `bits`. How the bytes are gone through may change without moving a contract, as long as the first refusal
-// is given; a caller takes the first row's place and the width of a row from the answer, and counts on neither.
+// Recordings: the reader, and the row at a place; quick.rt has the reader's quick test of rows. Document 01, "Recordings" and
+// "Refusal numbers".
+// It rests on `settings` and `bits`; `writing` has the writer. How the bytes are gone through may change without moving a contract, as
+// long as the first refusal is given; a caller takes the first row's place and the width of a row from the answer, and counts on neither.
 mod quick;
-mod writer;
 
-pub use writer::write_opening;
-pub use writer::write_row;
 ghost use mathlib.Core.Path.{_≡_};
 ghost use mathlib.Core.List.{_++_};
 ghost use Prim.Native.Nat.{_+_, _*_, _-_, _^_, _≤_, _<_};
@@ -62,12 +59,6 @@ pub enum Step {
     Ended,
 }
 
-// What writing a piece comes to: the bytes written, or the refusal's number.
-pub enum Written {
-    Bytes(usize),
-    Refused(u8),
-}
-
 // ---- entries
 
 fn effect_at(s: &[u8], at: usize) -> Effect
@@ -113,7 +104,7 @@ pub fn row_at(s: &[u8], at: usize) -> Row
 // ---- sections
 
 // The bytes of an entry.
-fn width_of(kind: Kind) -> usize
+pub fn width_of(kind: Kind) -> usize
     ensures { λ r. ⌜ r ≡ widthOf kind ⌝ }
 {
     match kind {
@@ -124,34 +115,11 @@ fn width_of(kind: Kind) -> usize
 }
 
 // The place of a section's first entry, past its count.
-fn entries_of(section: usize) -> usize
+pub fn entries_of(section: usize) -> usize
     requires { ⌜ section ≤ 1000 ⌝ }
     ensures { λ r. ⌜ r ≡ section + 2 ⌝ }
 {
     section + 2
-}
-
-// Where the effects section starts: past the one entry of the block section.
-fn effects_section() -> usize
-    ensures { λ r. ⌜ r ≡ 6 ⌝ }
-{
-    entries_of(0) + width_of(Kind::Block)
-}
-
-// The place of entry i, of those from `at` on that are as wide as effects.
-fn effect_place(at: usize, i: usize) -> usize
-    requires { ⌜ (i ≤ 16) × (at + 6 * i < 2 ^ 64) ⌝ }
-    ensures { λ r. ⌜ r ≡ at + 6 * i ⌝ }
-{
-    at + width_of(Kind::Effects) * i
-}
-
-// Where the rows section of a file with so many effects starts.
-fn rows_section(count: usize) -> usize
-    requires { ⌜ count ≤ 16 ⌝ }
-    ensures { λ r. ⌜ r ≡ 8 + 6 * count ⌝ }
-{
-    effect_place(entries_of(effects_section()), count)
 }
 
 fn least_of(kind: Kind) -> u16
@@ -175,7 +143,7 @@ fn most_of(kind: Kind) -> u16
 }
 
 // The number that refuses a count.
-fn number_of(kind: Kind) -> u8
+pub fn number_of(kind: Kind) -> u8
     ensures { λ r. ⌜ r ≡ numberOf kind ⌝ }
 {
     match kind {
@@ -185,7 +153,7 @@ fn number_of(kind: Kind) -> u8
     }
 }
 
-fn count_ok(kind: Kind, n: u16) -> bool
+pub fn count_ok(kind: Kind, n: u16) -> bool
     ensures { λ r. ⌜ r ≡ countOk kind n ⌝ }
 {
     (least_of(kind) <= n) & (n <= most_of(kind))

@@ -1,15 +1,15 @@
 // Answers a stream of recordings on standard input: for each the reader's answer, its rows, and the bytes that the writer
-// gives for what was read. second/README.md lays both streams out. It is a test program over `recording` and `cases`: all but the
-// streams may change.
+// gives for what was read. second/README.md lays both streams out. It is a test program over `recording`, `writing` and `cases`: all
+// but the streams may change.
 ghost use mathlib.Core.Path.{_≡_};
 ghost use Prim.Native.Nat.{_+_, _≤_};
 ghost use lib.ListN.{length};
 use recording::Answer;
 use recording::Step;
-use recording::Written;
 use settings::Row;
 use settings::Settings;
 use settings::Words;
+use writing::Written;
 
 // Writes the digits of some bytes.
 fn print_hex(s: &[u8]) -> bool
@@ -161,13 +161,13 @@ fn print_piece(w: Written, out: &[u8]) -> bool
 
 fn print_opening(st: Settings, rows: u16) -> bool {
     let mut out = [0u8; 160];
-    let w = recording::write_opening(st, rows, &mut out);
+    let w = writing::write_opening(st, rows, &mut out);
     print_piece(w, &out)
 }
 
 fn print_written_row(st: Settings, row: Row) -> bool {
     let mut out = [0u8; 160];
-    let w = recording::write_row(st, row, &mut out);
+    let w = writing::write_row(st, row, &mut out);
     print_piece(w, &out)
 }
 

@@ -11,8 +11,9 @@ use lib.ListN.{length, take, drop, take-append-drop}
 use lib.Seq.{take-suc, take-add, take-all, length-take-le}
 use Rattle.settings.specs.declared.Settings.{Settings}
 use Rattle.settings.specs.Limits.{mostScans}
+use Rattle.settings.specs.Refusals.{granted}
 use Rattle.settings.specs.Right.{limitsOf, settingsNumber, rowNumber}
-use Rattle.block.specs.Scan.{scansNumber, granted}
+use Rattle.block.specs.Scan.{scansNumber}
 use Rattle.block.proofs.Theorems.{a-fresh-state-is-right}
 use Rattle.recording.specs.declared.Answer.the-variants as A
 use Rattle.recording.specs.Answers.{number, place, rowCount, firstRow, rowWidth, noRow}

@@ -17,11 +17,11 @@ use Rattle.settings.specs.declared.Row.{Row}
 use Rattle.settings.specs.Limits.{mostScans}
 use Rattle.settings.specs.Right.{limitsOf, settingsNumber, rowNumber}
 use Rattle.settings.specs.Signals.{signals}
-use Rattle.settings.specs.Refusals.{unless, orElse}
+use Rattle.settings.specs.Refusals.{unless, orElse, granted}
 use Rattle.settings.proofs.Refusals.{unless-none}
 use Rattle.settings.proofs.Right.{count-few}
 use Rattle.block.specs.State.{stateNumber}
-use Rattle.block.specs.Scan.{scansNumber, granted}
+use Rattle.block.specs.Scan.{scansNumber}
 use Rattle.block.specs.Held.{run}
 use Rattle.block.proofs.Runs.{due-few}
 use Rattle.block.proofs.Theorems.{right-input-is-accepted, a-held-run-keeps-right, a-held-run-keeps-its-slots, live-at-most-twice-the-effects, exercised-is-the-hold-or-nothing, scans-done-grow-by-the-hold}

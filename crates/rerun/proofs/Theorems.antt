@@ -13,15 +13,15 @@ use borrow.Author.Tests.{le-leb}
 use lib.ListN.{length}
 use Rattle.effects.specs.declared.Event.{Event}
 use Rattle.settings.specs.Limits.{mostScans}
-use Rattle.settings.specs.Refusals.{unless, orElse}
+use Rattle.settings.specs.Refusals.{unless, orElse, granted, roomNumber}
 use Rattle.settings.proofs.Right.{count-few}
 use Rattle.block.specs.State.{stateNumber}
-use Rattle.block.specs.Scan.{scansNumber, roomNumber, inputNumber, granted}
+use Rattle.block.specs.Scan.{scansNumber, inputNumber}
 use Rattle.block.specs.Held.{run, grantedHeld, refusedHeld, heldNumber, heldOf}
 use Rattle.recording.specs.Answers.{number, place, rowCount}
 use Rattle.recording.specs.Reader.{reading}
 use Rattle.recording.specs.Steps.{rowsOf}
-use Rattle.recording.proofs.Theorems.{Accepted}
+use Rattle.recording.specs.Accepted.{Accepted}
 use Rattle.rerun.specs.Replay.{Outcome, whole, started, joined, refusedAt, replayRows, replay, firstRows, rowOf, rowPlace, rowRun, eventsOf, sumOfHolds}
 use Rattle.rerun.proofs.Rows.{first-alone, granted-refused}
 use Rattle.rerun.proofs.Files as files
@@ -76,10 +76,10 @@ module _ (s : List ℕ) (accepted : Accepted s) where
       let st = reading s .settings in
       let x = firstRows s i .replay .state in
       let n = scansNumber (x .done) (rowOf s i .hold) in
-      let due = length (run st (rowOf s i) x .events) in
+      let due = 12 * length (run st (rowOf s i) x .events) in
       let state = files.sound s accepted i .state in
       let input : inputNumber st x (rowOf s i) ≡ n = rw (files.settings-right s accepted, state, files.row-right s accepted i l) in
-      let room : n ≡ 0 → roomNumber due 384 ≡ 0 = λ z. ap (λ (b : Bool). unless b 10) (le-leb (12 * due) 384 (omega (arith, files.records-next s accepted i l z, count-few st (files.settings-right s accepted)))) in
+      let room : n ≡ 0 → roomNumber due 384 ≡ 0 = λ z. ap (λ (b : Bool). unless b 10) (le-leb due 384 (omega (arith, files.records-next s accepted i l z, count-few st (files.settings-right s accepted)))) in
       (state, ap (λ (k : ℕ). granted k (grantedHeld st (rowOf s i) x) (refusedHeld x)) (ap (λ (k : ℕ). orElse k (roomNumber due 384)) input ∙ first-alone n (roomNumber due 384) room))
 
   -- an accepted file is replayed whole, or stops at the row whose scans cannot be counted

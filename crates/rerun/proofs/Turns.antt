@@ -13,6 +13,7 @@ use Rattle.effects.specs.Records.{bytes}
 use Rattle.settings.specs.declared.Row.{Row}
 use Rattle.settings.specs.declared.Settings.{Settings}
 use Rattle.settings.specs.Limits.{mostScans}
+use Rattle.settings.specs.Refusals.{granted}
 use Rattle.settings.specs.Right.{limitsOf, settingsNumber, rowNumber}
 use Rattle.settings.proofs.Refusals.{unless-none}
 use Rattle.settings.proofs.Right.{count-few}
@@ -23,7 +24,7 @@ use Rattle.wiring.specs.Wiring.{wiringOf}
 use Rattle.wiring.proofs.Held.{count-of}
 use Rattle.block.specs.declared.State.{State}
 use Rattle.block.specs.State.{stateNumber, fresh}
-use Rattle.block.specs.Scan.{inputNumber, scansNumber, granted}
+use Rattle.block.specs.Scan.{inputNumber, scansNumber}
 use Rattle.block.specs.Held.{Stepped, run}
 use Rattle.block.specs.declared.Kept.{Kept}
 use Rattle.block.specs.Run.{KeptWords, startOf, reachedBy, keptAt, keptOf}

@@ -6,9 +6,10 @@ use lib.ListN.{getD, length, take}
 use Rattle.effects.specs.declared.Event.{Event}
 use Rattle.settings.specs.declared.Settings.{Settings}
 use Rattle.settings.specs.declared.Row.{Row}
+use Rattle.settings.specs.Refusals.{granted}
 use Rattle.block.specs.declared.State.{State}
 use Rattle.block.specs.State.{fresh}
-use Rattle.block.specs.Scan.{scansNumber, granted}
+use Rattle.block.specs.Scan.{scansNumber}
 use Rattle.block.specs.Held.{Stepped, run}
 use Rattle.recording.specs.Answers.{number, place, firstRow, rowWidth, noRow}
 use Rattle.recording.specs.Reader.{reading}

@@ -12,7 +12,7 @@ use Rattle.planes.specs.Board.{boardAt, boardOf, markOf}
 use Rattle.block.specs.declared.Kept.{Kept}
 use Rattle.block.specs.Run.{KeptWords, startOf}
 use Rattle.block.specs.State.{fresh}
-use Rattle.block.specs.Scan.{granted}
+use Rattle.settings.specs.Refusals.{granted}
 use Rattle.recording.specs.Answers.{number, rowCount, rowWidth}
 use Rattle.recording.specs.Reader.{reading}
 use Rattle.rerun.specs.declared.Tally.{Tally}

@@ -3,7 +3,20 @@ use mathlib.Core.Path.{_≡_, refl}
 use mathlib.Core.Bool.{Bool, true, false}
 use Prim.Native.Nat.{ℕ, zero, suc}
 use native.Mathlib.Omega.{arith}
-use Rattle.settings.specs.Refusals.{unless, orElse}
+use Rattle.settings.specs.Refusals.{unless, orElse, granted}
+
+-- ## What is granted, and what is refused
+
+module _ {A : Type 0} (a : A) (f : ℕ → A) where
+  pub granted-none : (n : ℕ) → n ≡ 0 → granted n a f ≡ a
+  granted-none zero e = refl
+  granted-none (suc k) e = absurd (omega (arith, e))
+
+  pub granted-refused : (n : ℕ) → (n ≡ 0 → ⊥) → granted n a f ≡ f n
+  granted-refused zero h = absurd (h refl)
+  granted-refused (suc k) h = refl
+
+-- ## One check after the other
 
 -- the first check refuses
 pub or-else-first : (a b n : ℕ) → n ≡ a → (n ≡ 0 → ⊥) → n ≡ orElse a b

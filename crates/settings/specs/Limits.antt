@@ -1,6 +1,13 @@
 -- The limits that document 01 sets under "Settings, row, state".
 use Prim.Native.Nat.{ℕ}
 
+-- causes and effects, at least one of each
+abbrev pub mostCauses : ℕ
+mostCauses = 16
+
+abbrev pub mostEffects : ℕ
+mostEffects = 16
+
 -- a delay, in milliseconds
 abbrev pub mostDelay : ℕ
 mostDelay = 3600000

@@ -11,14 +11,14 @@ use Rattle.settings.specs.declared.Settings.{Settings}
 use Rattle.settings.specs.declared.Words.{Words}
 use Rattle.settings.specs.declared.Row.{Row}
 use Rattle.settings.specs.declared.Limits.{Limits}
-use Rattle.settings.specs.Limits.{mostDelay, mostHold}
+use Rattle.settings.specs.Limits.{mostCauses, mostEffects, mostDelay, mostHold}
 use Rattle.settings.specs.Refusals.{unless, orElse}
 
 -- ## Settings: 2, then 3
 
 -- cause count 1..16; options, bits 3 to 7 zero (as "Recordings" says of a file); scan period 1..1,000 ms
 abbrev pub blockOk : (causes options period : ℕ) → Bool
-blockOk causes options period = leb 1 causes && leb causes 16 && ltb options 8 && leb 1 period && leb period 1000
+blockOk causes options period = leb 1 causes && leb causes mostCauses && ltb options 8 && leb 1 period && leb period 1000
 
 abbrev pub blockNumber : (causes options period : ℕ) → ℕ
 blockNumber causes options period = unless (blockOk causes options period) 2
@@ -32,7 +32,7 @@ effectNumber causes e = unless (effectOk causes e) 3
 
 -- effects 1..16
 abbrev pub countOk : ℕ → Bool
-countOk count = leb 1 count && leb count 16
+countOk count = leb 1 count && leb count mostEffects
 
 abbrev pub limitsOf : Settings → Limits
 limitsOf st = record { causes = st .causes; count = st .count; options = st .options }

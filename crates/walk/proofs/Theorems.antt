@@ -15,7 +15,8 @@ use Rattle.recording.specs.Reader.{reading}
 use Rattle.recording.specs.Answers.{number, place, rowCount, firstRow, rowWidth, ended, noRow, stepRow}
 use Rattle.recording.specs.Steps.{rowsOf}
 use Rattle.recording.specs.Refused.{Refused}
-use Rattle.recording.proofs.Theorems.{Accepted, ended-elsewhere, refused-as-said}
+use Rattle.recording.specs.Accepted.{Accepted}
+use Rattle.recording.proofs.Theorems.{ended-elsewhere, refused-as-said}
 use Rattle.recording.proofs.Trips.{length-rowsOf}
 use Rattle.walk.specs.declared.Walk.{Walk}
 use Rattle.walk.specs.Walks.{startOf, nextOf, movedOn, nthOf, walked, given}

@@ -1,11 +1,11 @@
 // Answers a stream of writing cases: 129 bytes each on standard input, a line each on standard output, the opening piece
-// and then the row piece, each in a buffer of its own. second/README.md lays both out. It is a test program over `recording` and
+// and then the row piece, each in a buffer of its own. second/README.md lays both out. It is a test program over `writing` and
 // `cases`: all but the stream may change.
 ghost use mathlib.Core.Path.{_≡_};
 ghost use Prim.Native.Nat.{_≤_};
 ghost use lib.ListN.{length};
-use recording::Written;
 use settings::Row;
+use writing::Written;
 
 // The number, place and length of a written piece: 7 bytes.
 fn head_of(w: Written) -> [u8; 7] {
@@ -32,7 +32,7 @@ fn print_opening(case: &[u8; 129], buf: &mut [u8]) -> bool
     let st = cases::settings_at(case, 0);
     let rows = bits::get16(case, 101);
     cases::fill(buf);
-    let w = recording::write_opening(st, rows, buf);
+    let w = writing::write_opening(st, rows, buf);
     print(w, buf, b" ")
 }
 
@@ -43,7 +43,7 @@ fn print_row(case: &[u8; 129], buf: &mut [u8]) -> bool
     let hold = bits::get32(case, 103);
     let words = cases::words_at(case, 107);
     cases::fill(buf);
-    let w = recording::write_row(st, Row { hold, words }, buf);
+    let w = writing::write_row(st, Row { hold, words }, buf);
     print(w, buf, b"\n")
 }
 

@@ -1,5 +1,6 @@
 -- `embed::replay_whole` meets its contract: 10 where the totals or the records do not fit, else all of both.
 use mathlib.Core.Path.{refl, sym, ap, _∙_}
+use Prim.Native.Nat.{_*_}
 use denote.Ref.{now}
 use lib.ListN.{length}
 use borrow.Author.Needs.{needs}
@@ -40,7 +41,7 @@ replay-rows-requires : tie.Need-replay-rows-requires
 replay-rows-requires c κs =
     let a = c .before .before .before .before .before .before .before .before .before .before .before .before .before .before .before .args in
     let p = c .before .before .before .before .before .before .before .before .before .before .before .before .before .before .before .pre in
-    let fit = records-fit (length (replay (now (a .s)) .replay .events)) (length (now (a .records))) (sym (c .before .before .before .before .records-number .ensures) ∙ c .before .before .before .if2 .left) in
+    let fit = records-fit (12 * length (replay (now (a .s)) .replay .events)) (length (now (a .records))) (sym (c .before .before .before .before .records-number .ensures) ∙ c .before .before .before .if2 .left) in
     (p .0, p .1, record { wiring = c .before .before .before .before .before .before .before .wiring-of .ensures; causes-are = c .before .before .before .before .before .before .before .before .before .before .associations .ensures; delays-are = c .before .before .before .before .before .before .before .before .before .delays .ensures }, fit)
 
 returns-3 : tie.Need-returns-3

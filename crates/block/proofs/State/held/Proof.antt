@@ -7,11 +7,12 @@ use borrow.Author.Needs.{needs}
 use denote.Ref.{now}
 use lib.ListN.{length, replicate}
 use lib.Seq.{length-sets}
+use Rattle.settings.proofs.Answers.{answers-refused, answers-no-room, answers-granted}
 use Rattle.block.specs.declared.Ran.{Ran}
 use Rattle.block.specs.Scan.{inputNumber, atFront}
 use Rattle.block.specs.Held.{run, grantedHeld, refusedHeld, heldNumber, heldOf, heldInto}
 use Rattle.block.specs.Run.{heldBy}
-use Rattle.block.proofs.Answers.{answers-refused, answers-no-room, answers-granted, copied}
+use Rattle.block.proofs.Answers.{copied}
 use Rattle.block.proofs.Runs.{due-bytes}
 use Rattle.block.proofs.State.held.Statement.{statement}
 use Rattle.block.proofs.State.held.Tie as tie
@@ -21,7 +22,7 @@ unfolding heldOf heldInto heldNumber
 returns c =
     let i = c .before .before in
     let a = i .before .before .args in
-    answers-refused _ (length (run (a .st) (a .row) (a .self) .events)) (now (a .out)) (atFront (run (a .st) (a .row) (a .self) .events) (now (a .out))) (grantedHeld (a .st) (a .row) (a .self)) (refusedHeld (a .self)) _ (i .input-number .ensures)
+    answers-refused _ (12 * length (run (a .st) (a .row) (a .self) .events)) (now (a .out)) (atFront (run (a .st) (a .row) (a .self) .events) (now (a .out))) (grantedHeld (a .st) (a .row) (a .self)) (refusedHeld (a .self)) _ (i .input-number .ensures)
     (c .refused-held .result) (c .refused-held .ensures) (c .before .if1 .taken)
 
 -- what the tests before the run found
@@ -49,7 +50,7 @@ returns-2 c =
     let k = c .before .before .before .before in
     let i = k .before .before .before in
     let a = i .before .before .args in
-    answers-no-room _ (length (run (a .st) (a .row) (a .self) .events)) (now (a .out)) (atFront (run (a .st) (a .row) (a .self) .events) (now (a .out))) (grantedHeld (a .st) (a .row) (a .self)) (refusedHeld (a .self)) _ (i .input-number .ensures)
+    answers-no-room _ (12 * length (run (a .st) (a .row) (a .self) .events)) (now (a .out)) (atFront (run (a .st) (a .row) (a .self) .events) (now (a .out))) (grantedHeld (a .st) (a .row) (a .self)) (refusedHeld (a .self)) _ (i .input-number .ensures)
     (c .refused-held2 .result) (c .refused-held2 .ensures) (k .before .before .if1 .left) (omega (arith, due k .0, c .before .if2 .taken))
 
 copy-front-requires : tie.Need-copy-front-requires
@@ -67,7 +68,7 @@ returns-3 c =
     let a = i .before .before .args in
     let d = due k in
     let e : 12 * k .run-right .result .records ≡ 12 * length (run (a .st) (a .row) (a .self) .events) = ap (λ n. 12 * n) (d .0) in
-    answers-granted _ (length (run (a .st) (a .row) (a .self) .events)) (now (a .out)) (atFront (run (a .st) (a .row) (a .self) .events) (now (a .out))) (grantedHeld (a .st) (a .row) (a .self)) (refusedHeld (a .self)) _ (i .input-number .ensures) _ _
+    answers-granted _ (12 * length (run (a .st) (a .row) (a .self) .events)) (now (a .out)) (atFront (run (a .st) (a .row) (a .self) .events) (now (a .out))) (grantedHeld (a .st) (a .row) (a .self)) (refusedHeld (a .self)) _ (i .input-number .ensures) _ _
     (c .granted-held .ensures ∙ ap heldBy (k .run-right .ensures .0))
     (copied (run (a .st) (a .row) (a .self) .events) _ (replicate 384 0) _ (now (a .out)) _ e (d .1) (k .run-right .ensures .1) (c .before .before .before .copy-front .ensures))
     (k .before .before .if1 .left) (omega (arith, d .0, c .before .before .before .before .before .before .if2 .left))

@@ -1,0 +1,24 @@
+-- What is said of a file that the reader accepts. Document 01, "Recordings".
+use Prim.Native.Nat.{ℕ, _+_, _*_}
+use mathlib.Core.Path.{_≡_}
+use mathlib.Core.List.{List}
+use lib.ListN.{length}
+use Rattle.settings.specs.declared.Row.{Row}
+use Rattle.settings.specs.declared.Settings.{Settings}
+use Rattle.recording.specs.Reader.{reading}
+use Rattle.recording.specs.Answers.{number, rowCount, firstRow, rowWidth}
+use Rattle.recording.specs.Steps.{rowsOf}
+
+-- the reader accepts
+abbrev pub Accepted : List ℕ → Type 0
+Accepted s = number (reading s .answer) ≡ 0
+
+-- the answer is these settings and so many rows
+abbrev pub Answers : List ℕ → Settings → List Row → Type 0
+Answers s st rows =
+    Accepted s
+    × (reading s .settings ≡ st)
+    × (rowCount (reading s .answer) ≡ length rows)
+    × (firstRow (reading s .answer) ≡ 10 + 6 * st .count)
+    × (rowWidth (reading s .answer) ≡ 24)
+    × (rowsOf s ≡ rows)

@@ -1,0 +1,5 @@
+pub mod Stores
+pub mod Opening
+pub mod Pieces
+pub mod Passes
+pub mod Theorems

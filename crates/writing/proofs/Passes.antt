@@ -1,0 +1,49 @@
+-- What the writer asks of the pieces is that the settings and rows are right.
+use mathlib.Core.Path.{_≡_}
+use mathlib.Core.List.{List, [], _∷_}
+use Prim.Native.Nat.{ℕ}
+use borrow.Author.Tests.{leb-true, le-leb}
+use lib.Dec.{leb}
+use lib.ListN.{length}
+use Rattle.bits.proofs.Lists.{and-left, and-right}
+use Rattle.settings.specs.declared.Row.{Row}
+use Rattle.settings.specs.declared.Settings.{Settings}
+use Rattle.settings.specs.Refusals.{unless}
+use Rattle.settings.specs.Right.{limitsOf, settingsNumber, rowNumber}
+use Rattle.settings.proofs.Refusals.{or-else-none, unless-none}
+use Rattle.recording.specs.declared.Kind.the-variants.{Rows}
+use Rattle.recording.specs.Sections.{numberOf, countOk}
+use Rattle.recording.specs.Encode.{All, Right}
+use Rattle.writing.specs.Writer.{openingNumber, rowPieceNumber}
+
+module _ (st : Settings) where
+  rows-pass : settingsNumber st ≡ 0 → (rows : List Row) → All (rowNumber (limitsOf st)) rows → All (rowPieceNumber st) rows
+  unfolding rowPieceNumber
+  rows-pass z [] h = tt
+  rows-pass z (r ∷ rows) h = (rw z (h .0), rows-pass z rows (h .1))
+
+  rows-back : (rows : List Row) → All (rowPieceNumber st) rows → All (rowNumber (limitsOf st)) rows
+  unfolding rowPieceNumber
+  rows-back [] h = tt
+  rows-back (r ∷ rows) h = (or-else-none (settingsNumber st) (rowNumber (limitsOf st) r) (h .0) .1, rows-back rows (h .1))
+
+  pub right-passes : (rows : List Row) → Right st rows → (openingNumber st (length rows) ≡ 0) × All (rowPieceNumber st) rows
+  unfolding openingNumber
+  right-passes rows r = (
+    rw (r .settings, le-leb 1 (length rows) (r .rows-least), le-leb (length rows) 2048 (r .rows-most)),
+    rows-pass (r .settings) rows (r .each-row),
+  )
+
+  pub passes-right : (rows : List Row) → length (st .effects) ≡ 16 → openingNumber st (length rows) ≡ 0 → All (rowPieceNumber st) rows → Right st rows
+  unfolding openingNumber
+  passes-right rows sixteen h each =
+      let n = length rows in
+      let both = or-else-none (settingsNumber st) (unless (countOk Rows n) (numberOf Rows)) h in
+      let count = unless-none (countOk Rows n) 3 (both .1) in
+      record {
+        settings = both .0;
+        slots = sixteen;
+        rows-least = leb-true 1 n (and-left (leb 1 n) (leb n 2048) count);
+        rows-most = leb-true n 2048 (and-right (leb 1 n) (leb n 2048) count);
+        each-row = rows-back rows each;
+      }

@@ -1,0 +1,198 @@
+// The writer: the opening piece and a row, each into a lent buffer. Document 01, "Recordings" and "Refusal numbers". How a piece
+// is put may change without moving a contract, as long as nothing is put before it is known to fit. It rests on `recording`, whose table
+// of sections has the widths, the counts and the numbers, on `settings` and `bits`.
+ghost use mathlib.Core.Path.{_≡_};
+ghost use mathlib.Core.List.{_∷_, []};
+ghost use Prim.Native.Nat.{_+_, _*_, _^_, _≤_, _<_};
+ghost use lib.ListN.{length, take};
+ghost use lib.Seq.{sets};
+ghost use Rattle.bits.specs.Layout.{pack};
+ghost use Rattle.recording.specs.Entries.{putEffect, putRow, putAll};
+ghost use Rattle.recording.specs.Encode.{opening};
+ghost use Rattle.writing.specs.Writer.{openingNumber, rowPieceNumber, openingWritten, openingAfter, rowWritten, rowAfter};
+use recording::Kind;
+use settings::Effect;
+use settings::Row;
+use settings::Settings;
+
+// What writing a piece comes to: the bytes written, or the refusal's number.
+pub enum Written {
+    Bytes(usize),
+    Refused(u8),
+}
+
+// ---- places
+
+// Where the effects section starts: past the one entry of the block section.
+fn effects_section() -> usize
+    ensures { λ r. ⌜ r ≡ 6 ⌝ }
+{
+    recording::entries_of(0) + recording::width_of(Kind::Block)
+}
+
+// The place of entry i, of those from `at` on that are as wide as effects.
+fn effect_place(at: usize, i: usize) -> usize
+    requires { ⌜ (i ≤ 16) × (at + 6 * i < 2 ^ 64) ⌝ }
+    ensures { λ r. ⌜ r ≡ at + 6 * i ⌝ }
+{
+    at + recording::width_of(Kind::Effects) * i
+}
+
+// Where the rows section of a file with so many effects starts.
+fn rows_section(count: usize) -> usize
+    requires { ⌜ count ≤ 16 ⌝ }
+    ensures { λ r. ⌜ r ≡ 8 + 6 * count ⌝ }
+{
+    effect_place(recording::entries_of(effects_section()), count)
+}
+
+// ---- stores
+
+// Five words from `at`.
+fn put_five(s: &mut [u8], at: usize, a: u16, b: u16, c: u16, d: u16, e: u16)
+    requires { ⌜ at + 10 ≤ length (now s) ⌝ }
+    ensures { λ _. ⌜ now (s .exit) ≡ sets (now (s .entry)) at (pack (2 ∷ 2 ∷ 2 ∷ 2 ∷ 2 ∷ []) (a ∷ b ∷ c ∷ d ∷ e ∷ [])) ⌝ }
+{
+    bits::put16(s, at, a);
+    bits::put16(s, at + 2, b);
+    bits::put16(s, at + 4, c);
+    bits::put16(s, at + 6, d);
+    bits::put16(s, at + 8, e);
+}
+
+fn put_row(s: &mut [u8], at: usize, row: Row)
+    requires { ⌜ at + 24 ≤ length (now s) ⌝ }
+    ensures { λ _. ⌜ now (s .exit) ≡ sets (now (s .entry)) at (putRow row) ⌝ }
+{
+    let w = row.words;
+    bits::put32(s, at, row.hold);
+    put_five(
+        s,
+        at + 4,
+        w.values,
+        w.bad,
+        w.mask,
+        w.require_reset,
+        w.reset_permit,
+    );
+    put_five(
+        s,
+        at + 14,
+        w.start_permit,
+        w.reset,
+        w.force_permit,
+        w.force_trip,
+        w.force_normal,
+    );
+}
+
+fn put_effect(s: &mut [u8], at: usize, e: Effect)
+    requires { ⌜ at + 6 ≤ length (now s) ⌝ }
+    ensures { λ _. ⌜ now (s .exit) ≡ sets (now (s .entry)) at (putEffect e) ⌝ }
+{
+    bits::put16(s, at, e.association);
+    bits::put32(s, at + 2, e.delay);
+}
+
+// The first n effects from `at`; there are so many.
+fn put_effects(s: &mut [u8], at: usize, effects: [Effect; 16], n: usize)
+    requires { ⌜ (n ≤ 16) × (at + 6 * n ≤ length (now s)) ⌝ }
+    ensures { λ _. ⌜ now (s .exit) ≡ sets (now (s .entry)) at (putAll putEffect (take n effects)) ⌝ }
+    ensures { λ _. ⌜ length (take n effects) ≡ n ⌝ }
+{
+    let mut i = 0;
+    while i < n {
+        let e = effects[i];
+        put_effect(s, effect_place(at, i), e);
+        i += 1;
+    }
+}
+
+// The block section and the effects' count.
+fn put_block(s: &mut [u8], causes: u8, options: u8, period: u16, count: u16)
+    requires { ⌜ 8 ≤ length (now s) ⌝ }
+    ensures { λ _. ⌜ now (s .exit) ≡ sets (now (s .entry)) 0 (pack (2 ∷ 1 ∷ 1 ∷ 2 ∷ 2 ∷ []) (1 ∷ causes ∷ options ∷ period ∷ count ∷ [])) ⌝ }
+{
+    let b = recording::entries_of(0);
+    let e = effects_section();
+    bits::put16(s, 0, 1);
+    bits::put8(s, b, causes);
+    bits::put8(s, b + 1, options);
+    bits::put16(s, b + 2, period);
+    bits::put16(s, e, count);
+}
+
+// The opening piece at the start of `s`, with its length.
+fn put_opening(s: &mut [u8], st: Settings, rows: u16)
+    requires { ⌜ (st .count ≤ 16) × (10 + 6 * st .count ≤ length (now s)) ⌝ }
+    ensures { λ _. ⌜ now (s .exit) ≡ sets (now (s .entry)) 0 (opening st rows) ⌝ }
+    ensures { λ _. ⌜ length (opening st rows) ≡ 10 + 6 * st .count ⌝ }
+{
+    let n = st.count as usize;
+    let effects = st.effects;
+    put_block(s, st.causes, st.options, st.period, st.count as u16);
+    put_effects(s, recording::entries_of(effects_section()), effects, n);
+    bits::put16(s, rows_section(n), rows);
+}
+
+// ---- which number refuses a piece
+
+fn opening_number(st: Settings, rows: u16) -> u8
+    ensures { λ r. ⌜ r ≡ openingNumber st rows ⌝ }
+{
+    let number = settings::settings_number(st);
+    if number != 0 {
+        return number;
+    }
+    if recording::count_ok(Kind::Rows, rows) {
+        0
+    } else {
+        recording::number_of(Kind::Rows)
+    }
+}
+
+fn row_piece_number(st: Settings, row: Row) -> u8
+    ensures { λ r. ⌜ r ≡ rowPieceNumber st row ⌝ }
+{
+    let number = settings::settings_number(st);
+    if number != 0 {
+        return number;
+    }
+    settings::row_number(settings::limits_of(st), row)
+}
+
+// ---- the two pieces
+
+// Writes the opening piece, through the row count, at the start of `out`.
+pub fn write_opening(st: Settings, rows: u16, out: &mut [u8]) -> Written
+    ensures { λ r. ⌜ r ≡ openingWritten st rows (length (now (out .entry))) ⌝ }
+    ensures { λ _. ⌜ now (out .exit) ≡ openingAfter st rows (now (out .entry)) ⌝ }
+{
+    let number = opening_number(st, rows);
+    if number != 0 {
+        return Written::Refused(number);
+    }
+    let due = recording::entries_of(rows_section(st.count as usize));
+    if out.len() < due {
+        return Written::Refused(10);
+    }
+    put_opening(out, st, rows);
+    Written::Bytes(due)
+}
+
+// Writes a row at the start of `out`.
+pub fn write_row(st: Settings, row: Row, out: &mut [u8]) -> Written
+    ensures { λ r. ⌜ r ≡ rowWritten st row (length (now (out .entry))) ⌝ }
+    ensures { λ _. ⌜ now (out .exit) ≡ rowAfter st row (now (out .entry)) ⌝ }
+{
+    let number = row_piece_number(st, row);
+    if number != 0 {
+        return Written::Refused(number);
+    }
+    let width = recording::width_of(Kind::Rows);
+    if out.len() < width {
+        return Written::Refused(10);
+    }
+    put_row(out, 0, row);
+    Written::Bytes(width)
+}
