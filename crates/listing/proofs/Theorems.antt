@@ -11,8 +11,9 @@ use Rattle.block.specs.Scan.{scansNumber, granted}
 use Rattle.recording.specs.declared.Answer.the-variants.{Accepted, Refused}
 use Rattle.recording.specs.Answers.{number, rowCount}
 use Rattle.recording.specs.Reader.{reading}
+use Rattle.recording.specs.Steps.{rowPlace}
 use Rattle.rerun.specs.declared.Totals.{Totals}
-use Rattle.rerun.specs.Replay.{Outcome, whole, joined, refusedAt, replay, firstRows, rowOf, rowPlace, rowRun}
+use Rattle.rerun.specs.Replay.{Outcome, whole, joined, refusedAt, replay, firstRows, rowOf, rowRun}
 use Rattle.rerun.specs.Turn.{totalsOf}
 use Rattle.rerun.proofs.Files.{Before, by-rows, one-row-more, all-the-rows}
 use Rattle.rerun.proofs.Theorems.{whole-or-stopped}

@@ -18,11 +18,11 @@ use Rattle.recording.specs.declared.Answer.the-variants as A
 use Rattle.recording.specs.Answers.{number, place, rowCount, firstRow, rowWidth, noRow}
 use Rattle.recording.specs.Encode.{Right}
 use Rattle.recording.specs.Reader.{reading}
-use Rattle.recording.specs.Steps.{rowsOf}
+use Rattle.recording.specs.Steps.{rowPlace, rowsOf}
 use Rattle.recording.proofs.Cases.{not-accepted}
 use Rattle.recording.proofs.Theorems.{accepted-case, accepted-is-right}
 use Rattle.recording.proofs.Trips.{length-rowsOf}
-use Rattle.rerun.specs.Replay.{Outcome, whole, started, joined, refusedAt, rowsFrom, replayRows, replay, firstRows, rowOf, rowPlace, rowRun, sumOfHolds}
+use Rattle.rerun.specs.Replay.{Outcome, whole, started, joined, refusedAt, rowsFrom, replayRows, replay, firstRows, rowOf, rowRun, sumOfHolds}
 use Rattle.rerun.proofs.Rows.{Sound, unless-refuses, past, granted-none, granted-refused, then-the-others, refusal-ends, none-refused-whole, events-stay, rows-counted, records-few, done-after, sound-after, within-scans, sound-rows, done-is-holds, all-take, all-at}
 
 module _ (s : List ℕ) where

@@ -34,11 +34,12 @@ use Rattle.recording.specs.declared.Answer.the-variants as A
 use Rattle.recording.specs.Answers.{number, rowCount, firstRow, rowWidth}
 use Rattle.recording.specs.Entries.{rowAt}
 use Rattle.recording.specs.Reader.{reading}
+use Rattle.recording.specs.Steps.{rowPlace}
 use Rattle.recording.proofs.Theorems.{first-row-after-the-opening, row-in-the-file}
 use Rattle.rerun.specs.declared.Tally.{Tally}
 use Rattle.rerun.specs.declared.Totals.{Totals}
 use Rattle.rerun.specs.declared.Turn.{Turn}
-use Rattle.rerun.specs.Replay.{Replay, Outcome, whole, joined, refusedAt, started, replay, answered, firstRows, rowOf, rowPlace, rowRun}
+use Rattle.rerun.specs.Replay.{Replay, Outcome, whole, joined, refusedAt, started, replay, answered, firstRows, rowOf, rowRun}
 use Rattle.rerun.specs.Turn.{Fits, tallyAfter, totalsWith, turnWith, tallyOf, answerBy, totalsAt, totalsOf, totalsAfter, Going, turnOf, turnInto}
 use Rattle.rerun.proofs.Rows.{unless-refuses, granted-none, granted-refused, granted-either}
 use Rattle.rerun.proofs.Files.{no-rows, one-row-more, ends-at-refusal, all-the-rows, whole-so-far, counted, settings-right, row-right, few-rows, sound, sound-next, scans-next, records-next}

@@ -15,13 +15,14 @@ use Rattle.block.specs.State.{fresh}
 use Rattle.block.specs.Scan.{granted}
 use Rattle.recording.specs.Answers.{number, rowCount, rowWidth}
 use Rattle.recording.specs.Reader.{reading}
+use Rattle.recording.specs.Steps.{rowPlace}
 use Rattle.rerun.specs.declared.Tally.{Tally}
 use Rattle.rerun.specs.declared.Totals.{Totals}
 use Rattle.rerun.specs.declared.Went.{Went}
 use Rattle.rerun.specs.declared.Turn.{Turn}
 use Rattle.rerun.specs.declared.Replayed.{Replayed}
 use Rattle.rerun.specs.declared.Stop.{Stop}
-use Rattle.rerun.specs.Replay.{Replay, Outcome, replay, firstRows, rowPlace, rowRun}
+use Rattle.rerun.specs.Replay.{Replay, Outcome, replay, firstRows, rowRun}
 
 -- a fresh state of n effects, by their words
 abbrev pub totalsAt : (n first : ℕ) → Totals
