@@ -10,7 +10,6 @@ use Rattle.planes.specs.Board.{boardAt, boardOf}
 use Rattle.block.specs.declared.State.{State}
 use Rattle.block.specs.declared.Scanned.{Scanned}
 use Rattle.block.specs.declared.Held.{Held}
-use Rattle.block.specs.declared.Ran.{Ran}
 use Rattle.block.specs.declared.Kept.{Kept}
 use Rattle.block.specs.Held.{Stepped}
 
@@ -20,19 +19,7 @@ startOf x = record { done = x .done; next = x .next; slots = x .slots; at = 0; l
 abbrev pub reachedBy : ℕ → Board → State
 reachedBy n b = record { done = b .done; next = b .next; slots = slotsOf n (b .table) }
 
--- its records are those of its events
-abbrev pub ranOf : Stepped → Ran
-ranOf r =
-    record {
-      state = r .state;
-      effect = r .effect;
-      latent = r .latent;
-      records = length (r .events);
-      live = r .live;
-      exercised = r .exercised;
-    }
-
--- the same where the words of the effects are kept
+-- what a held run gives where the words of the effects are kept
 pub record KeptWords : Type 0 where
   pub board : Board
   pub records : ℕ
@@ -64,18 +51,4 @@ scannedBy h =
       effect = h .effect;
       latent = h .latent;
       records = h .records;
-    }
-
--- the answer to a held run that nothing refuses
-abbrev pub heldBy : Ran → Held
-heldBy r =
-    record {
-      number = 0;
-      place = 0;
-      state = r .state;
-      effect = r .effect;
-      latent = r .latent;
-      records = r .records;
-      live = r .live;
-      exercised = r .exercised;
     }

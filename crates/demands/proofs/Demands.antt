@@ -36,7 +36,7 @@ use Rattle.block.specs.declared.Held.{Held}
 use Rattle.block.specs.State.{stateNumber}
 use Rattle.block.specs.Scan.{atFront, after, events, grantedScan, refusedScan, scanOf, scanInto}
 use Rattle.block.specs.Held.{start, single, step, stepped, run, grantedHeld, refusedHeld, heldOf, heldInto}
-use Rattle.block.specs.Corners.{corners, allHold}
+use Rattle.block.specs.Corners.{corners, allAgree}
 use Rattle.block.proofs.Corners.{corner-table}
 use Rattle.block.proofs.Theorems as block
 use Rattle.block.proofs.Stepping.{runOf, wordsAt}
@@ -326,7 +326,7 @@ pub record Demand2 : Type 0 where
       → x .done + 1 ≤ 1000000000 → 12 * length (events st w x) ≤ length out → length (x .slots) ≡ 16
       → ByTheRules st w x out (scanOf st w x (length out)) (scanInto st w x out)
   -- P1 to P12
-  pub corner-table : allHold corners ≡ true
+  pub corner-table : allAgree corners ≡ true
 
 pub demand-2 : Demand2
 demand-2 = record {
