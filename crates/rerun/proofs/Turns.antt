@@ -40,7 +40,7 @@ use Rattle.rerun.specs.declared.Tally.{Tally}
 use Rattle.rerun.specs.declared.Totals.{Totals}
 use Rattle.rerun.specs.declared.Turn.{Turn}
 use Rattle.rerun.specs.Replay.{Replay, Outcome, whole, joined, refusedAt, started, replay, answered, firstRows, rowOf, rowRun}
-use Rattle.rerun.specs.Turn.{Fits, tallyAfter, totalsWith, turnWith, tallyOf, answerBy, totalsAt, totalsOf, totalsAfter, Going, turnOf, turnInto}
+use Rattle.rerun.specs.Turn.{Fits, tallyAfter, totalsWith, turnWith, tallyOf, answerBy, totalsAt, totalsOf, Going, turnOf, turnInto}
 use Rattle.rerun.proofs.Rows.{unless-refuses, granted-none, granted-refused, granted-either}
 use Rattle.rerun.proofs.Files.{no-rows, one-row-more, ends-at-refusal, all-the-rows, whole-so-far, counted, settings-right, row-right, few-rows, sound, sound-next, scans-next, records-next}
 
@@ -80,6 +80,18 @@ begins s st x rows first width t a e w f =
       counted = omega (arith, none);
       none-refused = ap (λ (v : Outcome). v .number) o;
       totals = f ∙ ap (λ (n : ℕ). totalsAt n first) (count-of st x w) ∙ ap (λ (z : Settings). totalsAt (z .count) first) e ∙ at-first s first (ap firstRow a) ∙ sym (ap (λ (v : Outcome). totalsOf s (v .replay)) o);
+    }
+
+-- `tallyAfter`, of totals
+abbrev totalsAfter : Totals → (width : ℕ) → KeptWords → Totals
+totalsAfter t width ran =
+    record {
+      board = ran .board;
+      place = t .place + width;
+      records = t .records + ran .records;
+      rows = t .rows + 1;
+      live = t .live + ran .live;
+      exercised = t .exercised + ran .exercised;
     }
 
 module _ (s : List ℕ) (st : Settings) (width : ℕ) (t : Totals) (g : Going s st width t) where

@@ -10,7 +10,7 @@ use Rattle.effects.specs.Records.{bytes}
 use Rattle.settings.specs.declared.Settings.{Settings}
 use Rattle.planes.specs.Board.{boardAt, boardOf, markOf}
 use Rattle.block.specs.declared.Kept.{Kept}
-use Rattle.block.specs.Run.{KeptWords, startOf}
+use Rattle.block.specs.Run.{startOf}
 use Rattle.block.specs.State.{fresh}
 use Rattle.block.specs.Scan.{granted}
 use Rattle.recording.specs.Answers.{number, rowCount, rowWidth}
@@ -40,18 +40,7 @@ totalsOf s r =
       exercised = r .exercised;
     }
 
--- one row more, which ran so
-abbrev pub totalsAfter : Totals → (width : ℕ) → KeptWords → Totals
-totalsAfter t width ran =
-    record {
-      board = ran .board;
-      place = t .place + width;
-      records = t .records + ran .records;
-      rows = t .rows + 1;
-      live = t .live + ran .live;
-      exercised = t .exercised + ran .exercised;
-    }
-
+-- the answer by the refusal's number and place, or 0 and 0, and what the rows so far have given
 abbrev pub answerBy : (number place : ℕ) → Tally → Replayed
 answerBy number place t =
     record {
