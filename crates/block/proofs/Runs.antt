@@ -30,10 +30,10 @@ use Rattle.block.specs.declared.Held.{Held}
 use Rattle.block.specs.Scan.{inputNumber}
 use Rattle.block.specs.Held.{start, run, grantedHeld}
 use Rattle.block.specs.State.{stateNumber}
-use Rattle.block.specs.Run.{startOf, reachedBy, keptAt, keptOf}
+use Rattle.block.specs.Run.{startOf, reachedBy, runOf, keptAt, keptOf}
 use Rattle.block.proofs.Answers.{settings-right, state-right, row-right, few, countable, hold-some}
 use Rattle.block.proofs.Boards.{shows, settled}
-use Rattle.block.proofs.Stepping.{Ready, ready-at, runOf, stepped-runs, stepped-done, stepped-effect, stepped-latent, stepped-exercised}
+use Rattle.block.proofs.Stepping.{Ready, ready-at, stepped-runs, stepped-done, stepped-effect, stepped-latent, stepped-exercised}
 
 abbrev state : ℕ → ℕ → List Slot → State
 state d q xs = record { done = d; next = q; slots = xs }

@@ -4,6 +4,7 @@ use Prim.Native.Nat.{ℕ}
 use mathlib.Core.List.{List}
 use lib.ListN.{length}
 use Rattle.effects.specs.declared.Progress.{Progress}
+use Rattle.rounds.specs.Steps.{Run}
 use Rattle.planes.specs.declared.Board.{Board}
 use Rattle.planes.specs.Table.{slotsOf}
 use Rattle.planes.specs.Board.{boardAt, boardOf}
@@ -18,6 +19,10 @@ startOf x = record { done = x .done; next = x .next; slots = x .slots; at = 0; l
 
 abbrev pub reachedBy : ℕ → Board → State
 reachedBy n b = record { done = b .done; next = b .next; slots = slotsOf n (b .table) }
+
+-- the run over lists that single scans have come to
+abbrev pub runOf : Stepped → Run
+runOf r = record { done = r .state .done; next = r .state .next; slots = r .state .slots; events = r .events; live = r .live }
 
 -- what a held run gives where the words of the effects are kept
 pub record KeptWords : Type 0 where

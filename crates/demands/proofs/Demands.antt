@@ -35,11 +35,11 @@ use Rattle.block.specs.declared.Scanned.{Scanned}
 use Rattle.block.specs.declared.Held.{Held}
 use Rattle.block.specs.State.{stateNumber}
 use Rattle.block.specs.Scan.{atFront, after, events, grantedScan, refusedScan, scanOf, scanInto}
-use Rattle.block.specs.Held.{start, single, step, stepped, run, grantedHeld, refusedHeld, heldOf, heldInto}
+use Rattle.block.specs.Run.{runOf}
+use Rattle.block.specs.Held.{wordsAt, start, single, step, stepped, run, grantedHeld, refusedHeld, heldOf, heldInto}
 use Rattle.block.specs.Corners.{corners, allAgree}
 use Rattle.block.proofs.Corners.{corner-table}
 use Rattle.block.proofs.Theorems as block
-use Rattle.block.proofs.Stepping.{runOf, wordsAt}
 use Rattle.block.proofs.State.scan.Reads as scan
 use Rattle.block.proofs.State.held.Reads as held
 use Rattle.recording.proofs.read.Reads as read

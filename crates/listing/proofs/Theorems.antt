@@ -20,9 +20,8 @@ use Rattle.rerun.proofs.Files.{Before, by-rows, one-row-more, all-the-rows}
 use Rattle.rerun.proofs.Theorems.{whole-or-stopped}
 use Rattle.listing.specs.Text.{header, lines, refusalLine}
 use Rattle.listing.specs.Listing.{closing, listing}
-use Rattle.listing.specs.Printed.{opening, closingBy, rowLines, rowsLines}
+use Rattle.listing.specs.Printed.{opening, closingBy, rowLines, rowsLines, Last}
 use Rattle.listing.proofs.Lines.{lines-append}
-use Rattle.listing.proofs.Loop.{Last}
 
 -- a refused file: the opening is all
 pub a-refused-file-is-its-opening : (s : List ℕ) → (Accepted s → ⊥) → opening (reading s .answer) ≡ listing s

@@ -2,6 +2,7 @@
 -- lent buffer. Where fewer bytes are left than a piece may take, the buffer is full: nothing is written, and the caller goes
 -- on with more room. The pieces together are the listing of document 01, "One session, whole".
 use Prim.Native.Nat.{ℕ, zero, suc, _+_}
+use mathlib.Core.Path.{_≡_}
 use mathlib.Core.Bool.{Bool, true, false, cond}
 use mathlib.Core.List.{List, [], _++_}
 use lib.Dec.{leb}
@@ -11,7 +12,7 @@ use Rattle.block.specs.Scan.{granted}
 use Rattle.recording.specs.declared.Answer.{Answer}
 use Rattle.recording.specs.Answers.{number, place}
 use Rattle.rerun.specs.declared.Totals.{Totals}
-use Rattle.rerun.specs.Replay.{firstRows, rowRun}
+use Rattle.rerun.specs.Replay.{replay, firstRows, rowRun}
 use Rattle.rerun.specs.Turn.{totalsOf, tallyOf, answerBy}
 use Rattle.listing.specs.declared.Piece.{Piece}
 use Rattle.listing.specs.declared.Printed.{Printed}
@@ -64,3 +65,9 @@ printed s t n at =
       totals = totalsOf s (firstRows s (t .rows + 1) .replay);
     })
     (record { full = true; at = at; number = 0; totals = t })
+
+-- ## All pieces
+
+-- what a caller's loop over the rows ends with: the number of the row that came last, and the totals, are those of the replay
+abbrev pub Last : List ℕ → ℕ → Totals → Type 0
+Last s number t = (number ≡ replay s .number) × (t ≡ totalsOf s (replay s .replay))

@@ -25,4 +25,4 @@ pub last-buffer-ends-the-listing : (s : List ℕ) → Accepted s
     → (given : List ℕ) → given ++ take at out ≡ soFar s t → given ++ take (r .at) out′ ++ closingBy (r .number) (r .totals) ≡ listing s
 last-buffer-ends-the-listing s accepted st w t at out r out′ f h given e =
     ap (λ (l : List ℕ). l ++ closingBy (r .number) (r .totals)) (f .text given e)
-    ∙ pieces-are-the-listing s accepted (r .number) (r .totals) (f .number h, f .totals h)
+    ∙ pieces-are-the-listing s accepted (r .number) (r .totals) (f .last h)
