@@ -1,6 +1,6 @@
 -- The listing of document 01's session is the text that stands there, computed to its bytes.
 use mathlib.Core.Path.{_≡_, refl, ap, _∙_}
-use mathlib.Core.List.{List, _++_}
+use mathlib.Core.List.{_++_}
 use Prim.Native.Nat.{ℕ}
 use lib.ListN.{length}
 use Rattle.bits.specs.Decimal.{atMost, decimal}

@@ -83,15 +83,7 @@ module _ (s : List ℕ) where
   unfolding firstRows
   whole-so-far i z = none-refused-whole st (rowWidth (reading s .answer)) (take i (rowsOf s)) (firstRow (reading s .answer)) started z
 
-  -- a replay that no row ends has refused none of its first rows
-  pub none-so-far : number (reading s .answer) ≡ 0 → replay s .number ≡ 0 → (i : ℕ) → firstRows s i .number ≡ 0
-  none-so-far a z i = go (firstRows s i .number) refl
-    where
-      go : (n : ℕ) → firstRows s i .number ≡ n → firstRows s i .number ≡ 0
-      go zero e = e
-      go (suc n) e = ap (λ (o : Outcome). o .number) (sym (ends-at-refusal a i (λ h. omega (arith, e, h)))) ∙ z
-
-  -- and has their events
+  -- the replay has the events of first rows that none refused
   pub events-in-all : number (reading s .answer) ≡ 0 → (i : ℕ) → firstRows s i .number ≡ 0 → length (firstRows s i .replay .events) ≤ length (replay s .replay .events)
   unfolding firstRows
   events-in-all a i z =

@@ -8,7 +8,7 @@ use native.Mathlib.Omega.{arith}
 use borrow.Author.Tests.{leb-true}
 use lib.Dec.{leb}
 use lib.ListN.{length, length-append}
-use lib.Seq.{sets, length-sets}
+use lib.Seq.{sets}
 use Rattle.effects.specs.Records.{bytes}
 use Rattle.settings.specs.declared.Row.{Row}
 use Rattle.settings.specs.declared.Settings.{Settings}
@@ -49,14 +49,6 @@ use Rattle.rerun.proofs.Files.{no-rows, one-row-more, ends-at-refusal, 
 granted-number : (n at : ℕ) (r r′ : Replay) → granted n (whole r) (refusedAt at r′) .number ≡ n
 granted-number zero at r r′ = refl
 granted-number (suc n) at r r′ = refl
-
--- ## The lent bytes keep their length
-
-pub length-turn : (s : List ℕ) (i : ℕ) (buf : List ℕ) → length (turnInto s i buf) ≡ length buf
-length-turn s i buf =
-    granted-either (sets buf 0 (bytes (rowRun s i .events))) (λ k. buf) (λ b. length b ≡ length buf) (firstRows s (i + 1) .number)
-    (λ z. length-sets buf 0 (bytes (rowRun s i .events)))
-    (λ k. refl)
 
 -- ## The beginning: what the reader answers
 
