@@ -8,6 +8,7 @@ use Rattle.settings.specs.declared.Settings.{Settings}
 use Rattle.recording.specs.Reader.{reading}
 use Rattle.recording.proofs.Theorems.{Accepted}
 use Rattle.rerun.specs.declared.Totals.{Totals}
+use Rattle.rerun.specs.Replay.{started}
 use Rattle.rerun.specs.Turn.{totalsAt}
 use Rattle.listing.specs.declared.Printed.{Printed}
 use Rattle.listing.specs.Listing.{listing}
@@ -16,7 +17,7 @@ use Rattle.listing.proofs.Theorems.{pieces-are-the-listing}
 use Rattle.printing.specs.Filled.{soFar, Filled}
 
 -- before the first row the listing so far is the opening
-pub opening-so-far : (s : List ℕ) (n first : ℕ) → soFar s (totalsAt n first) ≡ opening (reading s .answer)
+pub opening-so-far : (s : List ℕ) (n first : ℕ) → soFar s (totalsAt n first started) ≡ opening (reading s .answer)
 opening-so-far s n first = append-nil (opening (reading s .answer))
 
 -- with the last buffer, what was given before it and the closing it is the whole

@@ -22,7 +22,7 @@ use Rattle.wiring.specs.declared.Wiring.{Wiring}
 use Rattle.wiring.specs.Wiring.{wiringOf}
 use Rattle.wiring.proofs.Held.{count-of}
 use Rattle.block.specs.declared.State.{State}
-use Rattle.block.specs.State.{stateNumber, fresh}
+use Rattle.block.specs.State.{stateNumber}
 use Rattle.block.specs.Scan.{inputNumber, scansNumber, granted}
 use Rattle.block.specs.Held.{Stepped, run}
 use Rattle.block.specs.declared.Kept.{Kept}
@@ -52,26 +52,23 @@ granted-number (suc n) at r r′ = refl
 
 -- ## The beginning: what the reader answers
 
-at-first : (s : List ℕ) (first : ℕ) → firstRow (reading s .answer) ≡ first → totalsAt (reading s .settings .count) first ≡ totalsOf s started
-at-first s first e =
-    let p : first ≡ firstRow (reading s .answer) + rowWidth (reading s .answer) * 0 = omega (arith, e, mul-zero (rowWidth (reading s .answer))) in
-    λ j. record { board = boardOf (reading s .settings .count) (startOf fresh); place = p j; records = 0; rows = 0; live = 0; exercised = 0 }
-
 pub few-effects : (s : List ℕ) (st : Settings) (rows first width : ℕ) → reading s .answer ≡ A.Accepted rows first width → st ≡ reading s .settings → st .count ≤ 16
 few-effects s st rows first width a e = rw e (count-few (reading s .settings) (settings-right s (ap number a)))
 
 pub begins : (s : List ℕ) (st : Settings) (x : Wiring) (rows first width : ℕ) (t : Totals) → reading s .answer ≡ A.Accepted rows first width → st ≡ reading s .settings
-    → x ≡ wiringOf st → t ≡ totalsAt (x .count) first → Going s st width t
+    → x ≡ wiringOf st → t ≡ totalsAt (x .count) first started → Going s st width t
 begins s st x rows first width t a e w f =
     let none : t .rows ≡ 0 = ap (λ (u : Totals). u .rows) f in
     let o = ap (firstRows s) none ∙ no-rows s in
+    let n = count-of st x w ∙ ap (λ (z : Settings). z .count) e in
+    let p : first ≡ rowPlace s 0 = omega (arith, ap firstRow a, mul-zero (rowWidth (reading s .answer))) in
     record {
       accepted = ap number a;
       settings = e;
       wide = sym (ap rowWidth a);
       counted = omega (arith, none);
       none-refused = ap (λ (v : Outcome). v .number) o;
-      totals = f ∙ ap (λ (n : ℕ). totalsAt n first) (count-of st x w) ∙ ap (λ (z : Settings). totalsAt (z .count) first) e ∙ at-first s first (ap firstRow a) ∙ sym (ap (λ (v : Outcome). totalsOf s (v .replay)) o);
+      totals = f ∙ (λ j. totalsAt (n j) (p j) started) ∙ sym (ap (λ (v : Outcome). totalsOf s (v .replay)) o);
     }
 
 -- `tallyAfter`, of totals

@@ -11,7 +11,6 @@ use Rattle.settings.specs.declared.Settings.{Settings}
 use Rattle.planes.specs.Board.{boardAt, boardOf, markOf}
 use Rattle.block.specs.declared.Kept.{Kept}
 use Rattle.block.specs.Run.{startOf}
-use Rattle.block.specs.State.{fresh}
 use Rattle.block.specs.Scan.{granted}
 use Rattle.recording.specs.Answers.{number, rowCount, rowWidth}
 use Rattle.recording.specs.Reader.{reading}
@@ -24,21 +23,21 @@ use Rattle.rerun.specs.declared.Replayed.{Replayed}
 use Rattle.rerun.specs.declared.Stop.{Stop}
 use Rattle.rerun.specs.Replay.{Replay, Outcome, replay, firstRows, rowRun}
 
--- a fresh state of n effects, by their words
-abbrev pub totalsAt : (n first : ℕ) → Totals
-totalsAt n first = record { board = boardOf n (startOf fresh); place = first; records = 0; rows = 0; live = 0; exercised = 0 }
-
--- the place is that of the row after the rows so far
-abbrev pub totalsOf : List ℕ → Replay → Totals
-totalsOf s r =
+-- what rows have given, by the words of n effects, and the place of the row after them
+abbrev pub totalsAt : (n place : ℕ) → Replay → Totals
+totalsAt n place r =
     record {
-      board = boardOf (reading s .settings .count) (startOf (r .state));
-      place = rowPlace s (r .rows);
+      board = boardOf n (startOf (r .state));
+      place = place;
       records = length (r .events);
       rows = r .rows;
       live = r .live;
       exercised = r .exercised;
     }
+
+-- in a file
+abbrev pub totalsOf : List ℕ → Replay → Totals
+totalsOf s r = totalsAt (reading s .settings .count) (rowPlace s (r .rows)) r
 
 -- the answer by the refusal's number and place, or 0 and 0, and what the rows so far have given
 abbrev pub answerBy : (number place : ℕ) → Tally → Replayed
