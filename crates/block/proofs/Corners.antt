@@ -7,8 +7,8 @@ use Rattle.settings.specs.Right.{settingsNumber, wordsNumber, rowNumber}
 use Rattle.settings.specs.Signals.{signalsOf}
 use Rattle.block.specs.State.{stateNumber}
 use Rattle.block.specs.Scan.{inputNumber, after, events, scanNumber, scanOf}
-use Rattle.block.specs.Corners.{corners, allHold}
+use Rattle.block.specs.Corners.{corners, allAgree}
 
-pub corner-table : allHold corners ≡ true
+pub corner-table : allAgree corners ≡ true
 unfolding ones onesIn tabulate settingsNumber wordsNumber rowNumber signalsOf stateNumber inputNumber after events scanNumber scanOf
 corner-table = refl

@@ -26,14 +26,14 @@ use Rattle.settings.specs.Right.{limitsOf, settingsNumber}
 use Rattle.settings.specs.Signals.{signals, signalsOf}
 use Rattle.settings.proofs.Right.{row-words, hold-some}
 use Rattle.block.specs.declared.State.{State}
-use Rattle.block.specs.declared.Ran.{Ran}
+use Rattle.block.specs.declared.Held.{Held}
 use Rattle.block.specs.Scan.{inputNumber}
-use Rattle.block.specs.Held.{start, run}
+use Rattle.block.specs.Held.{start, run, grantedHeld}
 use Rattle.block.specs.State.{stateNumber}
-use Rattle.block.specs.Run.{startOf, reachedBy, ranOf, keptAt, keptOf}
+use Rattle.block.specs.Run.{startOf, reachedBy, runOf, keptAt, keptOf}
 use Rattle.block.proofs.Answers.{settings-right, state-right, row-right, few, countable}
 use Rattle.block.proofs.Boards.{shows, settled}
-use Rattle.block.proofs.Stepping.{Ready, ready-at, runOf, stepped-runs, stepped-done, stepped-effect, stepped-latent, stepped-exercised}
+use Rattle.block.proofs.Stepping.{Ready, ready-at, stepped-runs, stepped-done, stepped-effect, stepped-latent, stepped-exercised}
 
 abbrev state : ℕ → ℕ → List Slot → State
 state d q xs = record { done = d; next = q; slots = xs }
@@ -133,7 +133,7 @@ module _ (st : Settings) (row : Row) (x : State) (input : inputNumber st x row �
       comes-to = e ∙ ap (strokedBy st (row .words)) stroke-is
 
       pub ran-is : (r : State) (v : ℕ) → r ≡ reachedBy (st .count) (s .board) → v ≡ row .hold * one (s .exercised)
-          → _≡_ {A = Ran} (record { state = r; effect = s .effect; latent = s .latent; records = s .board .at / recordLength; live = s .board .live; exercised = v }) (ranOf (run st row x))
+          → _≡_ {A = Held} (record { number = 0; place = 0; state = r; effect = s .effect; latent = s .latent; records = s .board .at / recordLength; live = s .board .live; exercised = v }) (grantedHeld st row x)
       ran-is r v er ev =
           let end = run st row x .state in
           let gr = er ∙ ap (λ (q : Stroked). reachedBy (st .count) (q .board)) comes-to
@@ -143,7 +143,7 @@ module _ (st : Settings) (row : Row) (x : State) (input : inputNumber st x row �
           let gn : s .board .at / recordLength ≡ length (run st row x .events) = omega (arith, ap (λ (q : Stroked). q .board .at) comes-to) in
           let gi = ap (λ (q : Stroked). q .board .live) comes-to in
           let gv = ev ∙ ap (λ (q : Stroked). row .hold * one (q .exercised)) comes-to ∙ sym exercised-is in
-          λ i. record { state = gr i; effect = gf i; latent = gl i; records = gn i; live = gi i; exercised = gv i }
+          λ i. record { number = 0; place = 0; state = gr i; effect = gf i; latent = gl i; records = gn i; live = gi i; exercised = gv i }
 
 -- ## Where the words are kept
 

@@ -20,20 +20,13 @@ use Rattle.block.specs.declared.State.{State}
 use Rattle.block.specs.declared.Scanned.{Scanned}
 use Rattle.block.specs.State.{stateNumber}
 use Rattle.block.specs.Scan.{inputNumber, once, after, events, scanNumber, grantedScan, refusedScan, scanOf}
-use Rattle.block.specs.Held.{later, Stepped, single, step, stepped}
+use Rattle.block.specs.Held.{later, wordsAt, Stepped, single, step, stepped}
+use Rattle.block.specs.Run.{runOf}
 use Rattle.block.proofs.Later.{later-right, once-right, signals-later, latent-clear, exercised-clear}
 use Rattle.block.proofs.RightStates.{scan-keeps-right}
 
--- the run over lists that single scans have come to
-abbrev pub runOf : Stepped → Run
-runOf r = record { done = r .state .done; next = r .state .next; slots = r .state .slots; events = r .events; live = r .live }
-
--- the words of scan number k + 1 of a hold
-abbrev pub wordsAt : ℕ → Words → Words
-wordsAt zero w = w
-wordsAt (suc k) w = later w
-
-later-again : (k : ℕ) (w : Words) → wordsAt k (later w) ≡ later w
+-- after the first scan all have the same
+pub later-again : (k : ℕ) (w : Words) → wordsAt k (later w) ≡ later w
 later-again zero w = refl
 later-again (suc k) w = refl
 

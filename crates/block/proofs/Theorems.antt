@@ -26,11 +26,12 @@ use Rattle.block.specs.declared.State.{State}
 use Rattle.block.specs.declared.Scanned.{Scanned}
 use Rattle.block.specs.State.{stateNumber, fresh}
 use Rattle.block.specs.Scan.{inputNumber, atFront, events, scanOf, grantedScan}
-use Rattle.block.specs.Held.{start, stepped, run, grantedHeld, refusedHeld, heldNumber, heldOf, heldInto}
+use Rattle.block.specs.Held.{wordsAt, start, stepped, run, grantedHeld, refusedHeld, heldNumber, heldOf, heldInto}
+use Rattle.block.specs.Run.{runOf}
 use Rattle.block.proofs.Later.{signals-timed}
 use Rattle.block.proofs.RightStates as states
 use Rattle.block.proofs.Runs as runs
-use Rattle.block.proofs.Stepping.{Ready, runOf, wordsAt, scan-accepted, ready-at}
+use Rattle.block.proofs.Stepping.{Ready, scan-accepted, ready-at}
 
 -- ## Demand 2: a scan
 

@@ -1,9 +1,10 @@
 -- Document 01, "Corner table": P1 to P12, in its order. One cause, one effect, period 100.
 use Prim.Native.Nat.{ℕ}
-use mathlib.Core.Bool.{Bool, true, _&&_}
+use mathlib.Core.Bool.{Bool, _&&_}
 use mathlib.Core.List.{List, [], _∷_}
 use lib.Dec.{eqb}
 use lib.ListN.{getD, replicate}
+use Rattle.bits.specs.Lists.{allFrom}
 use Rattle.rules.specs.declared.EffectState.{EffectState}
 use Rattle.rules.specs.declared.EffectState.the-variants.{Tripped, WaitReset, Ready, WaitStart, Normal, Delayed}
 use Rattle.rules.specs.declared.Slot.{Slot}
@@ -25,15 +26,15 @@ pub record Corner : Type 0 where
   pub after : Slot
 
 -- the one cause is quiet, and these words are set: require reset, reset permit, start permit and reset
-abbrev waiting : (require permit start reset : ℕ) → Words
-waiting require permit start reset =
+abbrev waiting : (requireReset resetPermit startPermit reset : ℕ) → Words
+waiting requireReset resetPermit startPermit reset =
     record {
       values = 1;
       bad = 0;
       mask = 0;
-      «require_reset» = require;
-      «reset_permit» = permit;
-      «start_permit» = start;
+      «require_reset» = requireReset;
+      «reset_permit» = resetPermit;
+      «start_permit» = startPermit;
       reset = reset;
       «force_permit» = 0;
       «force_trip» = 0;
@@ -41,8 +42,8 @@ waiting require permit start reset =
     }
 
 -- the cause's value, Bad status and mask, and force permit and force normal; every other word is zero
-abbrev causing : (value bad mask permit normal : ℕ) → Words
-causing value bad mask permit normal =
+abbrev causing : (value bad mask forcePermit forceNormal : ℕ) → Words
+causing value bad mask forcePermit forceNormal =
     record {
       values = value;
       bad = bad;
@@ -51,9 +52,9 @@ causing value bad mask permit normal =
       «reset_permit» = 0;
       «start_permit» = 0;
       reset = 0;
-      «force_permit» = permit;
+      «force_permit» = forcePermit;
       «force_trip» = 0;
-      «force_normal» = normal;
+      «force_normal» = forceNormal;
     }
 
 abbrev slot : EffectState → (timer first : ℕ) → Slot
@@ -101,19 +102,18 @@ settingsOf c =
       effects = record { association = 1; delay = c .delay } ∷ replicate 15 noEffect;
     }
 
-abbrev stateOf : Corner → State
-stateOf c = record { done = 0; next = 0; slots = c .before ∷ replicate 15 noSlot }
+abbrev stateBefore : Corner → State
+stateBefore c = record { done = 0; next = 0; slots = c .before ∷ replicate 15 noSlot }
 
 abbrev sameSlot : Slot → Slot → Bool
 sameSlot a b = same (a .state) (b .state) && eqb (a .timer) (b .timer) && eqb (a .first) (b .first)
 
 -- the scan of a row, with room for one record: it is accepted, and the effect is then as the table says
 abbrev scanned : Corner → Scanned
-scanned c = scanOf (settingsOf c) (c .words) (stateOf c) 12
+scanned c = scanOf (settingsOf c) (c .words) (stateBefore c) 12
 
-abbrev pub holds : Corner → Bool
-holds c = eqb (scanned c .number) 0 && sameSlot (getD (scanned c .state .slots) 0 noSlot) (c .after)
+abbrev pub agrees : Corner → Bool
+agrees c = eqb (scanned c .number) 0 && sameSlot (getD (scanned c .state .slots) 0 noSlot) (c .after)
 
-abbrev pub allHold : List Corner → Bool
-allHold [] = true
-allHold (c ∷ cs) = holds c && allHold cs
+abbrev pub allAgree : List Corner → Bool
+allAgree = allFrom (λ i c. agrees c) 0

@@ -31,6 +31,11 @@ later w =
       «force_normal» = w .«force_normal»;
     }
 
+-- the words of scan number k + 1 of a hold
+abbrev pub wordsAt : ℕ → Words → Words
+wordsAt zero w = w
+wordsAt (suc k) w = later w
+
 -- what a run has given so far: the state, the words of its last scan, its events, and its live and exercised scans
 pub record Stepped : Type 0 where
   pub state : State

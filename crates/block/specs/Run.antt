@@ -3,14 +3,14 @@
 use Prim.Native.Nat.{ℕ}
 use mathlib.Core.List.{List}
 use lib.ListN.{length}
-use Rattle.rounds.specs.Steps.{Run, start}
+use Rattle.effects.specs.declared.Progress.{Progress}
+use Rattle.rounds.specs.Steps.{Run}
 use Rattle.planes.specs.declared.Board.{Board}
 use Rattle.planes.specs.Table.{slotsOf}
 use Rattle.planes.specs.Board.{boardAt, boardOf}
 use Rattle.block.specs.declared.State.{State}
 use Rattle.block.specs.declared.Scanned.{Scanned}
 use Rattle.block.specs.declared.Held.{Held}
-use Rattle.block.specs.declared.Ran.{Ran}
 use Rattle.block.specs.declared.Kept.{Kept}
 use Rattle.block.specs.Held.{Stepped}
 
@@ -22,19 +22,11 @@ startOf x = start (x .done) (x .next) (x .slots)
 abbrev pub reachedBy : ℕ → Board → State
 reachedBy n b = record { done = b .done; next = b .next; slots = slotsOf n (b .table) }
 
--- its records are those of its events
-abbrev pub ranOf : Stepped → Ran
-ranOf r =
-    record {
-      state = r .state;
-      effect = r .effect;
-      latent = r .latent;
-      records = length (r .events);
-      live = r .live;
-      exercised = r .exercised;
-    }
+-- the run over lists that single scans have come to
+abbrev pub runOf : Stepped → Run
+runOf r = record { done = r .state .done; next = r .state .next; slots = r .state .slots; events = r .events; live = r .live }
 
--- the same where the words of the effects are kept
+-- what a held run gives where the words of the effects are kept
 pub record KeptWords : Type 0 where
   pub board : Board
   pub records : ℕ
@@ -66,18 +58,4 @@ scannedBy h =
       effect = h .effect;
       latent = h .latent;
       records = h .records;
-    }
-
--- the answer to a held run that nothing refuses
-abbrev pub heldBy : Ran → Held
-heldBy r =
-    record {
-      number = 0;
-      place = 0;
-      state = r .state;
-      effect = r .effect;
-      latent = r .latent;
-      records = r .records;
-      live = r .live;
-      exercised = r .exercised;
     }

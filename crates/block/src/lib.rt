@@ -12,11 +12,11 @@ ghost use Rattle.effects.specs.Records.{recordLength, bytes};
 ghost use Rattle.settings.specs.Limits.{mostScans};
 ghost use Rattle.block.specs.State.{timerRight, firstRight, slotRight, slotUnused, slotOk, stateNumber, fresh as freshState};
 ghost use Rattle.block.specs.Scan.{scansNumber, inputNumber, scanOf, scanInto};
-ghost use Rattle.block.specs.Held.{run, refusedHeld, heldOf, heldInto};
+ghost use Rattle.block.specs.Held.{run, grantedHeld, refusedHeld, heldOf, heldInto};
 ghost use Rattle.planes.specs.Board.{boardAt, boardOf};
 ghost use Rattle.planes.specs.Table.{tableOf, slotsOf};
 ghost use Rattle.wiring.specs.Wiring.{Wired};
-ghost use Rattle.block.specs.Run.{startOf, reachedBy, ranOf, keptAt, keptOf, scannedBy, heldBy};
+ghost use Rattle.block.specs.Run.{startOf, reachedBy, keptAt, keptOf, scannedBy};
 use planes::Board;
 use planes::Mark;
 use rules::EffectState;
@@ -49,16 +49,6 @@ pub struct Scanned {
 pub struct Held {
     pub number: u8,
     pub place: usize,
-    pub state: State,
-    pub effect: u16,
-    pub latent: u16,
-    pub records: usize,
-    pub live: u32,
-    pub exercised: u32,
-}
-
-// What a held run gives that nothing refuses: as `Held`, without number and place.
-pub struct Ran {
     pub state: State,
     pub effect: u16,
     pub latent: u16,
@@ -275,9 +265,9 @@ pub fn run_kept(
 
 // A held run in one stroke, of input that was found right: the row's words for its hold, the reset word in the first scan
 // only. Its records go to the front of `buf`. A single scan is a run of hold 1.
-pub fn run_right(buf: &mut [u8], st: Settings, row: Row, x: State) -> Ran
+pub fn run_right(buf: &mut [u8], st: Settings, row: Row, x: State) -> Held
     requires { ⌜ (inputNumber st x row ≡ 0) × (recordLength * length (run st row x .events) ≤ length (now buf)) ⌝ }
-    ensures { λ r. ⌜ r ≡ ranOf (run st row x) ⌝ }
+    ensures { λ r. ⌜ r ≡ grantedHeld st row x ⌝ }
     ensures { λ _. ⌜ now (buf .exit) ≡ sets (now (buf .entry)) 0 (bytes (run st row x .events)) ⌝ }
 {
     let count = st.count as usize;
@@ -302,29 +292,15 @@ pub fn run_right(buf: &mut [u8], st: Settings, row: Row, x: State) -> Ran
     );
     let mark = r.mark;
     let end = planes::board_at(mark, timers, firsts);
-    Ran {
+    Held {
+        number: 0,
+        place: 0,
         state: reached(count, end),
         effect: r.effect,
         latent: r.latent,
         records: mark.at / 12,
         live: mark.live,
         exercised: exercised_scans(row.hold, r.exercised),
-    }
-}
-
-fn granted_held(ran: Ran) -> Held
-    ensures { λ r. ⌜ r ≡ heldBy ran ⌝ }
-{
-    let state = ran.state;
-    Held {
-        number: 0,
-        place: 0,
-        state: state,
-        effect: ran.effect,
-        latent: ran.latent,
-        records: ran.records,
-        live: ran.live,
-        exercised: ran.exercised,
     }
 }
 
@@ -396,6 +372,6 @@ impl State {
             return refused_held(10, self);
         }
         bits::copy_front(&space, at, out);
-        granted_held(ran)
+        ran
     }
 }

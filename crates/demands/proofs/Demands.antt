@@ -35,11 +35,11 @@ use Rattle.block.specs.declared.Scanned.{Scanned}
 use Rattle.block.specs.declared.Held.{Held}
 use Rattle.block.specs.State.{stateNumber}
 use Rattle.block.specs.Scan.{atFront, after, events, grantedScan, refusedScan, scanOf, scanInto}
-use Rattle.block.specs.Held.{start, single, step, stepped, run, grantedHeld, refusedHeld, heldOf, heldInto}
-use Rattle.block.specs.Corners.{corners, allHold}
+use Rattle.block.specs.Run.{runOf}
+use Rattle.block.specs.Held.{wordsAt, start, single, step, stepped, run, grantedHeld, refusedHeld, heldOf, heldInto}
+use Rattle.block.specs.Corners.{corners, allAgree}
 use Rattle.block.proofs.Corners.{corner-table}
 use Rattle.block.proofs.Theorems as block
-use Rattle.block.proofs.Stepping.{runOf, wordsAt}
 use Rattle.block.proofs.State.scan.Reads as scan
 use Rattle.block.proofs.State.held.Reads as held
 use Rattle.recording.proofs.read.Reads as read
@@ -53,20 +53,20 @@ use Rattle.recording.specs.declared.Reading.{Reading}
 use Rattle.recording.specs.declared.Step.{Step}
 use Rattle.recording.specs.Reader.{refusal, reading}
 use Rattle.recording.specs.Entries.{putRow}
-use Rattle.recording.specs.Answers.{number, place, rowCount, firstRow, rowWidth, ended}
-use Rattle.recording.specs.Steps.{stepAt, rowsOf}
+use Rattle.recording.specs.Answers.{number, place, rowCount, ended}
+use Rattle.writing.specs.Answers.{writtenNumber, writtenPlace, writtenLength}
+use Rattle.recording.specs.Steps.{stepAt, rowPlace, rowsOf}
 use Rattle.recording.specs.Encode.{encode, opening, Right}
 use Rattle.recording.specs.Refused.{Refused}
 use Rattle.recording.specs.Accepted.{Accepted, Answers}
 use Rattle.recording.proofs.Theorems as recording
 use Rattle.writing.specs.declared.Written.{Written}
-use Rattle.writing.specs.Answers.{writtenNumber, writtenPlace, writtenLength}
 use Rattle.writing.specs.Writer.{openingNumber, openingWritten, openingAfter, rowPieceNumber, rowWritten, rowAfter}
 use Rattle.walk.specs.declared.Walk.{Walk}
 use Rattle.walk.specs.Walks.{startOf, nextOf, movedOn}
 use Rattle.walk.proofs.Theorems as walk
 use Rattle.rerun.specs.declared.Replayed.{Replayed}
-use Rattle.rerun.specs.Replay.{Outcome, answered, started, refusedAt, replay, rowPlace, rowOf}
+use Rattle.rerun.specs.Replay.{Outcome, answered, started, refusedAt, replay, rowOf}
 use Rattle.rerun.proofs.Rows.{granted-refused}
 use Rattle.rerun.proofs.Theorems as rerun
 use Rattle.listing.specs.Printed.{hasRoom, written, placed}
@@ -177,7 +177,7 @@ row-checked-in-order k row = order.row-in-order k row .first
 -- a walk, however it was made (`Walk::next`): where the reader refuses its bytes, or its place is no row's first byte, it has ended
 -- and stays as it is
 pub walk-has-ended : (w : Walk) → let a = reading (now (w .bytes)) .answer in
-    (Accepted (now (w .bytes)) → ⊥) ⊎ ((i : ℕ) → i < rowCount a → w .place ≡ firstRow a + rowWidth a * i → ⊥)
+    (Accepted (now (w .bytes)) → ⊥) ⊎ ((i : ℕ) → i < rowCount a → w .place ≡ rowPlace (now (w .bytes)) i → ⊥)
     → (ended (nextOf w) ≡ true) × (movedOn w ≡ w)
 walk-has-ended w h =
     let e : ended (nextOf w) ≡ true = ⊎-elim (walk.walk-on-refused-has-ended w) (walk.walk-elsewhere-has-ended w) h in
@@ -190,7 +190,7 @@ start-has-ended s h = let e = walk.start-on-refused s h in (e .0, e .1, walk.wal
 
 -- the row at a place (`row_step`), of any bytes and any place: where no row begins it has ended
 pub row-step-has-ended : (s : List ℕ) (at : ℕ) → let a = reading s .answer in
-    ((i : ℕ) → i < rowCount a → at ≡ firstRow a + rowWidth a * i → ⊥) → ended (stepAt s at) ≡ true
+    ((i : ℕ) → i < rowCount a → at ≡ rowPlace s i → ⊥) → ended (stepAt s at) ≡ true
 row-step-has-ended = recording.ended-elsewhere
 
 -- a piece of a listing (`opening`, `closing`) in a buffer without room for any piece: it is full, and no byte is touched
@@ -327,7 +327,7 @@ pub record Demand2 : Type 0 where
       → x .done + 1 ≤ 1000000000 → 12 * length (events st w x) ≤ length out → length (x .slots) ≡ 16
       → ByTheRules st w x out (scanOf st w x (length out)) (scanInto st w x out)
   -- P1 to P12
-  pub corner-table : allHold corners ≡ true
+  pub corner-table : allAgree corners ≡ true
 
 pub demand-2 : Demand2
 demand-2 = record {

@@ -22,10 +22,10 @@ use Rattle.settings.proofs.Answers.{granted-in-room}
 use Rattle.block.specs.declared.State.{State}
 use Rattle.block.specs.State.{stateNumber}
 use Rattle.block.specs.Scan.{inputNumber, atFront, once, after, events, scanNumber, grantedScan, refusedScan, scanOf, scanInto}
-use Rattle.block.specs.Held.{later, Stepped, step, stepped}
+use Rattle.block.specs.Held.{later, wordsAt, Stepped, step, stepped}
 use Rattle.block.proofs.Theorems.{right-input-is-accepted}
 use Rattle.block.proofs.Later.{once-right}
-use Rattle.block.proofs.Stepping.{wordsAt}
+use Rattle.block.proofs.Stepping.{later-again}
 
 module _ (st : Settings) (w : Words) where
   abbrev ss : List Signals
@@ -70,10 +70,6 @@ scan-granted st w x out right state words scans fits =
 pub row-accepted : (k : Limits) (w : Words) (hold : ℕ) → wordsNumber k w ≡ 0 → 1 ≤ hold → hold ≤ mostHold → rowNumber k (record { hold = hold; words = w }) ≡ 0
 unfolding rowNumber
 row-accepted k w hold words some most = rw (le-leb 1 hold some, le-leb hold mostHold most, words)
-
-later-again : (k : ℕ) (w : Words) → wordsAt k (later w) ≡ later w
-later-again zero w = refl
-later-again (suc k) w = refl
 
 -- one scan more is a scan of the state that those before it left
 pub one-more : (st : Settings) (k : ℕ) (w : Words) (r : Stepped) → stepped st w (suc k) r ≡ step st (wordsAt k w) (stepped st w k r)

@@ -3,27 +3,22 @@ use mathlib.Core.Path.{_≡_, refl, sym, ap, _∙_}
 use mathlib.Core.List.{List, [], _∷_}
 use Prim.Native.Nat.{ℕ, _*_, _≤_}
 use native.Mathlib.Omega.{arith}
-use lib.Count.{ones, onesIn}
 use lib.ListN.{length}
 use lib.Seq.{sets}
 use Rattle.effects.specs.Records.{encode, bytes}
-use Rattle.settings.specs.Right.{settingsNumber, wordsNumber, rowNumber}
 use Rattle.recording.specs.declared.Answer.{Answer}
 use Rattle.recording.specs.declared.Answer.the-variants as A
 use Rattle.recording.specs.Answers.{number}
-use Rattle.recording.specs.Entries.{effectAt, wordsAt, rowAt}
-use Rattle.recording.specs.Sections.{section}
-use Rattle.recording.specs.Reader.{reading}
 use Rattle.rerun.specs.Replay.{replay, answered}
-use Rattle.rerun.specs.Session.{session, lines}
-use Rattle.rerun.proofs.Session.{the-session}
+use Rattle.rerun.specs.Session.{session, sessionEvents}
+use Rattle.rerun.proofs.Session.{the-session-is-read, the-session}
 use Rattle.embed.specs.Crossing.{numbers, fitted, checked, checkNumber, checkInto, crossing, replayNumber, recordsInto, totalsInto}
 use Rattle.embed.specs.Session.{sessionRecords, sessionTotals, sessionAnswer}
 use Rattle.embed.proofs.Stores.{fits}
 use Rattle.embed.proofs.Answers.{crosses}
 use Rattle.embed.proofs.Theorems.{check-with-room, nothing-refused, no-place-for-ten}
 
-records-spelled : bytes lines ≡ sessionRecords
+records-spelled : bytes sessionEvents ≡ sessionRecords
 unfolding encode
 records-spelled = refl
 
@@ -35,14 +30,10 @@ answer-spelled : numbers (checked (A.Accepted 2 22 24)) ≡ sessionAnswer
 unfolding numbers
 answer-spelled = refl
 
-answer-is : reading session .answer ≡ A.Accepted 2 22 24
-unfolding session ones onesIn settingsNumber wordsNumber rowNumber effectAt wordsAt rowAt section reading
-answer-is = refl
-
 pub the-session-is-checked : (answer : List ℕ) → 24 ≤ length answer → (checkNumber session (length answer) ≡ 0) × (checkInto session answer ≡ sets answer 0 sessionAnswer)
 the-session-is-checked answer room = (
-  check-with-room session (length answer) room ∙ ap number answer-is,
-  ap (λ (a : Answer). fitted (numbers (checked a)) answer) answer-is ∙ ap (λ (l : List ℕ). fitted l answer) answer-spelled ∙ sym (fits sessionAnswer answer room),
+  check-with-room session (length answer) room ∙ ap number the-session-is-read,
+  ap (λ (a : Answer). fitted (numbers (checked a)) answer) the-session-is-read ∙ ap (λ (l : List ℕ). fitted l answer) answer-spelled ∙ sym (fits sessionAnswer answer room),
 )
 
 module _ (records totals : List ℕ) (room : 60 ≤ length records) (totals-room : 56 ≤ length totals) where

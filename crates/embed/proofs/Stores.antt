@@ -1,12 +1,11 @@
--- Runs of stores: numbers of 8 bytes one after the other, a piece that fits, and a part of a buffer that comes back.
+-- Runs of stores: numbers of 8 bytes one after the other, and a piece that fits.
 use mathlib.Core.Path.{_≡_, refl, sym, ap, _∙_}
-use mathlib.Core.List.{List, [], _∷_, _++_, append-assoc, append-nil}
+use mathlib.Core.List.{List, [], _∷_, _++_, append-assoc}
 use Prim.Native.Nat.{ℕ, _+_, _*_, _-_, _≤_, _<_}
-use native.Mathlib.Nat.{zero-add}
 use native.Mathlib.Omega.{arith}
 use borrow.Author.Tests.{le-leb, lt-leb}
-use lib.ListN.{length, take, drop, length-append, length-drop, drop-of-length-le}
-use lib.Seq.{sets, sets-eq, take-all, drop-drop}
+use lib.ListN.{length, length-append}
+use lib.Seq.{sets}
 use Rattle.bits.specs.Numbers.{digits}
 use Rattle.bits.proofs.Numbers.{sets-append, length-digits}
 use Rattle.embed.specs.Crossing.{numbers, fitted}

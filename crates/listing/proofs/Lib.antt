@@ -4,3 +4,4 @@ pub mod Room
 pub mod Placing
 pub mod Loop
 pub mod Theorems
+pub mod Session

@@ -2,30 +2,20 @@
 use mathlib.Core.Path.{_≡_, refl, sym, ap, _∙_}
 use mathlib.Core.Bool.{Bool, true, false, cond}
 use mathlib.Core.List.{List}
-use Prim.Native.Nat.{ℕ, zero, suc, _+_, _-_, _≤_, _<_}
-use native.Mathlib.Omega.{arith}
+use Prim.Native.Nat.{ℕ, _+_, _≤_, _<_}
 use borrow.Author.Tests.{le-leb}
-use Rattle.settings.specs.Refusals.{granted}
 use Rattle.settings.specs.declared.Settings.{Settings}
 use Rattle.recording.specs.Answers.{rowCount}
 use Rattle.recording.specs.Reader.{reading}
 use Rattle.rerun.specs.declared.Totals.{Totals}
 use Rattle.rerun.specs.declared.Turn.{Turn}
-use Rattle.rerun.specs.Replay.{Outcome, replay}
+use Rattle.rerun.specs.Replay.{Outcome}
 use Rattle.rerun.specs.Turn.{totalsOf, Going, turnOf}
 use Rattle.rerun.proofs.Files.{ends-at-refusal}
 use Rattle.rerun.proofs.Turns as turns
 use Rattle.listing.specs.declared.Printed.{Printed}
 use Rattle.listing.specs.Room.{mostPiece}
-use Rattle.listing.specs.Printed.{hasRoom, printed}
-
--- what the loop ends with: the number of the row that came last, and the totals, are those of the replay
-abbrev pub Last : List ℕ → ℕ → Totals → Type 0
-Last s number t = (number ≡ replay s .number) × (t ≡ totalsOf s (replay s .replay))
-
--- a number that falls with each row: the rows that are left, and one more until a row is refused
-abbrev pub left : List ℕ → ℕ → Totals → ℕ
-left s number t = rowCount (reading s .answer) - t .rows + granted number 1 (λ n. 0)
+use Rattle.listing.specs.Printed.{hasRoom, printed, Last}
 
 either : (b : Bool) (x y : Printed) (P : Printed → Type 0) → P x → P y → P (cond b x y)
 either true x y P h f = h
@@ -73,10 +63,3 @@ module _ (s : List ℕ) (st : Settings) (width : ℕ) (t : Totals) (g : Going s 
           stops h .1
           ∙ ap (λ (o : Outcome). totalsOf s (o .replay)) (turns.stops s st width t g more turn refl refused)
           ∙ sym (g .totals)
-
-      pub falls : left s (p .number) (p .totals) < left s 0 t
-      falls = go (p .number) refl
-        where
-          go : (k : ℕ) → p .number ≡ k → left s k (p .totals) < left s 0 t
-          go zero e = omega (arith, one-row e)
-          go (suc k) e = omega (arith, ap (λ (u : Totals). u .rows) (kept (λ z. omega (arith, e))))

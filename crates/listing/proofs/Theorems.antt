@@ -7,31 +7,32 @@ use mathlib.Core.Logic.{⊎-elim}
 use Prim.Native.Nat.{ℕ, _+_}
 use native.Mathlib.Numerals.{add-one}
 use native.Mathlib.Omega.{arith}
-use Rattle.settings.specs.Refusals.{granted}
 use Rattle.block.specs.Scan.{scansNumber}
-use Rattle.recording.specs.declared.Answer.the-variants.{Accepted, Refused}
-use Rattle.recording.specs.Answers.{number, rowCount}
+use Rattle.settings.specs.Refusals.{granted}
+use Rattle.recording.specs.Answers.{number, place, rowCount}
 use Rattle.recording.specs.Reader.{reading}
+use Rattle.recording.specs.Steps.{rowPlace}
+use Rattle.recording.specs.Accepted.{Accepted}
 use Rattle.rerun.specs.declared.Totals.{Totals}
-use Rattle.rerun.specs.Replay.{Outcome, whole, joined, refusedAt, replay, firstRows, rowOf, rowPlace, rowRun}
+use Rattle.rerun.specs.Replay.{Outcome, whole, joined, refusedAt, replay, answered, firstRows, rowOf, rowRun}
 use Rattle.rerun.specs.Turn.{totalsOf}
+use Rattle.rerun.proofs.Rows.{granted-refused}
 use Rattle.rerun.proofs.Files.{Before, by-rows, one-row-more, all-the-rows}
 use Rattle.rerun.proofs.Theorems.{whole-or-stopped}
-use Rattle.listing.specs.Text.{lines}
-use Rattle.listing.specs.Listing.{ending, listing}
-use Rattle.listing.specs.Printed.{opening, closing, rowLines, rowsLines}
+use Rattle.listing.specs.Text.{header, lines, refusalLine}
+use Rattle.listing.specs.Listing.{closing, listing}
+use Rattle.listing.specs.Printed.{opening, closingBy, rowLines, rowsLines, Last}
 use Rattle.listing.proofs.Lines.{lines-append}
-use Rattle.listing.proofs.Loop.{Last}
 
 -- a refused file: the opening is all
-pub a-refused-file-is-its-opening : (s : List ℕ) (number place : ℕ) → reading s .answer ≡ Refused number place → opening (reading s .answer) ≡ listing s
+pub a-refused-file-is-its-opening : (s : List ℕ) → (Accepted s → ⊥) → opening (reading s .answer) ≡ listing s
 unfolding listing
-a-refused-file-is-its-opening s n p e = rw e
+a-refused-file-is-its-opening s h =
+    let a = reading s .answer in
+    granted-refused header (λ n. refusalLine n (place a)) (number a) h
+    ∙ sym (granted-refused (header ++ lines (replay s .replay .events) ++ closing (answered (replay s))) (λ n. refusalLine n (place a)) (number a) h)
 
-module _ (s : List ℕ) (rows first width : ℕ) (accepted : reading s .answer ≡ Accepted rows first width) where
-  none-refused : number (reading s .answer) ≡ 0
-  none-refused = ap number accepted
-
+module _ (s : List ℕ) (accepted : Accepted s) where
   abbrev Joined : Outcome → Type 0
   Joined o = rowsLines s (o .replay .rows) ≡ lines (o .replay .events)
 
@@ -51,17 +52,17 @@ module _ (s : List ℕ) (rows first width : ℕ) (accepted : reading s .answer �
   -- the lines of the rows, joined, are those of the records of the whole
   pub rows-joined : rowsLines s (replay s .replay .rows) ≡ lines (replay s .replay .events)
   rows-joined =
-      rw (all-the-rows s none-refused) (by-rows s Joined refl runs (λ i b h. b .3) (rowCount (reading s .answer)) (omega arith))
+      rw (all-the-rows s accepted) (by-rows s Joined refl runs (λ i b h. b .3) (rowCount (reading s .answer)) (omega arith))
 
-  -- the closing, by the number and the totals of the whole, is the ending
-  pub closing-is-the-ending : closing (replay s .number) (totalsOf s (replay s .replay)) ≡ ending (replay s)
+  -- the closing by the number and the totals of the whole is that of the replay
+  pub closing-of-the-replay : closingBy (replay s .number) (totalsOf s (replay s .replay)) ≡ closing (answered (replay s))
   unfolding closing
-  closing-is-the-ending = ⊎-elim (λ h. rw (h .0)) (λ h. rw (h .0, h .1)) (whole-or-stopped s none-refused)
+  closing-of-the-replay = ⊎-elim (λ h. rw (h .0)) (λ h. rw (h .0, h .1)) (whole-or-stopped s accepted)
 
   -- the opening, the lines of the rows and the closing are the listing
-  pub pieces-are-the-listing : (k : ℕ) (t : Totals) → Last s k t → opening (reading s .answer) ++ rowsLines s (t .rows) ++ closing k t ≡ listing s
+  pub pieces-are-the-listing : (k : ℕ) (t : Totals) → Last s k t → opening (reading s .answer) ++ rowsLines s (t .rows) ++ closingBy k t ≡ listing s
   unfolding listing
   pieces-are-the-listing k t last =
-      let e : closing k t ≡ ending (replay s) = ap₂ closing (last .0) (last .1) ∙ closing-is-the-ending in
+      let e : closingBy k t ≡ closing (answered (replay s)) = ap₂ closingBy (last .0) (last .1) ∙ closing-of-the-replay in
       let r : rowsLines s (t .rows) ≡ lines (replay s .replay .events) = ap (λ (u : Totals). rowsLines s (u .rows)) (last .1) ∙ rows-joined in
       rw (e, r, accepted)

@@ -3,3 +3,4 @@ pub mod Pieces
 pub mod Room
 pub mod Listing
 pub mod Printed
+pub mod Session

@@ -2,6 +2,7 @@
 -- lent buffer. Where fewer bytes are left than a piece may take, the buffer is full: nothing is written, and the caller goes
 -- on with more room. The pieces together are the listing of document 01, "One session, whole".
 use Prim.Native.Nat.{ℕ, zero, suc, _+_}
+use mathlib.Core.Path.{_≡_}
 use mathlib.Core.Bool.{Bool, true, false, cond}
 use mathlib.Core.List.{List, [], _++_}
 use lib.Dec.{leb}
@@ -9,30 +10,29 @@ use lib.ListN.{length}
 use lib.Seq.{sets}
 use Rattle.settings.specs.Refusals.{granted}
 use Rattle.recording.specs.declared.Answer.{Answer}
-use Rattle.recording.specs.declared.Answer.the-variants.{Accepted, Refused}
+use Rattle.recording.specs.Answers.{number, place}
 use Rattle.rerun.specs.declared.Totals.{Totals}
-use Rattle.rerun.specs.Replay.{firstRows, rowRun}
-use Rattle.rerun.specs.Turn.{totalsOf}
+use Rattle.rerun.specs.Replay.{replay, firstRows, rowRun}
+use Rattle.rerun.specs.Turn.{totalsOf, tallyOf, answerBy}
 use Rattle.listing.specs.declared.Piece.{Piece}
 use Rattle.listing.specs.declared.Printed.{Printed}
 use Rattle.listing.specs.Room.{mostPiece}
-use Rattle.listing.specs.Text.{header, lines, lastLine, refusalLine}
+use Rattle.listing.specs.Text.{header, lines, refusalLine}
+use Rattle.listing.specs.Listing.{closing}
 
 -- ## The pieces
 
 -- by what the reader answers: the header, or the refusal's line
 abbrev pub opening : Answer → List ℕ
-opening (Accepted rows first width) = header
-opening (Refused number place) = refusalLine number place
+opening a = granted (number a) header (λ n. refusalLine n (place a))
 
 -- the lines of row i, from 0; a row that is refused has none
 abbrev pub rowLines : List ℕ → ℕ → List ℕ
 rowLines s i = granted (firstRows s (i + 1) .number) (lines (rowRun s i .events)) (λ n. [])
 
--- by the number of the row that came last, and the totals: the last line, or the refusal's line with the place of that row
-unfoldable pub closing : (number : ℕ) → Totals → List ℕ
-closing number t =
-    granted number (lastLine (t .rows) (t .board .done) (t .live) (t .exercised)) (λ n. refusalLine n (t .place))
+-- by the number of the row that came last, and the totals, whose place is that of the row
+abbrev pub closingBy : (number : ℕ) → Totals → List ℕ
+closingBy number t = closing (answerBy number (t .place) (tallyOf t))
 
 -- the lines of the first n rows, joined
 abbrev pub rowsLines : List ℕ → (n : ℕ) → List ℕ
@@ -65,3 +65,9 @@ printed s t n at =
       totals = totalsOf s (firstRows s (t .rows + 1) .replay);
     })
     (record { full = true; at = at; number = 0; totals = t })
+
+-- ## All pieces
+
+-- what a caller's loop over the rows ends with: the number of the row that came last, and the totals, are those of the replay
+abbrev pub Last : List ℕ → ℕ → Totals → Type 0
+Last s number t = (number ≡ replay s .number) × (t ≡ totalsOf s (replay s .replay))

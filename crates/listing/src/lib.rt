@@ -14,7 +14,7 @@ ghost use Rattle.recording.specs.Reader.{reading as readingOf};
 ghost use Rattle.rerun.specs.Turn.{Going};
 ghost use Rattle.wiring.specs.Wiring.{Wired};
 ghost use Rattle.listing.specs.Room.{mostPiece};
-ghost use Rattle.listing.specs.Printed.{opening as openingOf, closing as closingOf, rowLines, hasRoom, placed, written, printed};
+ghost use Rattle.listing.specs.Printed.{opening as openingOf, closingBy, rowLines, hasRoom, placed, written, printed};
 use recording::Answer;
 use recording::Reading;
 use rerun::Totals;
@@ -65,11 +65,18 @@ fn put_opening(out: &mut [u8], at: usize, answer: Answer) -> usize
             first: _,
             width: _,
         } => text::put_header(out, at),
-        Answer::Refused { number, place } => text::put_refusal(out, at, number, place),
+        Answer::Refused { number, place } => {
+            if number == 0 {
+                text::put_header(out, at)
+            } else {
+                text::put_refusal(out, at, number, place)
+            }
+        }
     }
 }
 
-// The opening of a listing, by what the reader answers: the header, or of a refused file all there is, the refusal's line.
+// The opening of a listing, by what the reader answers: the header, or of a refused file all there is, the refusal's line. Number 0
+// refuses nothing.
 pub fn opening(reading: Reading, out: &mut [u8], at: usize) -> Piece
     ensures { λ r. ⌜ r ≡ written (length (now (out .entry))) at (openingOf (reading .answer)) ⌝ }
     ensures { λ _. ⌜ now (out .exit) ≡ placed (now (out .entry)) at (openingOf (reading .answer)) ⌝ }
@@ -125,7 +132,7 @@ pub fn row(
 
 fn put_closing(out: &mut [u8], at: usize, number: u8, t: Totals) -> usize
     requires { ⌜ at + mostPiece ≤ length (now out) ⌝ }
-    ensures { λ r. ⌜ (r ≡ at + length (closingOf number t)) × (now (out .exit) ≡ sets (now (out .entry)) at (closingOf number t)) ⌝ }
+    ensures { λ r. ⌜ (r ≡ at + length (closingBy number t)) × (now (out .exit) ≡ sets (now (out .entry)) at (closingBy number t)) ⌝ }
     ensures { λ r. ⌜ r ≤ length (now (out .entry)) ⌝ }
 {
     if number == 0 {
@@ -139,8 +146,8 @@ fn put_closing(out: &mut [u8], at: usize, number: u8, t: Totals) -> usize
 // The closing of a listing, by the number of the row that came last, and the totals after it: the last line, or the line of
 // that row's refusal.
 pub fn closing(number: u8, t: Totals, out: &mut [u8], at: usize) -> Piece
-    ensures { λ r. ⌜ r ≡ written (length (now (out .entry))) at (closingOf number t) ⌝ }
-    ensures { λ _. ⌜ now (out .exit) ≡ placed (now (out .entry)) at (closingOf number t) ⌝ }
+    ensures { λ r. ⌜ r ≡ written (length (now (out .entry))) at (closingBy number t) ⌝ }
+    ensures { λ _. ⌜ now (out .exit) ≡ placed (now (out .entry)) at (closingBy number t) ⌝ }
     ensures { λ r. ⌜ (at ≤ length (now (out .entry)) → r .at ≤ length (now (out .entry))) ⌝ }
 {
     if !has_room(out.len(), at) {

@@ -126,7 +126,6 @@ module _ (s : List ℕ) (st : Settings) (width : ℕ) (start : Totals) (from : �
   module _ (t : Totals) (at : ℕ) (out : List ℕ) (f : Filling t at out) where
     pub ends : t .rows ≡ rowCount (reading s .answer) → Filled s st width start from out₀ (record { full = false; at = at; number = 0; totals = t }) out
     ends e =
-        let last = loop.ends s st width t (f .going) e in
         record {
           text = f .text;
           within = f .within;
@@ -134,8 +133,7 @@ module _ (s : List ℕ) (st : Settings) (width : ℕ) (start : Totals) (from : �
           going = λ h. f .going;
           more = λ h. absurd (true≢false (sym h));
           moved = λ h r. absurd (true≢false (sym h));
-          number = λ h. last .0;
-          totals = λ h. last .1;
+          last = λ h. loop.ends s st width t (f .going) e;
         }
 
     module _ (more : t .rows < rowCount (reading s .answer)) (p : Printed) (is : p ≡ printed s t (length out) at) (out′ : List ℕ) (o : out′ ≡ placed out at (rowLines s (t .rows))) (in-it : at ≤ length out → p .at ≤ length out) where
@@ -162,15 +160,13 @@ module _ (s : List ℕ) (st : Settings) (width : ℕ) (start : Totals) (from : �
             going = λ q. rw totals g;
             more = λ q. rw totals more;
             moved = λ q r. rw totals (differ r);
-            number = λ q. absurd (true≢false (sym h ∙ q));
-            totals = λ q. absurd (true≢false (sym h ∙ q));
+            last = λ q. absurd (true≢false (sym h ∙ q));
           }
 
       -- a row was refused
       pub stops : p .full ≡ false → (p .number ≡ 0 → ⊥) → Filled s st width start from out₀ p out′
       stops h r =
           let space = room s st width t g more out at p is out′ o h in
-          let last = loop.stops s st width t g more (length out) at p is space r in
           let totals = loop.kept s st width t g more (length out) at p is space r in
           record {
             text = λ given e. text-of-refusal s st width t g more out at p is out′ o h (in-it (omega (arith, space))) r given (f .text given e);
@@ -179,8 +175,7 @@ module _ (s : List ℕ) (st : Settings) (width : ℕ) (start : Totals) (from : �
             going = λ q. absurd (true≢false (sym q ∙ h));
             more = λ q. absurd (true≢false (sym q ∙ h));
             moved = λ q. absurd (true≢false (sym q ∙ h));
-            number = λ q. last .0;
-            totals = λ q. last .1;
+            last = λ q. loop.stops s st width t g more (length out) at p is space r;
           }
 
       -- the next row

@@ -8,11 +8,10 @@ use Rattle.settings.specs.declared.Settings.{Settings}
 use Rattle.recording.specs.Answers.{rowCount}
 use Rattle.recording.specs.Reader.{reading}
 use Rattle.rerun.specs.declared.Totals.{Totals}
-use Rattle.rerun.specs.Replay.{replay}
-use Rattle.rerun.specs.Turn.{totalsOf, Going}
+use Rattle.rerun.specs.Turn.{Going}
 use Rattle.listing.specs.declared.Printed.{Printed}
 use Rattle.listing.specs.Room.{mostPiece}
-use Rattle.listing.specs.Printed.{opening, rowsLines}
+use Rattle.listing.specs.Printed.{opening, rowsLines, Last}
 
 -- the listing so far: its opening, and the lines of the rows that the totals count
 abbrev pub soFar : List ℕ → Totals → List ℕ
@@ -29,5 +28,4 @@ pub record Filled (s : List ℕ) (st : Settings) (width : ℕ) (t : Totals) (at 
   pub more : r .full ≡ true → r .totals .rows < rowCount (reading s .answer)
   pub moved : r .full ≡ true → at + mostPiece ≤ length out → t .rows < r .totals .rows
   -- else the answer is that of the whole replay
-  pub number : r .full ≡ false → r .number ≡ replay s .number
-  pub totals : r .full ≡ false → r .totals ≡ totalsOf s (replay s .replay)
+  pub last : r .full ≡ false → Last s (r .number) (r .totals)

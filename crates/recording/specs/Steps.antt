@@ -1,5 +1,5 @@
 -- The row at a place. Document 01, "Recordings": ended where the reader refuses the bytes or the place is no row's first byte.
-use Prim.Native.Nat.{ℕ, _+_, _-_, _%_}
+use Prim.Native.Nat.{ℕ, _+_, _*_, _-_, _%_}
 use mathlib.Core.Bool.{Bool, cond, _&&_}
 use mathlib.Core.List.{List}
 use lib.Dec.{leb, ltb, eqb}
@@ -30,6 +30,10 @@ stepIn (A.Refused number place) s at = T.Ended
 -- in any bytes, at any place
 unfoldable pub stepAt : List ℕ → ℕ → Step
 stepAt s at = stepIn (reading s .answer) s at
+
+-- the first byte of row i, from 0
+abbrev pub rowPlace : List ℕ → ℕ → ℕ
+rowPlace s i = firstRow (reading s .answer) + rowWidth (reading s .answer) * i
 
 -- the rows at the row places, in the file's order
 abbrev pub rowsIn : Answer → List ℕ → List Row

@@ -19,11 +19,11 @@ use Rattle.recording.specs.declared.Answer.the-variants as A
 use Rattle.recording.specs.Answers.{number, place, rowCount, firstRow, rowWidth, noRow}
 use Rattle.recording.specs.Encode.{Right}
 use Rattle.recording.specs.Reader.{reading}
-use Rattle.recording.specs.Steps.{rowsOf}
+use Rattle.recording.specs.Steps.{rowPlace, rowsOf}
 use Rattle.recording.proofs.Cases.{not-accepted}
 use Rattle.recording.proofs.Theorems.{accepted-case, accepted-is-right}
 use Rattle.recording.proofs.Trips.{length-rowsOf}
-use Rattle.rerun.specs.Replay.{Outcome, whole, started, joined, refusedAt, rowsFrom, replayRows, replay, firstRows, rowOf, rowPlace, rowRun, sumOfHolds}
+use Rattle.rerun.specs.Replay.{Outcome, whole, started, joined, refusedAt, rowsFrom, replayRows, replay, firstRows, rowOf, rowRun, sumOfHolds}
 use Rattle.rerun.proofs.Rows.{Sound, unless-refuses, past, granted-none, granted-refused, then-the-others, refusal-ends, none-refused-whole, events-stay, rows-counted, records-few, done-after, sound-after, within-scans, sound-rows, done-is-holds, all-take, all-at}
 
 module _ (s : List ℕ) where
@@ -84,15 +84,7 @@ module _ (s : List ℕ) where
   unfolding firstRows
   whole-so-far i z = none-refused-whole st (rowWidth (reading s .answer)) (take i (rowsOf s)) (firstRow (reading s .answer)) started z
 
-  -- a replay that no row ends has refused none of its first rows
-  pub none-so-far : number (reading s .answer) ≡ 0 → replay s .number ≡ 0 → (i : ℕ) → firstRows s i .number ≡ 0
-  none-so-far a z i = go (firstRows s i .number) refl
-    where
-      go : (n : ℕ) → firstRows s i .number ≡ n → firstRows s i .number ≡ 0
-      go zero e = e
-      go (suc n) e = ap (λ (o : Outcome). o .number) (sym (ends-at-refusal a i (λ h. omega (arith, e, h)))) ∙ z
-
-  -- and has their events
+  -- the replay has the events of first rows that none refused
   pub events-in-all : number (reading s .answer) ≡ 0 → (i : ℕ) → firstRows s i .number ≡ 0 → length (firstRows s i .replay .events) ≤ length (replay s .replay .events)
   unfolding firstRows
   events-in-all a i z =

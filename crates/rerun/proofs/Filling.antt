@@ -7,7 +7,7 @@ use native.Mathlib.Nat.{zero-add}
 use native.Mathlib.Omega.{arith}
 use borrow.Rule.Slice.PartMut.{putMid}
 use lib.ListN.{length, take, drop, length-append, length-drop, drop-of-length-le}
-use lib.Seq.{sets, sets-eq, length-sets, take-all, drop-drop}
+use lib.Seq.{sets, sets-eq, take-all, drop-drop}
 use Rattle.bits.proofs.Numbers.{sets-append}
 use Rattle.effects.specs.declared.Event.{Event}
 use Rattle.effects.specs.Records.{bytes}
@@ -50,9 +50,6 @@ part-stored vs out part at e h = ap (putMid at (length out - at) out) e ∙ part
 -- the lent bytes with the records of the first i rows
 abbrev pub filled : List ℕ → ℕ → List ℕ → List ℕ
 filled s i out = sets out 0 (bytes (firstRows s i .replay .events))
-
-pub length-filled : (s : List ℕ) (i : ℕ) (out : List ℕ) → length (filled s i out) ≡ length out
-length-filled s i out = length-sets out 0 (bytes (firstRows s i .replay .events))
 
 pub nothing-yet : (s out : List ℕ) (i : ℕ) → i ≡ 0 → out ≡ filled s i out
 nothing-yet s out i e = sym (ap (λ (o : Outcome). sets out 0 (bytes (o .replay .events))) (ap (firstRows s) e ∙ no-rows s))

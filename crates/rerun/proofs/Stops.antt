@@ -15,9 +15,10 @@ use Rattle.recording.specs.declared.Answer.the-variants as A
 use Rattle.recording.specs.Answers.{number, rowCount, firstRow, rowWidth}
 use Rattle.recording.specs.Entries.{rowAt}
 use Rattle.recording.specs.Reader.{reading}
+use Rattle.recording.specs.Steps.{rowPlace}
 use Rattle.recording.proofs.Theorems.{row-in-the-file}
 use Rattle.rerun.specs.declared.Stop.{Stop}
-use Rattle.rerun.specs.Replay.{Replay, Outcome, whole, joined, refusedAt, replay, firstRows, rowOf, rowPlace, rowRun}
+use Rattle.rerun.specs.Replay.{Replay, Outcome, whole, joined, refusedAt, replay, firstRows, rowOf, rowRun}
 use Rattle.rerun.specs.Turn.{stopOf}
 use Rattle.rerun.proofs.Rows.{granted-none, granted-refused}
 use Rattle.rerun.proofs.Files.{no-rows, one-row-more, ends-at-refusal, all-the-rows, whole-so-far, done-next}

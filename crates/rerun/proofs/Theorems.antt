@@ -20,9 +20,9 @@ use Rattle.block.specs.Scan.{scansNumber, inputNumber}
 use Rattle.block.specs.Held.{run, grantedHeld, refusedHeld, heldNumber, heldOf}
 use Rattle.recording.specs.Answers.{number, place, rowCount}
 use Rattle.recording.specs.Reader.{reading}
-use Rattle.recording.specs.Steps.{rowsOf}
+use Rattle.recording.specs.Steps.{rowPlace, rowsOf}
 use Rattle.recording.specs.Accepted.{Accepted}
-use Rattle.rerun.specs.Replay.{Outcome, whole, started, joined, refusedAt, replayRows, replay, firstRows, rowOf, rowPlace, rowRun, eventsOf, sumOfHolds}
+use Rattle.rerun.specs.Replay.{Outcome, whole, started, joined, refusedAt, replayRows, replay, firstRows, rowOf, rowRun, eventsOf, sumOfHolds}
 use Rattle.rerun.proofs.Rows.{first-alone, granted-refused}
 use Rattle.rerun.proofs.Files as files
 use Rattle.rerun.proofs.Files.{by-rows}

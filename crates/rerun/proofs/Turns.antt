@@ -8,7 +8,7 @@ use native.Mathlib.Omega.{arith}
 use borrow.Author.Tests.{leb-true}
 use lib.Dec.{leb}
 use lib.ListN.{length, length-append}
-use lib.Seq.{sets, length-sets}
+use lib.Seq.{sets}
 use Rattle.effects.specs.Records.{bytes}
 use Rattle.settings.specs.declared.Row.{Row}
 use Rattle.settings.specs.declared.Settings.{Settings}
@@ -23,7 +23,7 @@ use Rattle.wiring.specs.declared.Wiring.{Wiring}
 use Rattle.wiring.specs.Wiring.{wiringOf}
 use Rattle.wiring.proofs.Held.{count-of}
 use Rattle.block.specs.declared.State.{State}
-use Rattle.block.specs.State.{stateNumber, fresh}
+use Rattle.block.specs.State.{stateNumber}
 use Rattle.block.specs.Scan.{inputNumber, scansNumber}
 use Rattle.block.specs.Held.{Stepped, run}
 use Rattle.block.specs.declared.Kept.{Kept}
@@ -35,12 +35,13 @@ use Rattle.recording.specs.declared.Answer.the-variants as A
 use Rattle.recording.specs.Answers.{number, rowCount, firstRow, rowWidth}
 use Rattle.recording.specs.Entries.{rowAt}
 use Rattle.recording.specs.Reader.{reading}
+use Rattle.recording.specs.Steps.{rowPlace}
 use Rattle.recording.proofs.Theorems.{first-row-after-the-opening, row-in-the-file}
 use Rattle.rerun.specs.declared.Tally.{Tally}
 use Rattle.rerun.specs.declared.Totals.{Totals}
 use Rattle.rerun.specs.declared.Turn.{Turn}
-use Rattle.rerun.specs.Replay.{Replay, Outcome, whole, joined, refusedAt, started, replay, answered, firstRows, rowOf, rowPlace, rowRun}
-use Rattle.rerun.specs.Turn.{Fits, tallyAfter, totalsWith, turnWith, tallyOf, answerBy, totalsAt, totalsOf, totalsAfter, Going, turnOf, turnInto}
+use Rattle.rerun.specs.Replay.{Replay, Outcome, whole, joined, refusedAt, started, replay, answered, firstRows, rowOf, rowRun}
+use Rattle.rerun.specs.Turn.{Fits, tallyAfter, totalsWith, turnWith, tallyOf, answerBy, totalsAt, totalsOf, Going, turnOf, turnInto}
 use Rattle.rerun.proofs.Rows.{unless-refuses, granted-none, granted-refused, granted-either}
 use Rattle.rerun.proofs.Files.{no-rows, one-row-more, ends-at-refusal, all-the-rows, whole-so-far, counted, settings-right, row-right, few-rows, sound, sound-next, scans-next, records-next}
 
@@ -50,36 +51,37 @@ granted-number : (n at : ℕ) (r r′ : Replay) → granted n (whole r) (refused
 granted-number zero at r r′ = refl
 granted-number (suc n) at r r′ = refl
 
--- ## The lent bytes keep their length
-
-pub length-turn : (s : List ℕ) (i : ℕ) (buf : List ℕ) → length (turnInto s i buf) ≡ length buf
-length-turn s i buf =
-    granted-either (sets buf 0 (bytes (rowRun s i .events))) (λ k. buf) (λ b. length b ≡ length buf) (firstRows s (i + 1) .number)
-    (λ z. length-sets buf 0 (bytes (rowRun s i .events)))
-    (λ k. refl)
-
 -- ## The beginning: what the reader answers
-
-at-first : (s : List ℕ) (first : ℕ) → firstRow (reading s .answer) ≡ first → totalsAt (reading s .settings .count) first ≡ totalsOf s started
-at-first s first e =
-    let p : first ≡ firstRow (reading s .answer) + rowWidth (reading s .answer) * 0 = omega (arith, e, mul-zero (rowWidth (reading s .answer))) in
-    λ j. record { board = boardOf (reading s .settings .count) (startOf fresh); place = p j; records = 0; rows = 0; live = 0; exercised = 0 }
 
 pub few-effects : (s : List ℕ) (st : Settings) (rows first width : ℕ) → reading s .answer ≡ A.Accepted rows first width → st ≡ reading s .settings → st .count ≤ 16
 few-effects s st rows first width a e = rw e (count-few (reading s .settings) (settings-right s (ap number a)))
 
 pub begins : (s : List ℕ) (st : Settings) (x : Wiring) (rows first width : ℕ) (t : Totals) → reading s .answer ≡ A.Accepted rows first width → st ≡ reading s .settings
-    → x ≡ wiringOf st → t ≡ totalsAt (x .count) first → Going s st width t
+    → x ≡ wiringOf st → t ≡ totalsAt (x .count) first started → Going s st width t
 begins s st x rows first width t a e w f =
     let none : t .rows ≡ 0 = ap (λ (u : Totals). u .rows) f in
     let o = ap (firstRows s) none ∙ no-rows s in
+    let n = count-of st x w ∙ ap (λ (z : Settings). z .count) e in
+    let p : first ≡ rowPlace s 0 = omega (arith, ap firstRow a, mul-zero (rowWidth (reading s .answer))) in
     record {
       accepted = ap number a;
       settings = e;
       wide = sym (ap rowWidth a);
       counted = omega (arith, none);
       none-refused = ap (λ (v : Outcome). v .number) o;
-      totals = f ∙ ap (λ (n : ℕ). totalsAt n first) (count-of st x w) ∙ ap (λ (z : Settings). totalsAt (z .count) first) e ∙ at-first s first (ap firstRow a) ∙ sym (ap (λ (v : Outcome). totalsOf s (v .replay)) o);
+      totals = f ∙ (λ j. totalsAt (n j) (p j) started) ∙ sym (ap (λ (v : Outcome). totalsOf s (v .replay)) o);
+    }
+
+-- `tallyAfter`, of totals
+abbrev totalsAfter : Totals → (width : ℕ) → KeptWords → Totals
+totalsAfter t width ran =
+    record {
+      board = ran .board;
+      place = t .place + width;
+      records = t .records + ran .records;
+      rows = t .rows + 1;
+      live = t .live + ran .live;
+      exercised = t .exercised + ran .exercised;
     }
 
 module _ (s : List ℕ) (st : Settings) (width : ℕ) (t : Totals) (g : Going s st width t) where

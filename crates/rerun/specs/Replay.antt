@@ -1,6 +1,6 @@
 -- A whole recording, replayed from a fresh state: row after row, each a held run. Document 01, "One session, whole" and, for
 -- 9, "Refusal numbers".
-use Prim.Native.Nat.{ℕ, zero, suc, _+_, _*_}
+use Prim.Native.Nat.{ℕ, zero, suc, _+_}
 use mathlib.Core.List.{List, [], _∷_, _++_}
 use lib.ListN.{getD, length, take}
 use Rattle.effects.specs.declared.Event.{Event}
@@ -87,12 +87,9 @@ answered o =
 unfoldable pub firstRows : List ℕ → ℕ → Outcome
 firstRows s i = replayRows s (take i (rowsOf s))
 
--- row i, from 0, its place, and its held run from the state that the rows before it left
+-- row i, from 0, and its held run from the state that the rows before it left
 abbrev pub rowOf : List ℕ → ℕ → Row
 rowOf s i = getD (rowsOf s) i noRow
-
-abbrev pub rowPlace : List ℕ → ℕ → ℕ
-rowPlace s i = firstRow (reading s .answer) + rowWidth (reading s .answer) * i
 
 unfoldable pub rowRun : List ℕ → ℕ → Stepped
 rowRun s i = run (reading s .settings) (rowOf s i) (firstRows s i .replay .state)

@@ -1,4 +1,4 @@
--- Document 01's session, "One session, whole": its 70 bytes, and the lines of its listing as events.
+-- Document 01's session, "One session, whole": its 70 bytes, and the events of its listing.
 use Prim.Native.Nat.{ℕ}
 use mathlib.Core.List.{List, [], _∷_}
 use Rattle.rules.specs.declared.EffectState.{EffectState}
@@ -14,14 +14,14 @@ session =
     ∷ 0 ∷ 0 ∷ 0 ∷ 5 ∷ 0 ∷ 2 ∷ 0 ∷ 0 ∷ 0 ∷ 0 ∷ 0 ∷ 0 ∷ 0 ∷ 3 ∷ 0 ∷ 3 ∷ 0 ∷ 0 ∷ 0 ∷ 0 ∷ 0 ∷ 0 ∷ 0 ∷ 0
     ∷ []
 
-abbrev line : (seq scan effect : ℕ) → (from to : EffectState) → (first : ℕ) → Event
-line q c i a b f = record { seq = q; scan = c; effect = i; from = a; to = b; first = f }
+abbrev event : (seq scan effect : ℕ) → (from to : EffectState) → (first : ℕ) → Event
+event q c i a b f = record { seq = q; scan = c; effect = i; from = a; to = b; first = f }
 
-abbrev pub lines : List Event
-lines =
-    line 0 1 1 Tripped Normal 0
-    ∷ line 1 1 2 Tripped Normal 0
-    ∷ line 2 4 1 Normal Tripped 1
-    ∷ line 3 4 2 Normal Delayed 1
-    ∷ line 4 7 2 Delayed Tripped 1
+abbrev pub sessionEvents : List Event
+sessionEvents =
+    event 0 1 1 Tripped Normal 0
+    ∷ event 1 1 2 Tripped Normal 0
+    ∷ event 2 4 1 Normal Tripped 1
+    ∷ event 3 4 2 Normal Delayed 1
+    ∷ event 4 7 2 Delayed Tripped 1
     ∷ []

@@ -10,47 +10,36 @@ use Rattle.effects.specs.Records.{bytes}
 use Rattle.settings.specs.declared.Settings.{Settings}
 use Rattle.planes.specs.Board.{boardAt, boardOf, markOf}
 use Rattle.block.specs.declared.Kept.{Kept}
-use Rattle.block.specs.Run.{KeptWords, startOf}
-use Rattle.block.specs.State.{fresh}
+use Rattle.block.specs.Run.{startOf}
 use Rattle.settings.specs.Refusals.{granted}
 use Rattle.recording.specs.Answers.{number, rowCount, rowWidth}
 use Rattle.recording.specs.Reader.{reading}
+use Rattle.recording.specs.Steps.{rowPlace}
 use Rattle.rerun.specs.declared.Tally.{Tally}
 use Rattle.rerun.specs.declared.Totals.{Totals}
 use Rattle.rerun.specs.declared.Went.{Went}
 use Rattle.rerun.specs.declared.Turn.{Turn}
 use Rattle.rerun.specs.declared.Replayed.{Replayed}
 use Rattle.rerun.specs.declared.Stop.{Stop}
-use Rattle.rerun.specs.Replay.{Replay, Outcome, replay, firstRows, rowPlace, rowRun}
+use Rattle.rerun.specs.Replay.{Replay, Outcome, replay, firstRows, rowRun}
 
--- a fresh state of n effects, by their words
-abbrev pub totalsAt : (n first : ℕ) → Totals
-totalsAt n first = record { board = boardOf n (startOf fresh); place = first; records = 0; rows = 0; live = 0; exercised = 0 }
-
--- the place is that of the row after the rows so far
-abbrev pub totalsOf : List ℕ → Replay → Totals
-totalsOf s r =
+-- what rows have given, by the words of n effects, and the place of the row after them
+abbrev pub totalsAt : (n place : ℕ) → Replay → Totals
+totalsAt n place r =
     record {
-      board = boardOf (reading s .settings .count) (startOf (r .state));
-      place = rowPlace s (r .rows);
+      board = boardOf n (startOf (r .state));
+      place = place;
       records = length (r .events);
       rows = r .rows;
       live = r .live;
       exercised = r .exercised;
     }
 
--- one row more, which ran so
-abbrev pub totalsAfter : Totals → (width : ℕ) → KeptWords → Totals
-totalsAfter t width ran =
-    record {
-      board = ran .board;
-      place = t .place + width;
-      records = t .records + ran .records;
-      rows = t .rows + 1;
-      live = t .live + ran .live;
-      exercised = t .exercised + ran .exercised;
-    }
+-- in a file
+abbrev pub totalsOf : List ℕ → Replay → Totals
+totalsOf s r = totalsAt (reading s .settings .count) (rowPlace s (r .rows)) r
 
+-- the answer by the refusal's number and place, or 0 and 0, and what the rows so far have given
 abbrev pub answerBy : (number place : ℕ) → Tally → Replayed
 answerBy number place t =
     record {

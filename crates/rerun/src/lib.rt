@@ -79,7 +79,7 @@ pub struct Stop {
 // Before the first row, which stands at `first`, with so many effects.
 pub fn start(count: usize, first: usize) -> Totals
     requires { ⌜ count ≤ 16 ⌝ }
-    ensures { λ r. ⌜ r ≡ totalsAt count first ⌝ }
+    ensures { λ r. ⌜ r ≡ totalsAt count first started ⌝ }
 {
     Totals {
         board: block::fresh_board(count),

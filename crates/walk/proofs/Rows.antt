@@ -1,7 +1,7 @@
 -- A walk at a row's place gives that row and goes on to the next row's place; past the last row it has ended and stays.
 -- So n steps from the start give the first n rows: by induction on n, a step being one of these two.
 use mathlib.Core.Path.{_≡_, refl, sym, ap, _∙_}
-use mathlib.Core.Bool.{Bool, true, false}
+use mathlib.Core.Bool.{Bool, true, false, cond}
 use mathlib.Core.List.{List, [], _∷_}
 use Prim.Native.Nat.{ℕ, zero, suc, _+_, _*_, min, _≤_, _<_}
 use native.Mathlib.Nat.{mul-zero, add-zero, zero-min}
@@ -16,20 +16,15 @@ use Rattle.recording.specs.declared.Step.{Step}
 use Rattle.recording.specs.declared.Step.the-variants as T
 use Rattle.recording.specs.Reader.{reading}
 use Rattle.recording.specs.Answers.{rowCount, firstRow, rowWidth, ended, noRow, stepRow, nextPlace}
-use Rattle.recording.specs.Steps.{stepAt, rowsOf}
+use Rattle.recording.specs.Steps.{rowPlace, rowsOf}
 use Rattle.recording.proofs.Cases.{reading-cases}
 use Rattle.recording.proofs.Theorems.{row-at-its-place, ended-elsewhere}
 use Rattle.recording.proofs.Trips.{length-rowsOf}
 use Rattle.walk.specs.declared.Walk.{Walk}
 use Rattle.walk.specs.Walks.{startOf, nextOf, movedOn, nthOf, walked, withRow, given}
 
--- ## A step by its answers
-
-has-row : (x : Step) → ended x ≡ false → x ≡ T.Row (stepRow x) (nextPlace x)
-has-row (T.Row row next) e = refl
-has-row T.Ended e = cc
-
-pub has-ended : (x : Step) → ended x ≡ true → x ≡ T.Ended
+-- a step that has ended is that case
+has-ended : (x : Step) → ended x ≡ true → x ≡ T.Ended
 has-ended (T.Row row next) e = cc
 has-ended T.Ended e = refl
 
@@ -40,12 +35,9 @@ module _ (s : RefT (List ℕ)) where
   abbrev pub count : ℕ
   count = rowCount (reading (now s) .answer)
 
-  -- the place of row i, and the walk there
-  abbrev placeOf : ℕ → ℕ
-  placeOf i = firstRow (reading (now s) .answer) + rowWidth (reading (now s) .answer) * i
-
+  -- the walk at row i
   abbrev pub atRow : ℕ → Walk
-  atRow i = record { bytes = s; place = placeOf i }
+  atRow i = record { bytes = s; place = rowPlace (now s) i }
 
   -- ## One step
 
@@ -60,19 +52,14 @@ module _ (s : RefT (List ℕ)) where
       (λ e r t l. refl)
 
   -- so no row stands past the last
-  past-all : (n : ℕ) → count ≤ n → (i : ℕ) → i < count → placeOf n ≡ placeOf i → ⊥
+  past-all : (n : ℕ) → count ≤ n → (i : ℕ) → i < count → rowPlace (now s) n ≡ rowPlace (now s) i → ⊥
   past-all n h i l e =
       let first = firstRow (reading (now s) .answer) in
       let same : first + 24 * n ≡ first + 24 * i = rw (wide i l) at e in
       omega (arith, same, h, l)
 
   ended-past : (n : ℕ) → count ≤ n → nextOf (atRow n) ≡ T.Ended
-  ended-past n h = has-ended (stepAt (now s) (placeOf n)) (ended-elsewhere (now s) (placeOf n) (past-all n h))
-
-  row-there : (i : ℕ) → i < count → nextOf (atRow i) ≡ T.Row (getD rows i noRow) (placeOf (suc i))
-  row-there i l =
-      let h = row-at-its-place (now s) i l in
-      has-row (stepAt (now s) (placeOf i)) (h .0) ∙ rw (h .1, h .2)
+  ended-past n h = has-ended (nextOf (atRow n)) (ended-elsewhere (now s) (rowPlace (now s) n) (past-all n h))
 
   -- ## The step after n others, by whether a row is left
 
@@ -86,11 +73,12 @@ module _ (s : RefT (List ℕ)) where
       let m : min n count ≡ count = omega (arith, l) in
       rw m (ended-past count (omega arith))
 
-  step-row : (n : ℕ) → leb count n ≡ false → nextOf (after n) ≡ T.Row (getD rows n noRow) (placeOf (suc n))
+  step-row : (n : ℕ) → leb count n ≡ false → let x = nextOf (after n) in
+      (ended x ≡ false) × (stepRow x ≡ getD rows n noRow) × (nextPlace x ≡ rowPlace (now s) (suc n))
   step-row n q =
       let l = leb-false count n q in
       let m : min n count ≡ n = omega (arith, l) in
-      rw m (row-there n l)
+      rw m (row-at-its-place (now s) n l)
 
   moves : (n : ℕ) (b : Bool) → leb count n ≡ b → movedOn (after n) ≡ after (suc n)
   moves n true q =
@@ -100,15 +88,15 @@ module _ (s : RefT (List ℕ)) where
   moves n false q =
       let l = leb-false count n q in
       let m : min (suc n) count ≡ suc n = omega (arith, l) in
-      rw (step-row n q, m)
+      rw (step-row n q .0, step-row n q .2, m)
 
   pub ends : (n : ℕ) (b : Bool) → leb count n ≡ b → ended (nextOf (after n)) ≡ leb count n
   ends n true q = rw (step-ended n q, q)
-  ends n false q = rw (step-row n q, q)
+  ends n false q = rw (step-row n q .0, q)
 
   pub row-of : (n : ℕ) (b : Bool) → leb count n ≡ b → stepRow (nextOf (after n)) ≡ getD rows n noRow
   row-of n true q = rw (step-ended n q) (sym (List·getD-eq-default rows noRow {n = n} (rw length-rowsOf (leb-true count n q))))
-  row-of n false q = rw (step-row n q)
+  row-of n false q = step-row n q .1
 
   -- it is what stands at the place of row n
   same-step : (n : ℕ) (b : Bool) → leb count n ≡ b → nextOf (after n) ≡ nthOf (now s) n
@@ -138,7 +126,8 @@ module _ (s : RefT (List ℕ)) where
       ap (λ (x : Step). withRow x (given n (movedOn (after i)))) (step-ended i q) ∙ h ∙ rw (none, none′) (take-nil n)
   one-more n i false q h =
       let l = leb-false count i q in
-      ap (λ (x : Step). withRow x (given n (movedOn (after i)))) (step-row i q)
+      let rest = given n (movedOn (after i)) in
+      (λ j. cond (step-row i q .0 j) rest (step-row i q .1 j ∷ rest))
       ∙ ap {B = List Row} (λ (xs : List Row). getD rows i noRow ∷ xs) h
       ∙ ap (take (suc n)) (sym (drop-cons rows i noRow (rw length-rowsOf l)))
 

@@ -4,7 +4,7 @@
 use mathlib.Core.Path.{_≡_, refl, sym, ap, _∙_}
 use mathlib.Core.Bool.{true}
 use mathlib.Core.List.{List}
-use Prim.Native.Nat.{ℕ, _+_, _*_, min, _<_}
+use Prim.Native.Nat.{ℕ, min, _<_}
 use native.Mathlib.Omega.{arith}
 use lib.Dec.{leb}
 use lib.ListN.{take, getD}
@@ -12,15 +12,15 @@ use lib.Seq.{take-all}
 use denote.Ref.{RefT, now}
 use Rattle.recording.specs.declared.Reading.{Reading}
 use Rattle.recording.specs.Reader.{reading}
-use Rattle.recording.specs.Answers.{number, place, rowCount, firstRow, rowWidth, ended, noRow, stepRow}
-use Rattle.recording.specs.Steps.{rowsOf}
+use Rattle.recording.specs.Answers.{number, place, rowCount, firstRow, ended, noRow, stepRow}
+use Rattle.recording.specs.Steps.{rowPlace, rowsOf}
 use Rattle.recording.specs.Refused.{Refused}
 use Rattle.recording.specs.Accepted.{Accepted}
 use Rattle.recording.proofs.Theorems.{ended-elsewhere, refused-as-said}
 use Rattle.recording.proofs.Trips.{length-rowsOf}
 use Rattle.walk.specs.declared.Walk.{Walk}
 use Rattle.walk.specs.Walks.{startOf, nextOf, movedOn, nthOf, walked, given}
-use Rattle.walk.proofs.Rows.{has-ended, count, ends, row-of, place-by, nth-step, rows-given}
+use Rattle.walk.proofs.Rows.{count, ends, row-of, place-by, nth-step, rows-given}
 
 -- ## From the start
 
@@ -31,7 +31,7 @@ pub walk-gives-the-rows : (s : RefT (List ℕ)) (n : ℕ) → let w = startOf s 
     (given n w ≡ take n (rowsOf (now s)))
     × (ended (nextOf (walked n w)) ≡ leb (rowCount a) n)
     × (stepRow (nextOf (walked n w)) ≡ getD (rowsOf (now s)) n noRow)
-    × (walked n w ≡ record { bytes = s; place = firstRow a + rowWidth a * min n (rowCount a) })
+    × (walked n w ≡ record { bytes = s; place = rowPlace (now s) (min n (rowCount a)) })
 walk-gives-the-rows s n = (
   rows-given s n,
   ap (λ (w : Walk). ended (nextOf w)) (place-by s n) ∙ ends s n (leb (count s) n) refl,
@@ -51,11 +51,11 @@ nth-of-the-walk s n = sym (nth-step s n)
 
 -- an ended walk keeps its place, so it has ended for ever
 pub ended-stays : (w : Walk) → ended (nextOf w) ≡ true → movedOn w ≡ w
-ended-stays w e = rw (has-ended (nextOf w) e)
+ended-stays w e = rw e
 
 -- any walk has ended whose place is no row's first byte
 pub walk-elsewhere-has-ended : (w : Walk) → let a = reading (now (w .bytes)) .answer in
-    ((i : ℕ) → i < rowCount a → w .place ≡ firstRow a + rowWidth a * i → ⊥) → ended (nextOf w) ≡ true
+    ((i : ℕ) → i < rowCount a → w .place ≡ rowPlace (now (w .bytes)) i → ⊥) → ended (nextOf w) ≡ true
 walk-elsewhere-has-ended w none = ended-elsewhere (now (w .bytes)) (w .place) none
 
 -- or whose bytes the reader refuses

@@ -1,33 +1,23 @@
 -- A walk over a recording. Document 01, "Recordings": it holds the lent bytes and its place, and gives one row at a time.
 -- The reader's answer (`reading`) and what stands at a place (`stepAt`) are the recording's own definitions, and Answers
 -- there gives the number, place and row of each case.
-use Prim.Native.Nat.{ℕ, zero, suc, _+_, _*_}
+use Prim.Native.Nat.{ℕ, zero, suc}
+use mathlib.Core.Bool.{cond}
 use mathlib.Core.List.{List, [], _∷_}
 use denote.Ref.{RefT, now}
 use Rattle.settings.specs.declared.Row.{Row}
 use Rattle.recording.specs.declared.Step.{Step}
-use Rattle.recording.specs.declared.Step.the-variants as T
 use Rattle.recording.specs.Reader.{reading}
-use Rattle.recording.specs.Answers.{firstRow, rowWidth}
-use Rattle.recording.specs.Steps.{stepAt}
+use Rattle.recording.specs.Answers.{firstRow, ended, stepRow, nextPlace}
+use Rattle.recording.specs.Steps.{stepAt, rowPlace}
 use Rattle.walk.specs.declared.Stride.{Stride}
 use Rattle.walk.specs.declared.Begun.{Begun}
 use Rattle.walk.specs.declared.Walk.{Walk}
 use Rattle.walk.specs.declared.Started.{Started}
 
--- ## On bytes and a place
-
 -- the place after the row; one that has ended stays
 abbrev pub placeAfter : Step → ℕ → ℕ
-placeAfter (T.Row row next) place = next
-placeAfter T.Ended place = place
-
-abbrev pub strideAt : List ℕ → ℕ → Stride
-strideAt s place = record { step = stepAt s place; place = placeAfter (stepAt s place) place }
-
--- the first row's place, or 0 beside a refusal
-abbrev pub begunOf : List ℕ → Begun
-begunOf s = record { answer = reading s .answer; place = firstRow (reading s .answer) }
+placeAfter step place = cond (ended step) place (nextPlace step)
 
 -- ## The walk
 
@@ -47,7 +37,7 @@ movedOn w = record { bytes = w .bytes; place = placeAfter (nextOf w) (w .place) 
 
 -- what stands at the place of row n
 abbrev pub nthOf : List ℕ → (n : ℕ) → Step
-nthOf s n = stepAt s (firstRow (reading s .answer) + rowWidth (reading s .answer) * n)
+nthOf s n = stepAt s (rowPlace s n)
 
 -- the walk after n steps
 abbrev pub walked : (n : ℕ) → Walk → Walk
@@ -56,9 +46,16 @@ walked (suc n) w = movedOn (walked n w)
 
 -- the rows that n steps give, in their order; one that has ended gives none
 abbrev pub withRow : Step → List Row → List Row
-withRow (T.Row row next) rows = row ∷ rows
-withRow T.Ended rows = rows
+withRow step rows = cond (ended step) rows (stepRow step ∷ rows)
 
 abbrev pub given : (n : ℕ) → Walk → List Row
 given zero w = []
 given (suc n) w = withRow (nextOf w) (given n (movedOn w))
+
+-- ## What the covered functions answer on a slice and a place. No entry point's contract cites it
+
+abbrev pub strideAt : List ℕ → ℕ → Stride
+strideAt s place = record { step = stepAt s place; place = placeAfter (stepAt s place) place }
+
+abbrev pub begunOf : List ℕ → Begun
+begunOf s = record { answer = reading s .answer; place = firstRow (reading s .answer) }

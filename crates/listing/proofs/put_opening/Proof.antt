@@ -1,13 +1,30 @@
--- `listing::put_opening` meets its contract: by the two answers of the reader.
+-- `listing::put_opening` meets its contract: by the two answers of the reader, and the number of a refusal.
+use mathlib.Core.Path.{_≡_}
+use Prim.Native.Nat.{ℕ}
 use borrow.Author.Needs.{needs}
+use Rattle.recording.specs.declared.Answer.{Answer}
+use Rattle.recording.specs.declared.Answer.the-variants.{Refused}
+use Rattle.rerun.proofs.Rows.{granted-refused}
+use Rattle.listing.specs.Printed.{opening}
+use Rattle.listing.specs.Text.{header, refusalLine}
 use Rattle.listing.proofs.put_opening.Statement.{statement}
 use Rattle.listing.proofs.put_opening.Tie as tie
+
+refusal-opens : (a : Answer) (n p : ℕ) → a ≡ Refused n p → (n ≡ 0 → ⊥) → opening a ≡ refusalLine n p
+refusal-opens a n p e h = rw e (granted-refused header (λ k. refusalLine k p) n h)
 
 returns : tie.Need-returns
 returns c = rw (c .before .before .before .before .enum-told .given .1) (c .before .before .put-header .ensures)
 
 returns-2 : tie.Need-returns-2
-returns-2 c = rw (c .before .before .before .before .before .answer .given .1) (c .before .before .put-refusal .ensures)
+returns-2 c =
+    rw (c .before .before .before .before .before .before .answer .given .1, c .before .before .before .before .if1 .taken)
+    (c .before .before .put-header2 .ensures)
+
+returns-3 : tie.Need-returns-3
+returns-3 c =
+    let e = refusal-opens _ _ _ (c .before .before .before .before .before .before .answer .given .1) (c .before .before .before .before .if1 .left) in
+    rw e (c .before .before .put-refusal .ensures)
 
 pub put-opening-spec : {M : Type 1} → statement M
 put-opening-spec =
@@ -17,7 +34,10 @@ put-opening-spec =
     (λ c κs. search needs)
     (λ c. search needs)
     (λ c κs. search needs)
+    (λ c κs. search needs)
     (λ c. search needs)
     returns
     (λ c. search needs)
-    returns-2)
+    returns-2
+    (λ c. search needs)
+    returns-3)

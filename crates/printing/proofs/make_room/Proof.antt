@@ -1,5 +1,4 @@
 -- `printing::make_room` meets its contract: any piece fits from the place that it answers.
-use native.Mathlib.Omega.{arith}
 use denote.Ref.{now}
 use mathlib.Core.Path.{sym, _∙_}
 use Prim.Native.Nat.{_+_}

@@ -26,7 +26,7 @@ fill-requires c κs = c .before .before .before .pre .0
 loop-holds : tie.Need-loop-holds Inv-loop μ-loop
 loop-holds c =
     let f = c .before .before .fill .ensures in
-    (search needs, omega (arith, f .within (c .before .before .before .before .before .before .pre .1 .0)), f .going, f .number)
+    (search needs, omega (arith, f .within (c .before .before .before .before .before .before .pre .1 .0)), f .going, λ h. f .last h .0)
 
 flush-requires : tie.Need-flush-requires Inv-loop μ-loop
 flush-requires c κs = omega (arith, c .before .before .loop .inv .0, c .before .before .loop .inv .1)
@@ -44,7 +44,7 @@ loop-again : tie.Need-loop-again Inv-loop μ-loop
 loop-again c =
     let l = c .before .before .before .before .before .before .before .before .before .loop in
     let f = c .before .before .fill2 .ensures in
-    (search needs, omega (arith, f .within (omega arith), l .inv .0), f .going, f .number)
+    (search needs, omega (arith, f .within (omega arith), l .inv .0), f .going, λ h. f .last h .0)
 
 print-closing-requires : tie.Need-print-closing-requires Inv-loop μ-loop
 print-closing-requires c κs =

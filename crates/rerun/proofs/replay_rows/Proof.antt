@@ -2,8 +2,8 @@
 -- `Filling`, where the records are kept.
 use mathlib.Core.Path.{_≡_, refl, sym, ap, _∙_}
 use mathlib.Core.Bool.{Bool, true, cond}
-use mathlib.Core.List.{List, []}
-use Prim.Native.Nat.{ℕ, _+_, _-_, _*_, _≤_, _<_}
+use mathlib.Core.List.{[]}
+use Prim.Native.Nat.{ℕ, _-_, _*_, _≤_, _<_}
 use native.Mathlib.Omega.{arith}
 use borrow.Author.Needs.{needs}
 use borrow.Rule.Slice.PartMut.{putMid}
@@ -17,7 +17,7 @@ use Rattle.recording.specs.Reader.{reading}
 use Rattle.wiring.proofs.Held.{count-of}
 use Rattle.rerun.specs.declared.Totals.{Totals}
 use Rattle.rerun.specs.declared.Turn.{Turn}
-use Rattle.rerun.specs.Replay.{firstRows, rowRun}
+use Rattle.rerun.specs.Replay.{rowRun}
 use Rattle.rerun.specs.Turn.{totalsWith, Going}
 use Rattle.rerun.proofs.Turns.{few-effects, begins, one-row, goes-on, stops-answered, ends-answered}
 use Rattle.rerun.proofs.Filling as filling

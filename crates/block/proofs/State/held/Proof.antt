@@ -7,11 +7,10 @@ use borrow.Author.Needs.{needs}
 use denote.Ref.{now}
 use lib.ListN.{length, replicate}
 use lib.Seq.{length-sets}
-use Rattle.settings.proofs.Answers.{answers-refused, answers-no-room, answers-granted}
-use Rattle.block.specs.declared.Ran.{Ran}
+use Rattle.block.specs.declared.Held.{Held}
 use Rattle.block.specs.Scan.{inputNumber, atFront}
 use Rattle.block.specs.Held.{run, grantedHeld, refusedHeld, heldNumber, heldOf, heldInto}
-use Rattle.block.specs.Run.{heldBy}
+use Rattle.settings.proofs.Answers.{answers-refused, answers-no-room, answers-granted}
 use Rattle.block.proofs.Answers.{copied}
 use Rattle.block.proofs.Runs.{due-bytes}
 use Rattle.block.proofs.State.held.Statement.{statement}
@@ -39,7 +38,7 @@ due : (c : tie.After-run-right) → let a = c .before .before .before .before .b
     (c .run-right .result .records ≡ length (run (a .st) (a .row) (a .self) .events)) × (12 * length (run (a .st) (a .row) (a .self) .events) ≤ 384)
 due c =
     let a = c .before .before .before .before .before .args in
-    (ap (λ (r : Ran). r .records) (c .run-right .ensures .0), due-bytes (a .st) (a .row) (a .self) (input (c .before)))
+    (ap (λ (r : Held). r .records) (c .run-right .ensures .0), due-bytes (a .st) (a .row) (a .self) (input (c .before)))
 
 mul-at : tie.Need-mul-at
 mul-at c = let d = due (c .before .before) in omega (arith, d .0, d .1)
@@ -63,15 +62,15 @@ copy-front-requires c κs =
 returns-3 : tie.Need-returns-3
 unfolding heldOf heldInto heldNumber
 returns-3 c =
-    let k = c .before .before .before .before .before .before .before .before .before in
+    let k = c .before .before .before .before .before .before .before .before in
     let i = k .before .before .before in
     let a = i .before .before .args in
     let d = due k in
     let e : 12 * k .run-right .result .records ≡ 12 * length (run (a .st) (a .row) (a .self) .events) = ap (λ n. 12 * n) (d .0) in
     answers-granted _ (12 * length (run (a .st) (a .row) (a .self) .events)) (now (a .out)) (atFront (run (a .st) (a .row) (a .self) .events) (now (a .out))) (grantedHeld (a .st) (a .row) (a .self)) (refusedHeld (a .self)) _ (i .input-number .ensures) _ _
-    (c .granted-held .ensures ∙ ap heldBy (k .run-right .ensures .0))
-    (copied (run (a .st) (a .row) (a .self) .events) _ (replicate 384 0) _ (now (a .out)) _ e (d .1) (k .run-right .ensures .1) (c .before .before .before .copy-front .ensures))
-    (k .before .before .if1 .left) (omega (arith, d .0, c .before .before .before .before .before .before .if2 .left))
+    (k .run-right .ensures .0)
+    (copied (run (a .st) (a .row) (a .self) .events) _ (replicate 384 0) _ (now (a .out)) _ e (d .1) (k .run-right .ensures .1) (c .before .before .copy-front .ensures))
+    (k .before .before .if1 .left) (omega (arith, d .0, c .before .before .before .before .before .if2 .left))
 
 pub held-spec : {M : Type 1} → statement M
 held-spec =
@@ -87,6 +86,5 @@ held-spec =
     returns-2
     (λ c. search needs)
     copy-front-requires
-    (λ c κs. search needs)
     (λ c. search needs)
     returns-3)

@@ -1,0 +1,26 @@
+-- The listing of document 01's session is the text that stands there, computed to its bytes.
+use mathlib.Core.Path.{_≡_, refl, ap, _∙_}
+use mathlib.Core.List.{_++_}
+use Prim.Native.Nat.{ℕ}
+use lib.ListN.{length}
+use Rattle.bits.specs.Decimal.{atMost, decimal}
+use Rattle.recording.specs.declared.Answer.{Answer}
+use Rattle.rerun.specs.Replay.{replay}
+use Rattle.rerun.specs.Session.{session, sessionEvents}
+use Rattle.rerun.proofs.Session.{the-session-is-read, the-session}
+use Rattle.listing.specs.Text.{header, name, line, lines, lastLine}
+use Rattle.listing.specs.Listing.{closing, listed, listing}
+use Rattle.listing.specs.Session.{sessionText}
+
+-- by its events and totals; nothing is refused, so that no place counts
+spelled : (p : ℕ) → header ++ lines sessionEvents ++ closing (record { number = 0; place = p; records = 5; rows = 2; scans = 8; live = 3; exercised = 5 }) ≡ sessionText
+unfolding header line name lastLine closing decimal atMost
+spelled p = refl
+
+pub the-session-is-listed : listing session ≡ sessionText
+unfolding listing
+the-session-is-listed =
+    let o = the-session in
+    ap (λ (a : Answer). listed a (replay session)) the-session-is-read
+    ∙ (λ j. header ++ lines (o .1 j) ++ closing (record { number = o .0 j; place = replay session .place; records = length (o .1 j); rows = o .2 j; scans = o .3 j; live = o .4 j; exercised = o .5 j }))
+    ∙ spelled (replay session .place)
