@@ -1,6 +1,6 @@
 // What the programs that answer streams of cases share: settings, a state and words read from the bytes of a case, the
-// bytes of an answer, the filling of a lent buffer, and hexadecimal digits. second/README.md lays the streams out. It rests on
-// `block` and what that rests on; no promise rests on it. All but the streams may change.
+// bytes of an answer, the filling of a lent buffer, and lines of hexadecimal digits. second/README.md lays the streams out. It rests
+// on `block` and what that rests on, and on the kit's `io` and `libc`; no promise rests on it. All but the streams may change.
 ghost use mathlib.Core.Path.{_≡_};
 ghost use mathlib.Core.List.{[], _∷_, _++_};
 ghost use Prim.Native.Nat.{_+_, _*_, _%_, _<_, _≤_, min};
