@@ -3,8 +3,7 @@
 use Prim.Native.Nat.{ℕ}
 use mathlib.Core.List.{List}
 use lib.ListN.{length}
-use Rattle.effects.specs.declared.Progress.{Progress}
-use Rattle.rounds.specs.Steps.{Run}
+use Rattle.rounds.specs.Steps.{Run, start}
 use Rattle.planes.specs.declared.Board.{Board}
 use Rattle.planes.specs.Table.{slotsOf}
 use Rattle.planes.specs.Board.{boardAt, boardOf}

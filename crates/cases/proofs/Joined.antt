@@ -45,7 +45,7 @@ length-pair : (a b : List ℕ) → length (pairBytes a b) ≡ 2 * length a + 1 +
 unfolding pairBytes
 length-pair a b = rw length-append (omega (arith, length-joined hexByte 2 (λ x. refl) a, length-joined hexByte 2 (λ x. refl) b))
 
--- and LF behind them
-pub line-is : (l l₁ l₂ : List ℕ) (n : ℕ) (a b : List ℕ) → l₁ ≡ sets l 0 (pairBytes a b) → n ≡ 0 + 2 * length a + 1 + 2 * length b
-    → l₂ ≡ sets l₁ n (digits 1 10) → l₂ ≡ sets l 0 (pairBytes a b ++ 10 ∷ [])
-line-is l l₁ l₂ n a b p e q = sets-then l l₁ l₂ 0 n (pairBytes a b) (digits 1 10) p (rw zero-add q) (omega (arith, length-pair a b))
+-- and what stands behind them
+pub line-is : (l l₁ l₂ : List ℕ) (n : ℕ) (a b x : List ℕ) → l₁ ≡ sets l 0 (pairBytes a b) → n ≡ 0 + 2 * length a + 1 + 2 * length b
+    → l₂ ≡ sets l₁ n x → l₂ ≡ sets l 0 (pairBytes a b ++ x)
+line-is l l₁ l₂ n a b x p e q = sets-then l l₁ l₂ 0 n (pairBytes a b) x p (rw zero-add q) (omega (arith, length-pair a b))

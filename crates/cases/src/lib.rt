@@ -1,6 +1,6 @@
 // What the programs that answer streams of cases share: settings, a state and words read from the bytes of a case, the
-// bytes of an answer, the filling of a lent buffer, and hexadecimal digits. second/README.md lays the streams out. It rests on
-// `block` and what that rests on; no promise rests on it. All but the streams may change.
+// bytes of an answer, the filling of a lent buffer, and lines of hexadecimal digits. second/README.md lays the streams out. It rests
+// on `block` and what that rests on, and on the kit's `io` and `libc`; no promise rests on it. All but the streams may change.
 ghost use mathlib.Core.Path.{_≡_};
 ghost use mathlib.Core.List.{[], _∷_, _++_};
 ghost use Prim.Native.Nat.{_+_, _*_, _%_, _<_, _≤_, min};
@@ -8,7 +8,7 @@ ghost use lib.ListN.{length};
 ghost use lib.Seq.{sets};
 ghost use Rattle.bits.specs.Layout.{pack};
 ghost use Rattle.bits.specs.Lists.{tabulate};
-ghost use Rattle.bits.specs.Numbers.{numAt};
+ghost use Rattle.bits.specs.Numbers.{numAt, digits};
 ghost use Rattle.cases.specs.Given.{effectAt, settingsAt, wordsAt, slotAt, stateAt, fillAt};
 ghost use Rattle.cases.specs.Answers.{joined, slotBytes, stateBytes, answerBytes, hexDigit, hexByte, pairBytes};
 use block::Scanned;
@@ -266,13 +266,22 @@ fn put_pair(a: &[u8], b: &[u8], out: &mut [u8], at: usize) -> usize
     gap + 1 + 2 * b.len()
 }
 
-// Writes a line at the front of `out`, the digits of a, a space, those of b and LF, and answers its length.
-pub fn put_line(a: &[u8], b: &[u8], out: &mut [u8]) -> usize
+// Writes a line at the front of `out`, the digits of a, a space, those of b and a last byte, and answers its length.
+fn put_line(a: &[u8], b: &[u8], last: u8, out: &mut [u8]) -> usize
     requires { ⌜ 2 * length (now a) + 2 * length (now b) + 2 ≤ length (now out) ⌝ }
     ensures { λ r. ⌜ r ≡ 2 * length (now (a .entry)) + 2 * length (now (b .entry)) + 2 ⌝ }
-    ensures { λ _. ⌜ now (out .exit) ≡ sets (now (out .entry)) 0 (pairBytes (now (a .entry)) (now (b .entry)) ++ 10 ∷ []) ⌝ }
+    ensures { λ _. ⌜ now (out .exit) ≡ sets (now (out .entry)) 0 (pairBytes (now (a .entry)) (now (b .entry)) ++ digits 1 last) ⌝ }
 {
     let n = put_pair(a, b, out, 0);
-    bits::put8(out, n, b'\n');
+    bits::put8(out, n, last);
     n + 1
+}
+
+// Writes such a line to standard output, at most 537 bytes of a and b; false if it takes no more.
+pub fn print_line(a: &[u8], b: &[u8], last: u8) -> bool
+    requires { ⌜ length (now a) + length (now b) ≤ 537 ⌝ }
+{
+    let mut line = [0u8; 1076];
+    let n = put_line(a, b, last, &mut line);
+    io::write_all(1, &line[0..n])
 }

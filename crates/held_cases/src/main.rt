@@ -1,13 +1,12 @@
 // Answers a stream of held cases: 245 bytes each on standard input, a line each on standard output. second/README.md
-// lays both out. It is a test program over `block` and `cases`: all but the stream may change.
-ghost use Prim.Native.Nat.{_≤_};
+// lays both out. It is a test program over `block`, `cases` and `streams`: all but the stream may change.
 ghost use mathlib.Core.Path.{_≡_};
+ghost use Prim.Native.Nat.{_≤_};
 ghost use lib.ListN.{length};
 use block::Held;
 use block::Scanned;
 use settings::Row;
 
-// Runs the case in a buffer of exactly its room.
 fn run(case: &[u8; 245], buf: &mut [u8]) -> Held {
     let st = cases::settings_at(case, 0);
     let x = cases::state_at(case, 101);
@@ -38,46 +37,32 @@ fn put_head(r: Held, head: &mut [u8])
     bits::put32(head, 133, r.exercised);
 }
 
-// Writes the line that answers it.
-fn print(r: Held, buf: &[u8]) -> bool
+// Answers a case in a buffer of exactly its room.
+fn answer_in(case: &[u8; 245], buf: &mut [u8]) -> bool
     requires { ⌜ length (now buf) ≤ 400 ⌝ }
 {
+    let r = run(case, buf);
     let mut head = [0u8; 137];
     put_head(r, &mut head);
-    let mut line = [0u8; 1076];
-    let n = cases::put_line(&head, buf, &mut line);
-    io::write_all(1, &line[..n])
+    cases::print_line(&head, buf, b'\n')
 }
 
-// Answers a case, in the first bytes of `space`.
-fn answer(case: &[u8; 245], space: &mut [u8]) -> bool
-    requires { ⌜ length (now space) ≡ 400 ⌝ }
-{
-    let room = cases::room_at(case, 243, 400);
-    let r = run(case, &mut space[..room]);
-    print(r, &space[..room])
-}
-
-// Reads a case and answers it; false at the end of the input, in a case that is cut short, or if nothing can be written.
-fn next_case() -> bool {
-    let mut case = [0u8; 245];
-    let got = io::read_full(0, &mut case);
-    if got == 0 {
-        return false;
-    }
-    if got < 245 {
-        io::write_all(1, b"truncated\n");
-        return false;
-    }
+// Writes the line that answers a case; false if nothing can be written.
+fn answer(case: &[u8; 245]) -> bool {
     let mut space = [0u8; 400];
-    answer(&case, &mut space)
+    let room = cases::room_at(case, 243, 400);
+    answer_in(case, &mut space[0..room])
 }
 
 // At most a million cases.
 fn main() {
+    let mut case = [0u8; 245];
     let mut done: usize = 0;
     while done < 1000000 {
-        if !next_case() {
+        if !streams::next_case(&mut case) {
+            return;
+        }
+        if !answer(&case) {
             return;
         }
         done += 1;

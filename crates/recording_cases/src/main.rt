@@ -1,6 +1,6 @@
 // Answers a stream of recordings on standard input: for each the reader's answer, its rows, and the bytes that the writer
-// gives for what was read. second/README.md lays both streams out. It is a test program over `recording`, `writing` and `cases`: all
-// but the streams may change.
+// gives for what was read. second/README.md lays both streams out. It is a test program over `recording`, `writing`, `cases` and
+// `streams`: all but the streams may change.
 ghost use mathlib.Core.Path.{_≡_};
 ghost use Prim.Native.Nat.{_+_, _≤_};
 ghost use lib.ListN.{length};
@@ -18,7 +18,7 @@ fn print_hex(s: &[u8]) -> bool
     let mut line = [0u8; 320];
     cases::put_hex(s, &mut line, 0);
     let n = 2 * s.len();
-    io::write_all(1, &line[..n])
+    io::write_all(1, &line[0..n])
 }
 
 fn print_end() -> bool {
@@ -156,7 +156,7 @@ fn print_piece(w: Written, out: &[u8]) -> bool
     if 160 < n {
         return false;
     }
-    print_hex(&out[..n])
+    print_hex(&out[0..n])
 }
 
 fn print_opening(st: Settings, rows: u16) -> bool {
@@ -193,6 +193,7 @@ fn print_rows_back(st: Settings, s: &[u8], first: usize, rows: u16) {
 
 // ---- one recording
 
+// Prints what answers a recording; false if nothing can be written.
 fn answer(s: &[u8]) -> bool {
     let reading = recording::read(s);
     let st = reading.settings;
@@ -209,57 +210,19 @@ fn answer(s: &[u8]) -> bool {
     }
 }
 
-fn truncated() -> bool {
-    io::write_all(1, b"truncated\n");
-    false
-}
-
-// Reads so many bytes to the front of `file` and answers them.
-fn answer_file(file: &mut [u8], n: usize) -> bool
-    requires { ⌜ n ≤ length (now file) ⌝ }
-{
-    let got = io::read_full(0, &mut file[..n]);
-    if got < n {
-        return truncated();
-    }
-    answer(&file[..n])
-}
-
-// Reads a recording and answers it; false at the end of the input, in a recording that is cut short, or if nothing can be
-// written. A stream has none above 49,262 bytes.
-fn next_file(file: &mut [u8]) -> bool
-    requires { ⌜ length (now file) ≡ 49262 ⌝ }
-    ensures { λ _. ⌜ length (now (file .exit)) ≡ 49262 ⌝ }
-{
-    let mut head = [0u8; 4];
-    let got = io::read_full(0, &mut head);
-    if got == 0 {
-        return false;
-    }
-    if got < 4 {
-        return truncated();
-    }
-    let n = bits::get32(&head, 0) as usize;
-    if 49262 < n {
-        return truncated();
-    }
-    answer_file(file, n)
-}
-
-// At most a million recordings.
-fn answer_all(file: &mut [u8])
-    requires { ⌜ length (now file) ≡ 49262 ⌝ }
-{
+// At most a million recordings. A stream has none above 49,262 bytes.
+fn main() {
+    let mut file = [0u8; 49262];
     let mut done: usize = 0;
     while done < 1000000 {
-        if !next_file(file) {
+        let next = streams::next_sized(&mut file);
+        let n = next.size;
+        if !next.more {
+            return;
+        }
+        if !answer(&file[0..n]) {
             return;
         }
         done += 1;
     }
-}
-
-fn main() {
-    let mut file = [0u8; 49262];
-    answer_all(&mut file);
 }

@@ -1,7 +1,6 @@
 // Answers a stream of writing cases: 129 bytes each on standard input, a line each on standard output, the opening piece
-// and then the row piece, each in a buffer of its own. second/README.md lays both out. It is a test program over `writing` and
-// `cases`: all but the stream may change.
-ghost use mathlib.Core.Path.{_≡_};
+// and then the row piece, each in a buffer of its own. second/README.md lays both out. It is a test program over `writing`,
+// `cases` and `streams`: all but the stream may change.
 ghost use Prim.Native.Nat.{_≤_};
 ghost use lib.ListN.{length};
 use settings::Row;
@@ -16,14 +15,10 @@ fn head_of(w: Written) -> [u8; 7] {
 }
 
 // Writes the digits of a piece's answer and of its buffer, and the character after them.
-fn print(w: Written, buf: &[u8], last: &[u8]) -> bool
+fn print(w: Written, buf: &[u8], last: u8) -> bool
     requires { ⌜ length (now buf) ≤ 160 ⌝ }
 {
-    let head = head_of(w);
-    let mut line = [0u8; 340];
-    let n = cases::put_line(&head, buf, &mut line);
-    io::write_all(1, &line[..n - 1]);
-    io::write_all(1, last)
+    cases::print_line(&head_of(w), buf, last)
 }
 
 fn print_opening(case: &[u8; 129], buf: &mut [u8]) -> bool
@@ -33,7 +28,7 @@ fn print_opening(case: &[u8; 129], buf: &mut [u8]) -> bool
     let rows = bits::get16(case, 101);
     cases::fill(buf);
     let w = writing::write_opening(st, rows, buf);
-    print(w, buf, b" ")
+    print(w, buf, b' ')
 }
 
 fn print_row(case: &[u8; 129], buf: &mut [u8]) -> bool
@@ -44,38 +39,33 @@ fn print_row(case: &[u8; 129], buf: &mut [u8]) -> bool
     let words = cases::words_at(case, 107);
     cases::fill(buf);
     let w = writing::write_row(st, Row { hold, words }, buf);
-    print(w, buf, b"\n")
+    print(w, buf, b'\n')
 }
 
-// Answers a case, in the first bytes of `space`.
-fn answer(case: &[u8; 129], space: &mut [u8]) -> bool
-    requires { ⌜ length (now space) ≡ 160 ⌝ }
+// Answers a case in a buffer of exactly its room.
+fn answer_in(case: &[u8; 129], buf: &mut [u8]) -> bool
+    requires { ⌜ length (now buf) ≤ 160 ⌝ }
 {
-    let room = cases::room_at(case, 127, 160);
-    print_opening(case, &mut space[..room]);
-    print_row(case, &mut space[..room])
+    print_opening(case, buf);
+    print_row(case, buf)
 }
 
-// Reads a case and answers it; false at the end of the input, in a case that is cut short, or if nothing can be written.
-fn next_case() -> bool {
-    let mut case = [0u8; 129];
-    let got = io::read_full(0, &mut case);
-    if got == 0 {
-        return false;
-    }
-    if got < 129 {
-        io::write_all(1, b"truncated\n");
-        return false;
-    }
+// Writes the line that answers a case; false if nothing can be written.
+fn answer(case: &[u8; 129]) -> bool {
     let mut space = [0u8; 160];
-    answer(&case, &mut space)
+    let room = cases::room_at(case, 127, 160);
+    answer_in(case, &mut space[0..room])
 }
 
 // At most a million cases.
 fn main() {
+    let mut case = [0u8; 129];
     let mut done: usize = 0;
     while done < 1000000 {
-        if !next_case() {
+        if !streams::next_case(&mut case) {
+            return;
+        }
+        if !answer(&case) {
             return;
         }
         done += 1;

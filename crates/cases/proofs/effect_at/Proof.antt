@@ -6,7 +6,7 @@ use Rattle.cases.proofs.effect_at.Tie as tie
 
 returns : tie.Need-returns
 unfolding effectAt
-returns c = simp (c .get32 .ensures, c .before .get16 .ensures)
+returns c = cc
 
 pub effect-at-spec : {M : Type 1} → statement M
 effect-at-spec =

@@ -1,4 +1,4 @@
--- `cases::put_line` meets its contract: the pair, and LF where it ends.
+-- `cases::put_line` meets its contract: the pair, and the last byte where it ends.
 use native.Mathlib.Omega.{arith}
 use denote.Ref.{now}
 use borrow.Author.Needs.{needs}
@@ -10,7 +10,7 @@ returns : tie.Need-returns
 returns c =
     let s = c .before .before .before .before .before .before .before .before .before .before .before .args in
     let p = c .before .before .before .before .before .before .put-pair .ensures in
-    (omega arith, line-is (now (s .out)) _ _ _ (now (s .a)) (now (s .b)) (p .1) (p .0) (c .before .before .put8 .ensures))
+    (omega arith, line-is (now (s .out)) _ _ _ (now (s .a)) (now (s .b)) _ (p .1) (p .0) (c .before .before .put8 .ensures))
 
 pub put-line-spec : {M : Type 1} → statement M
 put-line-spec = tie.close (tie.spec (λ c κs. search needs) (λ c κs. search needs) (λ c. search needs) (λ c. search needs) returns)

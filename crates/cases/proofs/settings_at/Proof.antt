@@ -6,7 +6,7 @@ use Rattle.cases.proofs.settings_at.Tie as tie
 
 returns : tie.Need-returns
 unfolding settingsAt
-returns c = simp (c .get83 .ensures, c .before .get16 .ensures, c .before .before .get82 .ensures, c .before .before .before .get8 .ensures, c .before .before .before .before .effects-at .ensures)
+returns c = cc
 
 pub settings-at-spec : {M : Type 1} → statement M
 settings-at-spec =

@@ -6,7 +6,7 @@ use Rattle.cases.proofs.slot_at.Tie as tie
 
 returns : tie.Need-returns
 unfolding slotAt
-returns c = simp (c .get16 .ensures, c .before .get32 .ensures, c .before .before .state-of .ensures, c .before .before .before .get8 .ensures)
+returns c = cc
 
 pub slot-at-spec : {M : Type 1} → statement M
 slot-at-spec =

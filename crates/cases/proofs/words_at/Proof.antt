@@ -6,7 +6,7 @@ use Rattle.cases.proofs.words_at.Tie as tie
 
 returns : tie.Need-returns
 unfolding wordsAt
-returns c = simp (c .get1610 .ensures, c .before .get169 .ensures, c .before .before .get168 .ensures, c .before .before .before .get167 .ensures, c .before .before .before .before .get166 .ensures, c .before .before .before .before .before .get165 .ensures, c .before .before .before .before .before .before .get164 .ensures, c .before .before .before .before .before .before .before .get163 .ensures, c .before .before .before .before .before .before .before .before .get162 .ensures, c .before .before .before .before .before .before .before .before .before .get16 .ensures)
+returns c = cc
 
 pub words-at-spec : {M : Type 1} → statement M
 words-at-spec =

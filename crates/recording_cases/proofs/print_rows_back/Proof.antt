@@ -9,21 +9,7 @@ Inv-loop st s first rows at₀ left₀ at left = Unit {0}
 abbrev μ-loop : tie.MeasureT-loop
 μ-loop st s first rows at₀ left₀ at left = left
 
-loop-holds : tie.Need-loop-holds Inv-loop μ-loop
-loop-holds c = tt
-
-loop-again : tie.Need-loop-again Inv-loop μ-loop
-loop-again c = tt
-
 pub print-rows-back-spec : {M : Type 1} → statement M
 print-rows-back-spec =
     tie.close
-    (tie.spec
-    Inv-loop
-    μ-loop
-    loop-holds
-    (λ c κs. search needs)
-    (λ c. search needs)
-    (λ c. search needs)
-    loop-again
-    (λ c. search needs))
+    (tie.spec Inv-loop μ-loop (λ c. tt) (λ c κs. search needs) (λ c. search needs) (λ c. search needs) (λ c. tt) (λ c. search needs))

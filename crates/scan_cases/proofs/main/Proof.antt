@@ -1,14 +1,16 @@
 -- `scan_cases::main` is safe and ends. The measure: cases to go, of a million.
+use mathlib.Core.Path.{_≡_}
 use Prim.Native.Nat.{_≤_, _-_}
+use lib.ListN.{length}
 use borrow.Author.Needs.{needs}
 use Rattle.scan_cases.proofs.main.Statement.{statement}
 use Rattle.scan_cases.proofs.main.Tie as tie
 
 abbrev Inv-loop : tie.InvT-loop
-Inv-loop done₀ done = done ≤ 1000000
+Inv-loop case₀ done₀ case done = (done ≤ 1000000) × (length case ≡ 241)
 
 abbrev μ-loop : tie.MeasureT-loop
-μ-loop done₀ done = 1000000 - done
+μ-loop case₀ done₀ case done = 1000000 - done
 
 pub main-spec : {M : Type 1} → statement M
 main-spec =
@@ -16,6 +18,9 @@ main-spec =
     (tie.spec
     Inv-loop
     μ-loop
+    (λ c. search needs)
+    (λ c. search needs)
+    (λ c κs. search needs)
     (λ c. search needs)
     (λ c κs. search needs)
     (λ c. search needs)

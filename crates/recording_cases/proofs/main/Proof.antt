@@ -1,27 +1,31 @@
--- `replay_cases::answer_all` is safe and ends. The measure: recordings to go, of a million.
+-- `recording_cases::main` is safe and ends. The measure: recordings to go, of a million.
 use mathlib.Core.Path.{_≡_}
 use Prim.Native.Nat.{_≤_, _-_}
 use lib.ListN.{length}
 use borrow.Author.Needs.{needs}
-use Rattle.replay_cases.proofs.answer_all.Statement.{statement}
-use Rattle.replay_cases.proofs.answer_all.Tie as tie
+use Rattle.recording_cases.proofs.main.Statement.{statement}
+use Rattle.recording_cases.proofs.main.Tie as tie
 
 abbrev Inv-loop : tie.InvT-loop
-Inv-loop file₀ done₀ file done = (done ≤ 1000000) × (length file ≡ 49262) × (length file ≡ length file₀)
+Inv-loop file₀ done₀ file done = (done ≤ 1000000) × (length file ≡ 49262)
 
 abbrev μ-loop : tie.MeasureT-loop
 μ-loop file₀ done₀ file done = 1000000 - done
 
-pub answer-all-spec : {M : Type 1} → statement M
-answer-all-spec =
+pub main-spec : {M : Type 1} → statement M
+main-spec =
     tie.close
     (tie.spec
     Inv-loop
     μ-loop
     (λ c. search needs)
+    (λ c. search needs)
     (λ c κs. search needs)
     (λ c. search needs)
     (λ c. search needs)
+    (λ c. search needs)
+    (λ c. search needs)
+    (λ c κs. search needs)
     (λ c. search needs)
     (λ c. search needs)
     (λ c. search needs)
