@@ -1,6 +1,5 @@
 -- `planes::low_timer` meets its contract. The loop's invariant: the least timer of the effects in the word below some m, and the word holds those from m on.
 use mathlib.Core.Path.{refl}
-use Prim.Native.Nat.{_-_}
 use native.Mathlib.Omega.{arith}
 use borrow.Author.Needs.{needs}
 use denote.Ref.{now}

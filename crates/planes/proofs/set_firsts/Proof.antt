@@ -1,7 +1,6 @@
 -- `planes::set_firsts` meets its contract. The loop's invariant: the effects in the word below some m have their first-outs, and the word holds those from m on.
 use mathlib.Core.Path.{refl, sym, _∙_}
 use mathlib.Core.List.{_++_}
-use Prim.Native.Nat.{_-_}
 use native.Mathlib.Omega.{arith}
 use borrow.Author.Needs.{needs}
 use denote.Ref.{now}
