@@ -1,7 +1,7 @@
 -- The rules by words are the rules, effect by effect: once, over the bit's number.
 use mathlib.Core.Path.{_≡_, refl, ap, sym}
 use mathlib.Core.Bool.{Bool, true, false, not, _&&_, _||_}
-use Prim.Native.Nat.{ℕ, _-_, _<_, _≤_}
+use Prim.Native.Nat.{ℕ, _<_, _≤_}
 use Rattle.bits.specs.Words.{wordOf}
 use Rattle.bits.proofs.Words.{and-word, or-word, less-word, wordOf-ext}
 use Rattle.rules.specs.declared.EffectState.{EffectState}

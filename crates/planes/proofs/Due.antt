@@ -33,13 +33,13 @@ module _ (n delayed : ℕ) (t : ℕ → Bool) where
     k = trailingZeros 16 rest
 
     pub no-higher : word < 2 ^ k
-    no-higher = rw (before-it n delayed upTo d more) (wordOf-lt _ k)
+    no-higher = rw (before-it d more) (wordOf-lt _ k)
 
     pub put : Done n delayed upTo (word + cond (t k) (2 ^ k) 0) (bitAnd rest (rest - 1))
     put =
-        again n delayed upTo d more
-        (ap (λ (w : ℕ). w + cond (t k) (2 ^ k) 0) (before-it n delayed upTo d more)
-        ∙ sym (wordOf-more _ k ∙ ap (λ (b : Bool). upTo k + cond (b && t k) (2 ^ k) 0) (is-set n delayed upTo d more)))
+        again d more
+        (ap (λ (w : ℕ). w + cond (t k) (2 ^ k) 0) (before-it d more)
+        ∙ sym (wordOf-more _ k ∙ ap (λ (b : Bool). upTo k + cond (b && t k) (2 ^ k) 0) (is-set d more)))
 
 -- ## A scan asks for no more
 

@@ -52,7 +52,7 @@ module _ (n delayed : ℕ) (t : ℕ → ℕ) where
 
   pub lowered : {low rest : ℕ} → Done n delayed upTo low rest → 0 < rest → Done n delayed upTo (min low (t (trailingZeros 16 rest))) (bitAnd rest (rest - 1))
   lowered {low} {rest} d more =
-      again n delayed upTo d more
-      (ap (λ (l : ℕ). min l (t (trailingZeros 16 rest))) (before-it n delayed upTo d more)
+      again d more
+      (ap (λ (l : ℕ). min l (t (trailingZeros 16 rest))) (before-it d more)
       ∙ sym (lowTo-more (bitOf delayed) t (trailingZeros 16 rest)
-      ∙ ap (λ (b : Bool). cond b (min (upTo (trailingZeros 16 rest)) (t (trailingZeros 16 rest))) (upTo (trailingZeros 16 rest))) (is-set n delayed upTo d more)))
+      ∙ ap (λ (b : Bool). cond b (min (upTo (trailingZeros 16 rest)) (t (trailingZeros 16 rest))) (upTo (trailingZeros 16 rest))) (is-set d more)))

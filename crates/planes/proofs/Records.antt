@@ -49,79 +49,82 @@ entries-rest q c ch was is firsts h =
 
 -- ## The loop over the set bits
 
-module _ (buf₀ : List ℕ) (at0 q0 number ch : ℕ) (was is : Planes) (firsts : List ℕ) where
+-- the records so far are written
+pub record Put (buf₀ : List ℕ) (at0 q0 number ch : ℕ) (was is : Planes) (firsts : List ℕ) (buf : List ℕ) (at q rest : ℕ) : Type 0 where
+  pub es : List (List ℕ)
+  pub done : Done 16 ch (entriesTo q0 number ch was is firsts) es rest
+  pub place : at ≡ at0 + recordLength * length es
+  pub seq : q ≡ (q0 + length es) % 2 ^ 16
+  pub wrote : buf ≡ sets buf₀ at0 (joined es)
+
+pub begun : (buf₀ : List ℕ) (at0 q0 number ch : ℕ) (was is : Planes) (firsts : List ℕ) → q0 < 65536 → ch < 65536
+    → Put buf₀ at0 q0 number ch was is firsts buf₀ at0 q0 ch
+unfolding joined
+begun buf₀ at0 q0 number ch was is firsts h k =
+    record {
+      es = [];
+      done = started (entries-rest q0 number ch was is firsts k) (sym (picked-none (entryAt q0 number was is firsts) (bitOf ch)));
+      place = omega arith;
+      seq = sym (ap (λ (x : ℕ). x % 2 ^ 16) (add-zero q0) ∙ mod-eq-of-lt h);
+      wrote = refl;
+    }
+
+module _ {buf₀ : List ℕ} {at0 q0 number ch : ℕ} {was is : Planes} {firsts : List ℕ}
+    {buf : List ℕ} {at q rest : ℕ} (p : Put buf₀ at0 q0 number ch was is firsts buf at q rest) where
   abbrev entries : ℕ → List (List ℕ)
   entries n = entriesTo q0 number ch was is firsts n
 
-  -- the records so far are written
-  pub record Put (buf : List ℕ) (at q rest : ℕ) : Type 0 where
-    pub es : List (List ℕ)
-    pub done : Done 16 ch entries es rest
-    pub place : at ≡ at0 + recordLength * length es
-    pub seq : q ≡ (q0 + length es) % 2 ^ 16
-    pub wrote : buf ≡ sets buf₀ at0 (joined es)
+  abbrev made : ℕ → ℕ → List ℕ
+  made = entryAt q0 number was is firsts
 
-  pub begun : q0 < 65536 → ch < 65536 → Put buf₀ at0 q0 ch
-  unfolding joined
-  begun h k =
-      record {
-        es = [];
-        done =
-            started 16 ch entries (entries-rest q0 number ch was is firsts k)
-            (sym (picked-none (entryAt q0 number was is firsts) (bitOf ch)));
-        place = omega arith;
-        seq = sym (ap (λ (x : ℕ). x % 2 ^ 16) (add-zero q0) ∙ mod-eq-of-lt h);
-        wrote = refl;
-      }
+  -- nothing is left
+  pub finished : rest ≡ 0 → p .es ≡ entries 16
+  finished e = ended (p .done) e
 
-  module _ {buf : List ℕ} {at q rest : ℕ} (p : Put buf at q rest) where
-    -- nothing is left
-    pub finished : rest ≡ 0 → p .es ≡ entries 16
-    finished e = ended 16 ch entries (p .done) e
+  pub as-long : length buf ≡ length buf₀
+  as-long = ap length (p .wrote) ∙ length-sets buf₀ at0 (joined (p .es))
 
-    pub as-long : length buf ≡ length buf₀
-    as-long = ap length (p .wrote) ∙ length-sets buf₀ at0 (joined (p .es))
+  -- one more
+  module _ (more : 0 < rest) where
+    abbrev n : ℕ
+    n = trailingZeros 16 rest
 
-    -- one more
-    module _ (more : 0 < rest) where
-      abbrev n : ℕ
-      n = trailingZeros 16 rest
+    so-far : p .es ≡ entries n
+    so-far = before-it (p .done) more
 
-      so-far : p .es ≡ entries n
-      so-far = before-it 16 ch entries (p .done) more
+    one-more : p .es ++ (made (length (p .es)) n ∷ []) ≡ entries (n + 1)
+    one-more =
+        ap (λ (l : List (List ℕ)). l ++ (made (length l) n ∷ [])) so-far
+        ∙ sym (picked-yes made (bitOf ch) n (is-set (p .done) more))
 
-      one-more : p .es ++ (entryAt q0 number was is firsts (length (p .es)) n ∷ []) ≡ entries (n + 1)
-      one-more =
-          ap (λ (l : List (List ℕ)). l ++ (entryAt q0 number was is firsts (length l) n ∷ [])) so-far
-          ∙ sym (picked-yes (entryAt q0 number was is firsts) (bitOf ch) n (is-set 16 ch entries (p .done) more))
+    count : length (p .es ++ (made (length (p .es)) n ∷ [])) ≡ length (p .es) + 1
+    count = length-append (p .es) _
 
-      count : length (p .es ++ (entryAt q0 number was is firsts (length (p .es)) n ∷ [])) ≡ length (p .es) + 1
-      count = length-append (p .es) _
+    room : length (p .es) + 1 ≤ length (entries 16)
+    room =
+        let d : n + 1 + (15 - n) ≡ 16 = omega (arith, below (p .done) more) in
+        let h = picked-grows made (bitOf ch) (n + 1) (15 - n) in
+        let e : length (entries (n + 1 + (15 - n))) ≡ length (entries 16) = ap (λ (k : ℕ). length (entries k)) d in
+        omega (arith, count, ap length one-more, h, e)
 
-      room : length (p .es) + 1 ≤ length (entries 16)
-      room =
-          let d : n + 1 + (15 - n) ≡ 16 = omega (arith, below 16 ch entries (p .done) more) in
-          let h = picked-grows (entryAt q0 number was is firsts) (bitOf ch) (n + 1) (15 - n) in
-          let e : length (entries (n + 1 + (15 - n))) ≡ length (entries 16) = ap (λ (k : ℕ). length (entries k)) d in
-          omega (arith, count, ap length one-more, h, e)
+    long : length (joined (p .es)) ≡ recordLength * length (p .es)
+    long = rw so-far (length-joined made (bitOf ch) (length-entry q0 number was is firsts) n)
 
-      long : length (joined (p .es)) ≡ recordLength * length (p .es)
-      long = rw so-far (length-joined (entryAt q0 number was is firsts) (bitOf ch) (length-entry q0 number was is firsts) n)
+    turned : Put buf₀ at0 q0 number ch was is firsts (sets buf at (made (length (p .es)) n)) (at + recordLength) ((q + 1) % 2 ^ 16) (bitAnd rest (rest - 1))
+    turned = record {
+      es = p .es ++ (made (length (p .es)) n ∷ []);
+      done = again (p .done) more one-more;
+      place = omega (arith, p .place, count);
+      seq = rw count (omega (arith, p .seq));
+      wrote = rw (joined-snoc, sets-append, long, ← p .place, ← p .wrote);
+    }
 
-      turned : Put (sets buf at (entryAt q0 number was is firsts (length (p .es)) n)) (at + recordLength) ((q + 1) % 2 ^ 16) (bitAnd rest (rest - 1))
-      turned = record {
-        es = p .es ++ (entryAt q0 number was is firsts (length (p .es)) n ∷ []);
-        done = again 16 ch entries (p .done) more one-more;
-        place = omega (arith, p .place, count);
-        seq = rw count (omega (arith, p .seq));
-        wrote = rw (joined-snoc, sets-append, long, ← p .place, ← p .wrote);
-      }
+    pub roomy : at0 + recordLength * length (entries 16) ≤ length buf₀ → at + recordLength ≤ length buf
+    roomy h = omega (arith, p .place, room, as-long, h)
 
-      pub roomy : at0 + recordLength * length (entries 16) ≤ length buf₀ → at + recordLength ≤ length buf
-      roomy h = omega (arith, p .place, room, as-long, h)
-
-      pub put-one : Put (sets buf at (recordOf q number (n + 1) (codeAt was n) (codeAt is n) (getD firsts n 0))) (at + recordLength) ((q + 1) % 2 ^ 16) (bitAnd rest (rest - 1))
-      unfolding entryAt
-      put-one =
-          subst (λ (k : ℕ). Put (sets buf at (recordOf k number (n + 1) (codeAt was n) (codeAt is n) (getD firsts n 0))) (at + recordLength) ((q + 1) % 2 ^ 16) (bitAnd rest (rest - 1)))
-          (sym (p .seq)) turned
+    pub put-one : Put buf₀ at0 q0 number ch was is firsts
+        (sets buf at (recordOf q number (n + 1) (codeAt was n) (codeAt is n) (getD firsts n 0))) (at + recordLength) ((q + 1) % 2 ^ 16) (bitAnd rest (rest - 1))
+    unfolding entryAt
+    put-one =
+        subst (λ (k : ℕ). Put buf₀ at0 q0 number ch was is firsts (sets buf at (recordOf k number (n + 1) (codeAt was n) (codeAt is n) (getD firsts n 0))) (at + recordLength) ((q + 1) % 2 ^ 16) (bitAnd rest (rest - 1)))
+        (sym (p .seq)) turned

@@ -60,8 +60,8 @@ module _ (n word : ℕ) (f : ℕ → ℕ) (xs : List ℕ) (long : n ≤ length x
       → (bitOf word (trailingZeros 16 rest) ≡ true → getD now (trailingZeros 16 rest) 0 ≡ getD xs (trailingZeros 16 rest) 0 → v ≡ f (trailingZeros 16 rest))
       → Done n word upTo (set now (trailingZeros 16 rest) v) (bitAnd rest (rest - 1))
   stored {now} {rest} d more v e =
-      again n word upTo d more
-      (refill f xs now (trailingZeros 16 rest) v (omega (arith, below n word upTo d more, long)) (before-it n word upTo d more) (e (is-set n word upTo d more)))
+      again d more
+      (refill f xs now (trailingZeros 16 rest) v (omega (arith, below d more, long)) (before-it d more) (e (is-set d more)))
 
 -- ## Nothing to change
 

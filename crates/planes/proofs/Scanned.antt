@@ -174,7 +174,7 @@ module _ (size : ℕ) (few : size ≤ 16) (s : ℕ → Signals) (xs : List Slot)
   all : entries 16 ≡ entries size
   all =
       let inside = wordOf-lt (λ i. moved (s i) (x i)) size in
-      passed 16 ch entries (entries-rest q c ch was is firsts (lt-of-lt-of-le inside (pow-mono few))) size 16 few (omega arith)
+      passed (entries-rest q c ch was is firsts (lt-of-lt-of-le inside (pow-mono few))) size 16 few (omega arith)
       (λ j u v. bit-past ch size j inside u)
 
   pub records-word : (length (entries 16) ≡ length (events size)) × (joined (entries 16) ≡ bytes (events size)) × (seqAfter q (tabulate s size) xs ≡ (q + length (entries 16)) % 2 ^ 16)

@@ -2,7 +2,7 @@
 use mathlib.Core.Path.{_≡_, refl, ap₂, sym, _∙_, subst}
 use mathlib.Core.Bool.{cond}
 use mathlib.Core.List.{List, _++_}
-use Prim.Native.Nat.{ℕ, _-_, _<_, _≤_}
+use Prim.Native.Nat.{ℕ, _<_, _≤_}
 use native.Mathlib.Omega.{arith}
 use lib.ListN.{drop, getD, length, replicate, take, take-append-drop, length-append, length-drop, length-replicate}
 use lib.Seq.{ext-getD, length-take-le, getD-take}

@@ -1,7 +1,7 @@
 -- A scan by words is the scan of the slots.
 use mathlib.Core.Path.{_≡_, refl, ap, ap₂, sym, _∙_}
 use mathlib.Core.List.{List, _++_}
-use Prim.Native.Nat.{ℕ, _-_, _<_, _≤_}
+use Prim.Native.Nat.{ℕ, _<_, _≤_}
 use native.Mathlib.Nat.{lt-of-lt-of-le}
 use lib.Dec.{leb}
 use lib.ListN.{drop, getD, length, replicate}

@@ -128,134 +128,140 @@ within-shown n r = (wordOf-lt _ n, wordOf-lt _ n)
 
 -- ## The loop
 
-module _ (n : ℕ) (causes delays : List ℕ) (period tripped : ℕ) (hold : ℕ) (w₀ : Asked) (x₀ : Board) (buf₀ : List ℕ) where
-  -- what the whole run comes to
-  abbrev pub whole : Run
-  whole = held (signalsIn n causes delays period tripped w₀) hold (runOf n x₀)
+-- what the whole run comes to
+abbrev pub whole : (n : ℕ) (causes delays : List ℕ) (period tripped : ℕ) (hold : ℕ) → Asked → Board → Run
+whole n causes delays period tripped hold w x = held (signalsIn n causes delays period tripped w) hold (runOf n x)
 
-  -- at the loop's head: the words are those of signals and slots of which the loop over lists holds
-  pub record Kept (w : Asked) (x : Board) (buf : List ℕ) (left fuel : ℕ) : Type 0 where
-    pub s : ℕ → Signals
-    pub r : Run
-    pub sees : Sees causes delays period tripped s
-    pub long : length (r .slots) ≡ 16
-    pub small : r .next < 65536
-    pub asked : w ≡ askedOf n (λ i. asks (s i))
-    pub shown : x ≡ boardOf n r
-    pub settled : Settled n (x .table)
-    pub going : Going whole buf₀ (tabulate s n) r buf left fuel
+-- at the loop's head: the words are those of signals and slots of which the loop over lists holds
+pub record Kept (n : ℕ) (causes delays : List ℕ) (period tripped hold : ℕ) (w₀ : Asked) (x₀ : Board) (buf₀ : List ℕ)
+    (w : Asked) (x : Board) (buf : List ℕ) (left fuel : ℕ) : Type 0 where
+  pub few : n ≤ 16
+  pub pos : 0 < period
+  pub short : period ≤ 1000
+  pub s : ℕ → Signals
+  pub r : Run
+  pub sees : Sees causes delays period tripped s
+  pub long : length (r .slots) ≡ 16
+  pub small : r .next < 65536
+  pub asked : w ≡ askedOf n (λ i. asks (s i))
+  pub shown : x ≡ boardOf n r
+  pub settled : Settled n (x .table)
+  pub going : Going (whole n causes delays period tripped hold w₀ x₀) buf₀ (tabulate s n) r buf left fuel
 
-module _ (n : ℕ) (few : n ≤ 16) (causes delays : List ℕ) (period tripped : ℕ) (pos : 0 < period) (short : period ≤ 1000) (hold : ℕ) (w₀ : Asked) (x₀ : Board) (buf₀ : List ℕ) where
+module _ {n : ℕ} {causes delays : List ℕ} {period tripped hold : ℕ} {w₀ : Asked} {x₀ : Board} {buf₀ : List ℕ}
+    {w : Asked} {x : Board} {buf : List ℕ} {left fuel : ℕ} (h : Kept n causes delays period tripped hold w₀ x₀ buf₀ w x buf left fuel) where
   abbrev all : Run
-  all = whole n causes delays period tripped hold w₀ x₀ buf₀
+  all = whole n causes delays period tripped hold w₀ x₀
 
-  abbrev Kept-now : Asked → Board → List ℕ → ℕ → ℕ → Type 0
-  Kept-now = Kept n causes delays period tripped hold w₀ x₀ buf₀
+  abbrev S : List Signals
+  S = tabulate (h .s) n
 
-  module _ (s : ℕ → Signals) (sees : Sees causes delays period tripped s) (r : Run) (long : length (r .slots) ≡ 16) (small : r .next < 65536)
-      {buf : List ℕ} {left fuel : ℕ} (g : Going all buf₀ (tabulate s n) r buf left fuel) (more : 0 < left) where
-    abbrev S : List Signals
-    S = tabulate s n
+  abbrev W : Asked
+  W = askedOf n (λ i. asks (h .s i))
+
+  -- the run after the scan
+  abbrev q : Run
+  q = scan S (h .r)
+
+  scan-here : scanned n causes delays period tripped W (boardOf n (h .r)) ≡ boardOf n q
+  scan-here = scan-word n (h .few) causes delays period tripped (h .s) (h .sees) (h .r) (h .long) (h .small)
+
+  pub as-long : length buf ≡ length buf₀
+  as-long = ap length (h .going .laid) ∙ length-sets buf₀ 0 (bytes (h .r .events))
+
+  pub done-fits : x .done + left ≤ 1000000000
+  done-fits = rw (h .shown) (h .going .room)
+
+  pub live-fits : x .live + left ≤ 1000000
+  live-fits = rw (h .shown) (h .going .few)
+
+  -- before a scan and after it
+  pub within : Within n (x .table .planes)
+  within = rw (h .shown) (within-shown n (h .r))
+
+  pub within-then : Within n (scanned n causes delays period tripped w x .table .planes)
+  within-then = rw (h .shown, h .asked, scan-here) (within-shown n q)
+
+  module _ (more : 0 < left) where
+    abbrev t : ℕ → Signals
+    t i = clear (h .s i)
 
     abbrev C : List Signals
-    C = tabulate (λ i. clear (s i)) n
+    C = tabulate t n
 
-    abbrev W : Asked
-    W = askedOf n (λ i. asks (s i))
-
-    abbrev q : Run
-    q = scan S r
+    sees-then : Sees causes delays period tripped t
+    sees-then = sees-clear causes delays period tripped (h .s) (h .sees)
 
     long-q : length (q .slots) ≡ 16
-    long-q = length-steps S (r .slots) ∙ long
+    long-q = length-steps S (h .r .slots) ∙ h .long
 
     abbrev j : ℕ
     j = quiets (left - 1) C (q .slots)
 
-    quiet-here : quietsBy (left - 1) n period (askedOf n (λ i. asks (clear (s i)))) (tableOf n (q .slots) .planes) (tableOf n (q .slots) .timers) ≡ j
-    quiet-here = quiets-word n few (λ i. clear (s i)) (q .slots) long-q causes delays period tripped (sees-clear causes delays period tripped s sees) (left - 1) pos short (omega (arith, g .few))
-
-    going-then : Going all buf₀ C (skip j C q) (sets buf (recordLength * length (r .events)) (bytes (due S r))) (left - 1 - j) (fuel - 1)
-    going-then = rw (map-tabulate clear s n) at (turn all buf₀ g more)
+    quiet-here : quietsBy (left - 1) n period (askedOf n (λ i. asks (t i))) (tableOf n (q .slots) .planes) (tableOf n (q .slots) .timers) ≡ j
+    quiet-here = quiets-word n (h .few) t (q .slots) long-q causes delays period tripped sees-then (left - 1) (h .pos) (h .short) (omega (arith, h .going .few))
 
     -- the board after the scan, and the scans that it skips
     abbrev then : Board
-    then = scanned n causes delays period tripped W (boardOf n r)
+    then = scanned n causes delays period tripped W (boardOf n (h .r))
 
     abbrev skips : ℕ
     skips = quietsBy (left - 1) n period (unset W) (then .table .planes) (then .table .timers)
 
     settled-then : Settled n (later skips n period then .table)
     unfolding later scanned
-    settled-then = settled-later skips n period (then .table) (settled-after n causes delays period tripped W (tableOf n (r .slots)))
+    settled-then = settled-later skips n period (then .table) (settled-after n causes delays period tripped W (tableOf n (h .r .slots)))
 
-    kept-then : Kept-now (unset W) (later skips n period then) (sets buf (recordLength * length (r .events)) (joined (entriesOf n causes delays period tripped W (boardOf n r)))) (left - 1 - skips) (fuel - 1)
+    kept-then : Kept n causes delays period tripped hold w₀ x₀ buf₀ (unset W) (later skips n period then)
+        (sets buf (recordLength * length (h .r .events)) (joined (entriesOf n causes delays period tripped W (boardOf n (h .r))))) (left - 1 - skips) (fuel - 1)
     kept-then =
-        rw (laid-word n few causes delays period tripped s sees r long small, scan-word n few causes delays period tripped s sees r long small, unset-word n s, quiet-here)
+        rw (laid-word n (h .few) causes delays period tripped (h .s) (h .sees) (h .r) (h .long) (h .small), scan-here, unset-word n (h .s), quiet-here)
         (record {
-          settled = rw (scan-word n few causes delays period tripped s sees r long small, unset-word n s, quiet-here) at settled-then;
-          s = λ i. clear (s i);
+          few = h .few;
+          pos = h .pos;
+          short = h .short;
+          s = t;
           r = skip j C q;
-          sees = sees-clear causes delays period tripped s sees;
+          sees = sees-then;
           long = length-advances j C (q .slots) ∙ long-q;
-          small = seq-lt (r .next) S (r .slots) small;
+          small = seq-lt (h .r .next) S (h .r .slots) (h .small);
           asked = refl;
-          shown = skip-word n few causes delays period tripped (λ i. clear (s i)) (sees-clear causes delays period tripped s sees) q long-q j;
-          going = going-then;
+          shown = skip-word n (h .few) causes delays period tripped t sees-then q long-q j;
+          settled = rw (scan-here, unset-word n (h .s), quiet-here) at settled-then;
+          going = rw (map-tabulate clear (h .s) n) at (turn (h .going) more);
         })
 
-    fits-then : recordLength * length (all .events) ≤ length buf₀
-        → recordLength * length (r .events) + recordLength * length (entriesOf n causes delays period tripped W (boardOf n r)) ≤ length buf
-    fits-then v =
-        rw (count-word n few causes delays period tripped s sees r long small)
-        (fit all buf₀ g more v)
+    pub fits : recordLength * length (all .events) ≤ length buf₀ → x .at + recordLength * length (entriesOf n causes delays period tripped w x) ≤ length buf
+    fits v =
+        rw (h .shown, h .asked, count-word n (h .few) causes delays period tripped (h .s) (h .sees) (h .r) (h .long) (h .small))
+        (fit (h .going) more v)
 
-  module _ {w : Asked} {x : Board} {buf : List ℕ} {left fuel : ℕ} (h : Kept-now w x buf left fuel) where
-    pub as-long : length buf ≡ length buf₀
-    as-long = ap length (h .going .laid) ∙ length-sets buf₀ 0 (bytes (h .r .events))
+    -- a turn of the loop, by what the calls in it ensure
+    pub turned : {y z : Board} {buf′ : List ℕ} {v : Asked} {k : ℕ}
+        → y ≡ scanned n causes delays period tripped w x → buf′ ≡ sets buf (x .at) (joined (entriesOf n causes delays period tripped w x)) → v ≡ unset w
+        → k ≡ quietsBy (left - 1) n period v (y .table .planes) (y .table .timers) → z ≡ later k n period y
+        → Kept n causes delays period tripped hold w₀ x₀ buf₀ v z buf′ (left - 1 - k) (fuel - 1)
+    turned ey eb ev ek ez = rw (ez, ek, ev, eb, ey, h .shown, h .asked) kept-then
 
-    pub done-fits : x .done + left ≤ 1000000000
-    done-fits = rw (h .shown) (h .going .room)
-
-    pub live-fits : x .live + left ≤ 1000000
-    live-fits = rw (h .shown) (h .going .few)
-
-    -- before a scan and after it
-    pub within : Within n (x .table .planes)
-    within = rw (h .shown) (within-shown n (h .r))
-
-    pub within-then : Within n (scanned n causes delays period tripped w x .table .planes)
-    within-then =
-        rw (h .shown, h .asked, scan-word n few causes delays period tripped (h .s) (h .sees) (h .r) (h .long) (h .small))
-        (within-shown n (scan (tabulate (h .s) n) (h .r)))
-
-    module _ (more : 0 < left) where
-      pub fits : recordLength * length (all .events) ≤ length buf₀ → x .at + recordLength * length (entriesOf n causes delays period tripped w x) ≤ length buf
-      fits v = rw (h .shown, h .asked) (fits-then (h .s) (h .sees) (h .r) (h .long) (h .small) (h .going) more v)
-
-      -- a turn of the loop, by what the calls in it ensure
-      pub turned : {y z : Board} {buf′ : List ℕ} {v : Asked} {k : ℕ}
-          → y ≡ scanned n causes delays period tripped w x → buf′ ≡ sets buf (x .at) (joined (entriesOf n causes delays period tripped w x)) → v ≡ unset w
-          → k ≡ quietsBy (left - 1) n period v (y .table .planes) (y .table .timers) → z ≡ later k n period y
-          → Kept-now v z buf′ (left - 1 - k) (fuel - 1)
-      turned ey eb ev ek ez = rw (ez, ek, ev, eb, ey, h .shown, h .asked) (kept-then (h .s) (h .sees) (h .r) (h .long) (h .small) (h .going) more)
-
-    pub ended : left ≡ 0 → (x ≡ boardOf n all) × (buf ≡ sets buf₀ 0 (bytes (all .events)))
-    ended e =
-        let f = ends all buf₀ (h .going) e in
-        (h .shown ∙ ap (boardOf n) f, h .going .laid ∙ ap (λ (r : Run). sets buf₀ 0 (bytes (r .events))) f)
+  pub ended : left ≡ 0 → (x ≡ boardOf n all) × (buf ≡ sets buf₀ 0 (bytes (all .events)))
+  ended e =
+      let f = ends (h .going) e in
+      (h .shown ∙ ap (boardOf n) f, h .going .laid ∙ ap (λ (r : Run). sets buf₀ 0 (bytes (r .events))) f)
 
 -- the run that starts at a board
 abbrev pub fresh : Board → Board
 fresh x = board (x .done) (x .next) 0 0 (x .table)
 
 -- the first turn
-pub starts : (n : ℕ) (few : n ≤ 16) (causes delays : List ℕ) (period tripped : ℕ) (pos : 0 < period) (short : period ≤ 1000) (hold : ℕ) (w : Asked) (x : Board) (buf : List ℕ) (fuel : ℕ)
-    → Right n causes delays period tripped w x → x .next < 65536 → hold ≤ 1000000 → x .done + hold ≤ 1000000000 → 2 * n < fuel
+pub starts : (n : ℕ) (causes delays : List ℕ) (period tripped hold : ℕ) (w : Asked) (x : Board) (buf : List ℕ) (fuel : ℕ)
+    → n ≤ 16 → 0 < period → period ≤ 1000 → Right n causes delays period tripped w x → x .next < 65536 → hold ≤ 1000000 → x .done + hold ≤ 1000000000 → 2 * n < fuel
     → Kept n causes delays period tripped hold w (fresh x) buf w (fresh x) buf hold fuel
 unfolding signalsBy
-starts n few causes delays period tripped pos short hold w x buf fuel right small h room f =
+starts n causes delays period tripped hold w x buf fuel few pos short right small h room f =
     record {
+      few = few;
+      pos = pos;
+      short = short;
       s = signalsBy causes delays period tripped w;
       r = runOf n x;
       sees = record { active = λ i. refl; delay = λ i. refl; time = λ i. refl };

@@ -96,6 +96,11 @@ signalsIn n causes delays period tripped w = tabulate (signalsBy causes delays p
 abbrev pub runOf : ℕ → Board → Run
 runOf n x = start (x .done) (x .next) (slotsOf n (x .table))
 
+-- the board of a run: its place is after the records of its events
+abbrev pub boardOf : ℕ → Run → Board
+boardOf n r =
+    record { done = r .done; next = r .next; at = recordLength * length (r .events); live = r .live; table = tableOf n (r .slots) }
+
 -- what is kept is that of the slots it shows, and rests where it should
 pub record Shown (n : ℕ) (b : Table) : Type 0 where
   pub slots : b ≡ tableOf n (slotsOf n b)
@@ -105,8 +110,3 @@ pub record Shown (n : ℕ) (b : Table) : Type 0 where
 pub record Right (n : ℕ) (causes delays : List ℕ) (period tripped : ℕ) (w : Asked) (x : Board) : Type 0 where
   pub asked : w ≡ askedOf n (λ i. asks (signalsBy causes delays period tripped w i))
   pub table : Shown n (x .table)
-
--- the board of a run: its place is after the records of its events
-abbrev pub boardOf : ℕ → Run → Board
-boardOf n r =
-    record { done = r .done; next = r .next; at = recordLength * length (r .events); live = r .live; table = tableOf n (r .slots) }

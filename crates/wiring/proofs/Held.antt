@@ -38,8 +38,9 @@ pub period-of : (st : Settings) (x : Wiring) → x ≡ wiringOf st → x .period
 unfolding wiringOf
 period-of st x e = ap (λ (y : Wiring). y .period) e
 
-module _ (st : Settings) (right : settingsNumber st ≡ 0) (row : Row) (row-right : rowNumber (limitsOf st) row ≡ 0)
-    (x : Wiring) (causes delays : List ℕ) (wired : Wired st x causes delays) (asked : Asked) (ea : asked ≡ askedBy (st .options) x causes (row .words)) (t : ℕ) (et : t ≡ trippedOf (row .words)) where
+module _ {st : Settings} {x : Wiring} {causes delays : List ℕ} {asked : Asked} {t : ℕ} (right : settingsNumber st ≡ 0)
+    (row : Row) (row-right : rowNumber (limitsOf st) row ≡ 0) (wired : Wired st x causes delays)
+    (ea : asked ≡ askedBy (st .options) x causes (row .words)) (et : t ≡ trippedOf (row .words)) (from : Board) where
   abbrev w : Words
   w = row .words
 
@@ -63,11 +64,10 @@ module _ (st : Settings) (right : settingsNumber st ≡ 0) (row : Row) (row-righ
   unfolding wiringOf
   asked-is = rw (ea, et, wired .causes-are, wired .delays-are, ex) (asked-right st right w words)
 
-  module _ (from : Board) (shown : Shown (st .count) (from .table)) where
-    pub right-words : Right (x .count) causes delays (x .period) t asked from
-    right-words = record { asked = asked-is; table = rw (count-of st x ex) shown }
+  pub right-words : Shown (st .count) (from .table) → Right (x .count) causes delays (x .period) t asked from
+  right-words shown = record { asked = asked-is; table = rw (count-of st x ex) shown }
 
-  module _ (from : Board) (b : Board) (eb : b ≡ boardOf (x .count) (held ss (row .hold) (runOf (x .count) from))) where
+  module _ {b : Board} (eb : b ≡ boardOf (x .count) (held ss (row .hold) (runOf (x .count) from))) where
     abbrev run : Run
     run = held (signals st w) (row .hold) (runOf (st .count) from)
 
@@ -82,5 +82,5 @@ module _ (st : Settings) (right : settingsNumber st ≡ 0) (row : Row) (row-righ
         (ap (λ (a : Asked). bitAnd (a .normal) (bitOr (a .active) (a .bad))) asked-is ∙ latent-is (x .count) s ∙ ap latentWord ss-are)
         (ap (λ (a : Asked). not (eqb (a .active) 0)) asked-is ∙ exercised-is (x .count) s ∙ ap anyExercised ss-are)
 
-  pub held-is : (from : Board) → held ss (row .hold) (runOf (x .count) from) ≡ held (signals st w) (row .hold) (runOf (st .count) from)
-  held-is from = rw (ss-are, count-of st x ex)
+  pub held-is : held ss (row .hold) (runOf (x .count) from) ≡ held (signals st w) (row .hold) (runOf (st .count) from)
+  held-is = rw (ss-are, count-of st x ex)

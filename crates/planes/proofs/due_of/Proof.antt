@@ -1,13 +1,11 @@
 -- `planes::due_of` meets its contract. The loop's invariant: the word of what is due below some m, and the word holds the effects from m on.
 use mathlib.Core.Path.{refl}
-use Prim.Native.Nat.{_-_}
 use native.Mathlib.Omega.{arith}
 use borrow.Author.Needs.{needs}
 use denote.Ref.{now}
-use lib.Bits.{and-le-r}
 use Rattle.bits.specs.Words.{wordOf}
 use Rattle.planes.specs.Table.{dueAt, dueIn}
-use Rattle.planes.proofs.Bits.{Done, started, ended}
+use Rattle.planes.proofs.Bits.{falls, Done, started, ended}
 use Rattle.planes.proofs.Due.{word-rest, no-higher, put}
 use Rattle.planes.proofs.due_of.Statement.{statement}
 use Rattle.planes.proofs.due_of.Tie as tie
@@ -20,7 +18,7 @@ abbrev μ-loop : tie.MeasureT-loop
 
 loop-holds : tie.Need-loop-holds Inv-loop μ-loop
 unfolding wordOf
-loop-holds c = started _ _ _ (word-rest _ _ (dueAt (now (c .args .timers)) (c .args .period)) (c .pre .0) (c .pre .1)) refl
+loop-holds c = started (word-rest _ _ (dueAt (now (c .args .timers)) (c .args .period)) (c .pre .0) (c .pre .1)) refl
 
 put-bit-requires : tie.Need-put-bit-requires Inv-loop μ-loop
 put-bit-requires c κs =
@@ -28,9 +26,7 @@ put-bit-requires c κs =
     (l .1, rw (l .0) (no-higher _ _ _ (c .before .before .before .loop .inv) (omega arith)))
 
 loop-less : tie.Need-loop-less Inv-loop μ-loop
-loop-less c =
-    let r = c .before .before .before .before .loop .rest in
-    omega (arith, and-le-r r (r - 1))
+loop-less c = falls _ (omega arith)
 
 loop-again : tie.Need-loop-again Inv-loop μ-loop
 loop-again c =
@@ -39,7 +35,7 @@ loop-again c =
     (put _ _ (dueAt (now (a .timers)) (a .period)) (c .before .before .before .before .loop .inv) (omega arith))
 
 returns : tie.Need-returns Inv-loop μ-loop
-returns c = ended _ _ _ (c .before .loop .inv) (omega arith)
+returns c = ended (c .before .loop .inv) (omega arith)
 
 pub due-of-spec : {M : Type 1} → statement M
 due-of-spec =

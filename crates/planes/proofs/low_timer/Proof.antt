@@ -1,14 +1,12 @@
 -- `planes::low_timer` meets its contract. The loop's invariant: the least timer of the effects in the word below some m, and the word holds those from m on.
 use mathlib.Core.Path.{refl}
-use Prim.Native.Nat.{_-_}
 use native.Mathlib.Omega.{arith}
 use borrow.Author.Needs.{needs}
 use denote.Ref.{now}
-use lib.Bits.{and-le-r}
 use lib.ListN.{getD}
 use Rattle.bits.specs.Words.{bitOf}
 use Rattle.planes.specs.Table.{lowTo}
-use Rattle.planes.proofs.Bits.{Done, started, ended}
+use Rattle.planes.proofs.Bits.{falls, Done, started, ended}
 use Rattle.planes.proofs.Low.{low-rest, lowered}
 use Rattle.planes.proofs.low_timer.Statement.{statement}
 use Rattle.planes.proofs.low_timer.Tie as tie
@@ -21,18 +19,16 @@ abbrev μ-loop : tie.MeasureT-loop
 
 loop-holds : tie.Need-loop-holds Inv-loop μ-loop
 unfolding lowTo
-loop-holds c = started _ _ _ (low-rest _ _ (λ i. getD (now (c .args .timers)) i 0) (c .pre .0) (c .pre .1)) refl
+loop-holds c = started (low-rest _ _ (λ i. getD (now (c .args .timers)) i 0) (c .pre .0) (c .pre .1)) refl
 
 loop-less : tie.Need-loop-less Inv-loop μ-loop
-loop-less c =
-    let r = c .before .before .before .before .loop .rest in
-    omega (arith, and-le-r r (r - 1))
+loop-less c = falls _ (omega arith)
 
 loop-again : tie.Need-loop-again Inv-loop μ-loop
 loop-again c = rw (c .least .ensures, c .before .before .lowest .ensures .0) (lowered _ _ _ (c .before .before .before .before .loop .inv) (omega arith))
 
 returns : tie.Need-returns Inv-loop μ-loop
-returns c = ended _ _ _ (c .before .loop .inv) (omega arith)
+returns c = ended (c .before .loop .inv) (omega arith)
 
 pub low-timer-spec : {M : Type 1} → statement M
 low-timer-spec =

@@ -1,8 +1,7 @@
 -- `planes::put_scan` meets its contract. The loop's invariant: the records of the effects below some m are written, and the word holds those from m on.
-use Prim.Native.Nat.{_-_}
 use native.Mathlib.Omega.{arith}
 use borrow.Author.Needs.{needs}
-use lib.Bits.{and-le-r}
+use Rattle.planes.proofs.Bits.{falls}
 use Rattle.planes.proofs.Records.{Put, begun, finished, roomy, as-long, put-one}
 use Rattle.planes.proofs.put_scan.Statement.{statement}
 use Rattle.planes.proofs.put_scan.Tie as tie
@@ -17,33 +16,31 @@ loop-holds : tie.Need-loop-holds Inv-loop μ-loop
 loop-holds c = begun _ _ _ _ _ _ _ _ (omega (arith, c .before .fits .q0)) (omega (arith, c .before .fits .ch))
 
 put-record-requires : tie.Need-put-record-requires Inv-loop μ-loop
-put-record-requires c κs = roomy _ _ _ _ _ _ _ _ (c .before .before .before .before .before .before .loop .inv) (omega arith) (c .before .before .before .before .before .before .before .before .pre)
+put-record-requires c κs = roomy (c .before .before .before .before .before .before .loop .inv) (omega arith) (c .before .before .before .before .before .before .before .before .pre)
 
 add-at : tie.Need-add-at Inv-loop μ-loop
 add-at c =
-    let h = roomy _ _ _ _ _ _ _ _ (c .before .before .before .before .before .before .before .before .before .loop .inv) (omega arith) (c .before .before .before .before .before .before .before .before .before .before .before .pre) in
-    record { fits = omega (arith, h, as-long _ _ _ _ _ _ _ _ (c .before .before .before .before .before .before .before .before .before .loop .inv), c .before .before .before .before .before .before .before .before .before .before .before .good .0 .1) }
+    let h = roomy (c .before .before .before .before .before .before .before .before .before .loop .inv) (omega arith) (c .before .before .before .before .before .before .before .before .before .before .before .pre) in
+    record { fits = omega (arith, h, as-long (c .before .before .before .before .before .before .before .before .before .loop .inv), c .before .before .before .before .before .before .before .before .before .before .before .good .0 .1) }
 
 sub-rest : tie.Need-sub-rest Inv-loop μ-loop
 sub-rest c = search needs
 
 loop-less : tie.Need-loop-less Inv-loop μ-loop
-loop-less c =
-    let r = c .before .before .before .before .before .before .before .before .before .before .loop .rest in
-    omega (arith, and-le-r r (r - 1))
+loop-less c = falls _ (omega arith)
 
 loop-again : tie.Need-loop-again Inv-loop μ-loop
 loop-again c =
     rw (c .wrapping-add-u16 .ensures, c .before .before .before .put-record .ensures, c .before .before .before .before .before .code-at2 .ensures, c .before .before .before .before .before .before .code-at .ensures, c .before .before .before .before .before .before .before .before .lowest .ensures .0)
-    (put-one _ _ _ _ _ _ _ _ (c .before .before .before .before .before .before .before .before .before .before .loop .inv) (omega arith))
+    (put-one (c .before .before .before .before .before .before .before .before .before .before .loop .inv) (omega arith))
 
 same-length : tie.Need-same-length Inv-loop μ-loop
-same-length c = as-long _ _ _ _ _ _ _ _ (c .before .loop .inv)
+same-length c = as-long (c .before .loop .inv)
 
 returns : tie.Need-returns Inv-loop μ-loop
 returns c =
     let v = c .before .loop .inv in
-    let e = finished _ _ _ _ _ _ _ _ v (omega arith) in
+    let e = finished v (omega arith) in
     (rw (← e) (v .place), rw (← e) (v .wrote))
 
 pub put-scan-spec : {M : Type 1} → statement M

@@ -1,16 +1,15 @@
 -- `planes::set_firsts` meets its contract. The loop's invariant: the effects in the word below some m have their first-outs, and the word holds those from m on.
 use mathlib.Core.Path.{refl, sym, _∙_}
 use mathlib.Core.List.{_++_}
-use Prim.Native.Nat.{_-_}
 use native.Mathlib.Omega.{arith}
 use borrow.Author.Needs.{needs}
 use denote.Ref.{now}
-use lib.Bits.{bitXor, and-le-r}
+use lib.Bits.{bitXor}
 use lib.ListN.{drop}
 use Rattle.bits.specs.Lists.{tabulate}
 use Rattle.bits.proofs.Words.{bit-xor}
 use Rattle.planes.specs.Table.{firstBy}
-use Rattle.planes.proofs.Bits.{Done, started, ended}
+use Rattle.planes.proofs.Bits.{falls, Done, started, ended}
 use Rattle.planes.proofs.Rest.{stored, new-first, firsts-rest}
 use Rattle.planes.proofs.set_firsts.Statement.{statement}
 use Rattle.planes.proofs.set_firsts.Tie as tie
@@ -26,12 +25,10 @@ loop-holds : tie.Need-loop-holds Inv-loop μ-loop
 unfolding tabulate
 loop-holds c =
     let a = c .args in
-    started _ _ _ (firsts-rest (a .count) (now (a .firsts)) (now (a .causes)) (a .tripped) (a .was) (a .is) (c .pre .0) (c .pre .1) (c .pre .2) (c .pre .3)) refl
+    started (firsts-rest (a .count) (now (a .firsts)) (now (a .causes)) (a .tripped) (a .was) (a .is) (c .pre .0) (c .pre .1) (c .pre .2) (c .pre .3)) refl
 
 loop-less : tie.Need-loop-less Inv-loop μ-loop
-loop-less c =
-    let r = c .before .before .before .before .before .loop .rest in
-    omega (arith, and-le-r r (r - 1))
+loop-less c = falls _ (omega arith)
 
 loop-again : tie.Need-loop-again Inv-loop μ-loop
 loop-again c =
@@ -43,7 +40,7 @@ loop-again c =
     (λ b e. rw (c .pick16 .ensures, c .before .bit .ensures, low) (new-first _ _ _ _ (sym (bit-xor (a .was) (a .is) _) ∙ b))))
 
 returns : tie.Need-returns Inv-loop μ-loop
-returns c = ended _ _ _ (c .before .loop .inv) (omega arith)
+returns c = ended (c .before .loop .inv) (omega arith)
 
 pub set-firsts-spec : {M : Type 1} → statement M
 set-firsts-spec =

@@ -23,7 +23,7 @@ loop-holds : tie.Need-loop-holds Inv-loop μ-loop
 loop-holds c =
     let a = c .before .before in
     let g = a .args in
-    rw (c .begin .ensures) (starts _ (a .pre .0) _ _ _ _ (a .pre .2) (a .pre .3) _ _ (boardAt (g .from) (now (g .timers)) (now (g .firsts))) _ _ (a .pre .5) (omega (arith, a .good)) (a .pre .1) (a .pre .4) (omega arith))
+    rw (c .begin .ensures) (starts _ _ _ _ _ _ _ (boardAt (g .from) (now (g .timers)) (now (g .firsts))) _ _ (a .pre .0) (a .pre .2) (a .pre .3) (a .pre .5) (omega (arith, a .good)) (a .pre .1) (a .pre .4) (omega arith))
 
 sub-fuel : tie.Need-sub-fuel Inv-loop μ-loop
 sub-fuel c = omega (arith, c .before .loop .inv .going .fuelled (c .loop-test .taken))
@@ -33,14 +33,14 @@ scan-requires c κs =
     let a = c .before .before .before .before .before .before .before in
     let h = c .before .before .before .before .loop .inv in
     let v = c .before .before .before .loop-test .taken in
-    (a .pre .0, omega (arith, done-fits _ (a .pre .0) _ _ _ _ (a .pre .2) (a .pre .3) _ _ _ _ h, v), omega (arith, live-fits _ (a .pre .0) _ _ _ _ (a .pre .2) (a .pre .3) _ _ _ _ h, v), h .settled, within _ (a .pre .0) _ _ _ _ (a .pre .2) (a .pre .3) _ _ _ _ h, within-then _ (a .pre .0) _ _ _ _ (a .pre .2) (a .pre .3) _ _ _ _ h, fits _ (a .pre .0) _ _ _ _ (a .pre .2) (a .pre .3) _ _ _ _ h v (rw (c .before .before .before .before .before .begin .ensures) (a .pre .6)))
+    (a .pre .0, omega (arith, done-fits h, v), omega (arith, live-fits h, v), h .settled, within h, within-then h, fits h v (rw (c .before .before .before .before .before .begin .ensures) (a .pre .6)))
 
 quiets-requires : tie.Need-quiets-requires Inv-loop μ-loop
 quiets-requires c κs =
     let a = c .before .before .before .before .before .before .before .before .before .before .before .before .before in
     let h = c .before .before .before .before .before .before .before .before .before .before .loop .inv in
-    let v = within-scanned _ _ _ _ _ (c .before .before .before .before .before .scan .ensures .0) (within-then _ (a .pre .0) _ _ _ _ (a .pre .2) (a .pre .3) _ _ _ _ h) in
-    (a .pre .0, omega (arith, live-fits _ (a .pre .0) _ _ _ _ (a .pre .2) (a .pre .3) _ _ _ _ h), a .pre .2, a .pre .3, v .0)
+    let v = within-scanned _ _ _ _ _ (c .before .before .before .before .before .scan .ensures .0) (within-then h) in
+    (a .pre .0, omega (arith, live-fits h), a .pre .2, a .pre .3, v .0)
 
 -- the scans that are skipped are some of those left
 few : (c : tie.After-quiets Inv-loop μ-loop) → c .quiets .result ≤ c .before .before .before .before .before .before .before .before .before .before .before .loop .left - 1
@@ -51,16 +51,15 @@ timers-later-requires c κs =
     let a = c .before .before .before .before .before .before .before .before .before .before .before .before .before .before .before in
     let h = c .before .before .before .before .before .before .before .before .before .before .before .before .loop .inv in
     let e = c .before .before .before .before .before .before .before .scan .ensures .0 in
-    let v = within-scanned _ _ _ _ _ e (within-then _ (a .pre .0) _ _ _ _ (a .pre .2) (a .pre .3) _ _ _ _ h) in
-    (a .pre .0, omega (arith, few (c .before), live-fits _ (a .pre .0) _ _ _ _ (a .pre .2) (a .pre .3) _ _ _ _ h), a .pre .3, v .0, still-scanned _ _ _ _ _ _ _ _ _ _ e)
+    let v = within-scanned _ _ _ _ _ e (within-then h) in
+    (a .pre .0, omega (arith, few (c .before), live-fits h), a .pre .3, v .0, still-scanned _ _ _ _ _ _ _ _ _ _ e)
 
 later-requires : tie.Need-later-requires Inv-loop μ-loop
 unfolding scanned
 later-requires c κs =
-    let a = c .before .before .before .before .before .before .before .before .before .before .before .before .before .before .before .before in
     let l = c .before .before .before .before .before .before .before .before .before .before .before .before .before .loop in
     let e : c .before .before .before .before .before .before .before .before .scan .result .done ≡ l .x .done + 1 = ap (λ (b : Board). b .done) (c .before .before .before .before .before .before .before .before .scan .ensures .0) in
-    omega (arith, few (c .before .before), e, c .before .before .before .before .before .before .before .before .before .before .before .before .loop-test .taken, done-fits _ (a .pre .0) _ _ _ _ (a .pre .2) (a .pre .3) _ _ _ _ (l .inv))
+    omega (arith, few (c .before .before), e, c .before .before .before .before .before .before .before .before .before .before .before .before .loop-test .taken, done-fits (l .inv))
 
 sub-left : tie.Need-sub-left Inv-loop μ-loop
 sub-left c = omega (arith, few (c .before .before .before))
@@ -70,20 +69,16 @@ loop-less c = omega (arith, c .before .before .before .before .before .before .b
 
 loop-again : tie.Need-loop-again Inv-loop μ-loop
 loop-again c =
-    let a = c .before .before .before .before .before .before .before .before .before .before .before .before .before .before .before .before .before in
     let y = c .before .before .before .before .before .before .before .before .before .scan in
-    turned _ (a .pre .0) _ _ _ _ (a .pre .2) (a .pre .3) _ _ _ _ (c .before .before .before .before .before .before .before .before .before .before .before .before .before .before .loop .inv) (c .before .before .before .before .before .before .before .before .before .before .before .before .before .loop-test .taken)
+    turned (c .before .before .before .before .before .before .before .before .before .before .before .before .before .before .loop .inv) (c .before .before .before .before .before .before .before .before .before .before .before .before .before .loop-test .taken)
     (y .ensures .0) (y .ensures .1) (c .before .before .before .before .before .before .unset .ensures) (c .before .before .before .quiets .ensures) (skipped-is _ _ _ _ _ _ _ _ (c .later .ensures) (c .before .timers-later .ensures))
 
 same-length : tie.Need-same-length Inv-loop μ-loop
-same-length c =
-    let a = c .before .before .before .before in
-    as-long _ (a .pre .0) _ _ _ _ (a .pre .2) (a .pre .3) _ _ _ _ (c .before .loop .inv)
+same-length c = as-long (c .before .loop .inv)
 
 returns : tie.Need-returns Inv-loop μ-loop
 returns c =
-    let a = c .before .before .before .before in
-    let h = ended _ (a .pre .0) _ _ _ _ (a .pre .2) (a .pre .3) _ _ _ _ (c .before .loop .inv) (omega arith) in
+    let h = ended (c .before .loop .inv) (omega arith) in
     rw (c .before .before .begin .ensures) at h
 
 pub stroke-spec : {M : Type 1} → statement M

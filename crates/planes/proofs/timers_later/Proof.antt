@@ -6,10 +6,9 @@ use native.Mathlib.Nat.{mul-le-mul}
 use native.Mathlib.Omega.{arith}
 use borrow.Author.Needs.{needs}
 use denote.Ref.{now}
-use lib.Bits.{and-le-r}
 use lib.ListN.{drop, getD}
 use Rattle.bits.specs.Lists.{tabulate}
-use Rattle.planes.proofs.Bits.{Done, started, ended}
+use Rattle.planes.proofs.Bits.{falls, Done, started, ended}
 use Rattle.planes.proofs.Rest.{stored, later-none, later-rest}
 use Rattle.planes.proofs.timers_later.Statement.{statement}
 use Rattle.planes.proofs.timers_later.Tie as tie
@@ -35,12 +34,10 @@ unfolding tabulate
 loop-holds c =
     let s = c .before in
     let a = s .args in
-    started _ _ _ (later-rest (a .count) (a .k) (a .period) (a .delayed) (now (a .timers)) (s .pre .0) (s .pre .3) (s .pre .4)) refl
+    started (later-rest (a .count) (a .k) (a .period) (a .delayed) (now (a .timers)) (s .pre .0) (s .pre .3) (s .pre .4)) refl
 
 loop-less : tie.Need-loop-less Inv-loop μ-loop
-loop-less c =
-    let r = c .before .before .before .before .loop .rest in
-    omega (arith, and-le-r r (r - 1))
+loop-less c = falls _ (omega arith)
 
 loop-again : tie.Need-loop-again Inv-loop μ-loop
 loop-again c =
@@ -49,7 +46,7 @@ loop-again c =
     rw low (stored _ _ _ _ (k .before .before .pre .4 .long) (k .loop .inv) (omega arith) _ (λ b e. rw (c .less .ensures, low, e)))
 
 returns-2 : tie.Need-returns-2 Inv-loop μ-loop
-returns-2 c = ended _ _ _ (c .before .loop .inv) (omega arith)
+returns-2 c = ended (c .before .loop .inv) (omega arith)
 
 pub timers-later-spec : {M : Type 1} → statement M
 timers-later-spec =

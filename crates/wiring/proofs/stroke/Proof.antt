@@ -25,14 +25,16 @@ stroke-requires c κs =
     let s = c .before .before .before .before .before .before .before in
     let a = s .args in
     let from = boardAt (a .from) (now (a .timers)) (now (a .firsts)) in
+    let asked = c .before .before .before .before .asked-by .ensures in
+    let tripped = c .before .before .tripped-causes .ensures in
     let p = period-of (a .st) (a .x) (s .pre .1 .wiring) in (
       few s,
       hold-most (limitsOf (a .st)) (a .row) (s .pre .2),
       omega (arith, p, period-some (a .st) (s .pre .0)),
       omega (arith, p, period-most (a .st) (s .pre .0)),
       s .pre .3,
-      right-words (a .st) (s .pre .0) (a .row) (s .pre .2) (a .x) _ _ (s .pre .1) _ (c .before .before .before .before .asked-by .ensures) _ (c .before .before .tripped-causes .ensures) from (s .pre .4),
-      rw (held-is (a .st) (s .pre .0) (a .row) (s .pre .2) (a .x) _ _ (s .pre .1) _ (c .before .before .before .before .asked-by .ensures) _ (c .before .before .tripped-causes .ensures) from) (s .pre .5),
+      right-words (s .pre .0) (a .row) (s .pre .2) (s .pre .1) asked tripped from (s .pre .4),
+      rw (held-is (s .pre .0) (a .row) (s .pre .2) (s .pre .1) asked tripped from) (s .pre .5),
     )
 
 returns : tie.Need-returns
@@ -43,8 +45,8 @@ returns c =
     let asked = c .before .before .before .before .before .before .before .before .before .before .before .before .asked-by .ensures in
     let tripped = c .before .before .before .before .before .before .before .before .before .before .tripped-causes .ensures in
     let e = c .before .before .before .before .before .before .before .stroke .ensures in (
-      stroked-is (a .st) (s .pre .0) (a .row) (s .pre .2) (a .x) _ _ (s .pre .1) _ asked _ tripped from _ (e .0),
-      e .1 ∙ ap (λ (r : Run). sets (now (a .buf)) 0 (bytes (r .events))) (held-is (a .st) (s .pre .0) (a .row) (s .pre .2) (a .x) _ _ (s .pre .1) _ asked _ tripped from),
+      stroked-is (s .pre .0) (a .row) (s .pre .2) (s .pre .1) asked tripped from (e .0),
+      e .1 ∙ ap (λ (r : Run). sets (now (a .buf)) 0 (bytes (r .events))) (held-is (s .pre .0) (a .row) (s .pre .2) (s .pre .1) asked tripped from),
     )
 
 pub stroke-spec : {M : Type 1} → statement M
