@@ -1,7 +1,7 @@
 -- Reading and writing undo each other: an accepted file is the encoding of what was read, and an encoding is an opening
 -- piece and its rows.
 use mathlib.Core.Path.{_≡_, refl, _∙_}
-use mathlib.Core.List.{List, _++_, append-assoc}
+use mathlib.Core.List.{List, _++_, append-assoc, flatMap}
 use mathlib.Core.Logic.{inl, inr}
 use Prim.Native.Nat.{ℕ, _+_, _*_}
 use native.Mathlib.Omega.{arith}
@@ -14,7 +14,7 @@ use Rattle.settings.specs.Right.{limitsOf}
 use Rattle.recording.specs.declared.Answer.the-variants as A
 use Rattle.recording.specs.declared.Reading.{Reading}
 use Rattle.recording.specs.declared.Kind.the-variants.{Block, Effects, Rows}
-use Rattle.recording.specs.Entries.{rowAt, putRow, putAll}
+use Rattle.recording.specs.Entries.{rowAt, putRow}
 use Rattle.recording.specs.Reader.{noLimits, blockLimits, settingsAt, reading}
 use Rattle.recording.specs.Answers.{number, rowCount, firstRow, rowWidth}
 use Rattle.recording.specs.Steps.{rowsIn, rowsOf}
@@ -71,6 +71,6 @@ length-rowsOf s = let a = reading s .answer in length-listOf (rowAt s) (rowWidth
 
 -- ## The pieces of an encoding
 
-pub in-pieces : (st : Settings) (rows : List Row) → encode st rows ≡ opening st (length rows) ++ putAll putRow rows
-unfolding encode opening
+pub in-pieces : (st : Settings) (rows : List Row) → encode st rows ≡ opening st (length rows) ++ flatMap putRow rows
+unfolding flatMap encode opening
 in-pieces st rows = simp append-assoc

@@ -1,6 +1,6 @@
 -- `block::State::held` meets its contract: the run's records, laid apart, are those of the definitions, so they fit or do not,
 -- and the cases of the answer are those of the code.
-use mathlib.Core.Path.{_≡_, refl, ap, sym, _∙_}
+use mathlib.Core.Path.{_≡_, ap, sym, _∙_}
 use Prim.Native.Nat.{_*_, _≤_}
 use native.Mathlib.Omega.{arith}
 use borrow.Author.Needs.{needs}
