@@ -1,7 +1,7 @@
 -- The bytes that answer a scan, and hexadecimal digits. second/README.md lays the answers out.
 use Prim.Native.Nat.{ℕ, _+_, _/_, _%_}
 use mathlib.Core.Bool.{cond}
-use mathlib.Core.List.{List, [], _∷_, _++_}
+use mathlib.Core.List.{List, [], _∷_, _++_, flatMap}
 use lib.Dec.{ltb}
 use Rattle.bits.specs.Layout.{pack}
 use Rattle.rules.specs.declared.Slot.{Slot}
@@ -9,18 +9,13 @@ use Rattle.rules.specs.Rules.{code}
 use Rattle.block.specs.declared.State.{State}
 use Rattle.block.specs.declared.Scanned.{Scanned}
 
--- what f gives for each element, one after the other
-abbrev pub joined : {A : Type 0} → (A → List ℕ) → List A → List ℕ
-joined f [] = []
-joined f (x ∷ xs) = f x ++ joined f xs
-
 -- state code 1, timer 4, first-out 2
 unfoldable pub slotBytes : Slot → List ℕ
 slotBytes x = pack (1 ∷ 4 ∷ 2 ∷ []) (code (x .state) ∷ x .timer ∷ x .first ∷ [])
 
 -- scans done 4, next sequence number 2, and the slots
 unfoldable pub stateBytes : State → List ℕ
-stateBytes x = pack (4 ∷ 2 ∷ []) (x .done ∷ x .next ∷ []) ++ joined slotBytes (x .slots)
+stateBytes x = pack (4 ∷ 2 ∷ []) (x .done ∷ x .next ∷ []) ++ flatMap slotBytes (x .slots)
 
 -- number 1, place 4, state, effect word 2, latent word 2, number of records 2
 unfoldable pub answerBytes : Scanned → List ℕ
@@ -37,4 +32,4 @@ hexByte b = hexDigit (b / 16) ∷ hexDigit (b % 16) ∷ []
 
 -- the digits of a, a space, and those of b
 unfoldable pub pairBytes : List ℕ → List ℕ → List ℕ
-pairBytes a b = joined hexByte a ++ 32 ∷ joined hexByte b
+pairBytes a b = flatMap hexByte a ++ 32 ∷ flatMap hexByte b

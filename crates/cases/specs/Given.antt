@@ -1,21 +1,16 @@
--- What a case gives: settings, a state and words, at their places in its bytes, and the lent buffer. Numbers are
--- big-endian; second/README.md lays the streams out.
+-- What a case gives: settings and a state, at their places in its bytes, and the lent buffer; words are as in a recording. Numbers
+-- are big-endian; second/README.md lays the streams out.
 use Prim.Native.Nat.{ℕ, _+_, _*_, _%_}
 use mathlib.Core.List.{List}
 use Rattle.bits.specs.Lists.{tabulate}
 use Rattle.bits.specs.Numbers.{numAt}
 use Rattle.rules.specs.declared.Slot.{Slot}
 use Rattle.rules.specs.Rules.{stateOf}
-use Rattle.settings.specs.declared.Effect.{Effect}
 use Rattle.settings.specs.declared.Settings.{Settings}
-use Rattle.settings.specs.declared.Words.{Words}
 use Rattle.block.specs.declared.State.{State}
+use Rattle.recording.specs.Entries.{effectAt, listOf}
 
--- effect i of those that stand from `at` on: association 2, delay 4
-unfoldable pub effectAt : List ℕ → ℕ → ℕ → Effect
-effectAt s at i = record { association = numAt 2 s (at + 6 * i); delay = numAt 4 s (at + 6 * i + 2) }
-
--- cause count 1, options 1, period 2, effect count 1, and sixteen effects
+-- cause count 1, options 1, period 2, effect count 1, and sixteen effects as in a recording
 unfoldable pub settingsAt : List ℕ → ℕ → Settings
 settingsAt s at =
     record {
@@ -23,23 +18,7 @@ settingsAt s at =
       options = numAt 1 s (at + 1);
       period = numAt 2 s (at + 2);
       count = numAt 1 s (at + 4);
-      effects = tabulate (effectAt s (at + 5)) 16;
-    }
-
--- ten words of 2
-unfoldable pub wordsAt : List ℕ → ℕ → Words
-wordsAt s at =
-    record {
-      values = numAt 2 s at;
-      bad = numAt 2 s (at + 2);
-      mask = numAt 2 s (at + 4);
-      «require_reset» = numAt 2 s (at + 6);
-      «reset_permit» = numAt 2 s (at + 8);
-      «start_permit» = numAt 2 s (at + 10);
-      reset = numAt 2 s (at + 12);
-      «force_permit» = numAt 2 s (at + 14);
-      «force_trip» = numAt 2 s (at + 16);
-      «force_normal» = numAt 2 s (at + 18);
+      effects = listOf (effectAt s) 6 16 (at + 5);
     }
 
 -- slot i of those that stand from `at` on: state code 1, timer 4, first-out 2. No stream has a code above 5

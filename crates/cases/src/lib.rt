@@ -1,87 +1,37 @@
-// What the programs that answer streams of cases share: settings, a state and words read from the bytes of a case, the
-// bytes of an answer, the filling of a lent buffer, and lines of hexadecimal digits. second/README.md lays the streams out. It rests
-// on `block` and what that rests on, and on the kit's `io` and `libc`; no promise rests on it. All but the streams may change.
+// What the programs that answer streams of cases share: settings and a state read from the bytes of a case, the bytes of
+// an answer, the filling of a lent buffer, and lines of hexadecimal digits. second/README.md lays the streams out. It rests on
+// `block`, `recording` (for effects) and what these rest on, and on the kit's `io` and `libc`; no promise rests on it. All but the
+// streams may change.
 ghost use mathlib.Core.Path.{_≡_};
-ghost use mathlib.Core.List.{[], _∷_, _++_};
+ghost use mathlib.Core.List.{[], _∷_, _++_, flatMap};
 ghost use Prim.Native.Nat.{_+_, _*_, _%_, _<_, _≤_, min};
 ghost use lib.ListN.{length};
 ghost use lib.Seq.{sets};
 ghost use Rattle.bits.specs.Layout.{pack};
 ghost use Rattle.bits.specs.Lists.{tabulate};
 ghost use Rattle.bits.specs.Numbers.{numAt, digits};
-ghost use Rattle.cases.specs.Given.{effectAt, settingsAt, wordsAt, slotAt, stateAt, fillAt};
-ghost use Rattle.cases.specs.Answers.{joined, slotBytes, stateBytes, answerBytes, hexDigit, hexByte, pairBytes};
+ghost use Rattle.cases.specs.Given.{settingsAt, slotAt, stateAt, fillAt};
+ghost use Rattle.cases.specs.Answers.{slotBytes, stateBytes, answerBytes, hexDigit, hexByte, pairBytes};
 use block::Scanned;
 use block::State;
 use rules::EffectState;
 use rules::Slot;
-use settings::Effect;
 use settings::Settings;
-use settings::Words;
 
 // ---- settings: 101 bytes
-
-// Effect i of those that stand from `at` on.
-fn effect_at(s: &[u8], at: usize, i: usize) -> Effect
-    requires { ⌜ (i < 16) × (at + 96 ≤ length (now s)) ⌝ }
-    ensures { λ r. ⌜ r ≡ effectAt (now (s .entry)) at i ⌝ }
-{
-    Effect {
-        association: bits::get16(s, at + 6 * i),
-        delay: bits::get32(s, at + 6 * i + 2),
-    }
-}
-
-fn effects_at(s: &[u8], at: usize) -> [Effect; 16]
-    requires { ⌜ at + 96 ≤ length (now s) ⌝ }
-    ensures { λ r. ⌜ r ≡ tabulate (effectAt (now (s .entry)) at) 16 ⌝ }
-{
-    let none = Effect {
-        association: 0,
-        delay: 0,
-    };
-    let mut effects = [none; 16];
-    let mut i: usize = 0;
-    while i < 16 {
-        effects[i] = effect_at(s, at, i);
-        i += 1;
-    }
-    effects
-}
 
 // The settings that stand at `at`.
 pub fn settings_at(s: &[u8], at: usize) -> Settings
     requires { ⌜ at + 101 ≤ length (now s) ⌝ }
     ensures { λ r. ⌜ r ≡ settingsAt (now (s .entry)) at ⌝ }
 {
-    let effects = effects_at(s, at + 5);
+    let effects = recording::effects_at(s, at + 5, 16);
     Settings {
         causes: bits::get8(s, at),
         options: bits::get8(s, at + 1),
         period: bits::get16(s, at + 2),
         count: bits::get8(s, at + 4),
         effects: effects,
-    }
-}
-
-// ---- words: 20 bytes
-
-// The ten words that stand at `at`.
-pub fn words_at(s: &[u8], at: usize) -> Words
-    requires { ⌜ at + 20 ≤ length (now s) ⌝ }
-    ensures { λ r. ⌜ r ≡ wordsAt (now (s .entry)) at ⌝ }
-{
-    Words {
-        values: bits::get16(s, at),
-        bad: bits::get16(s, at + 2),
-        mask: bits::get16(s, at + 4),
-        require_reset: bits::get16(s, at + 6),
-        reset_permit: bits::get16(s, at + 8),
-        start_permit: bits::get16(s, at + 10),
-        reset: bits::get16(s, at + 12),
-        force_permit: bits::get16(s, at + 14),
-        force_trip: bits::get16(s, at + 16),
-        force_normal: bits::get16(s, at + 18),
     }
 }
 
@@ -173,8 +123,8 @@ fn put_slot(out: &mut [u8], at: usize, x: Slot)
 // The slots; with the number of their bytes, so that a caller need not show it. So does put_state.
 fn put_slots(out: &mut [u8], at: usize, xs: [Slot; 16])
     requires { ⌜ at + 112 ≤ length (now out) ⌝ }
-    ensures { λ _. ⌜ now (out .exit) ≡ sets (now (out .entry)) at (joined slotBytes xs) ⌝ }
-    ensures { λ _. ⌜ length (joined slotBytes xs) ≡ 112 ⌝ }
+    ensures { λ _. ⌜ now (out .exit) ≡ sets (now (out .entry)) at (flatMap slotBytes xs) ⌝ }
+    ensures { λ _. ⌜ length (flatMap slotBytes xs) ≡ 112 ⌝ }
 {
     let mut i: usize = 0;
     while i < 16 {
@@ -243,7 +193,7 @@ fn put_hex_byte(out: &mut [u8], at: usize, b: u8)
 // Writes the digits of `src` at `at`, two for each byte; all else stays.
 pub fn put_hex(src: &[u8], out: &mut [u8], at: usize)
     requires { ⌜ at + 2 * length (now src) ≤ length (now out) ⌝ }
-    ensures { λ _. ⌜ now (out .exit) ≡ sets (now (out .entry)) at (joined hexByte (now (src .entry))) ⌝ }
+    ensures { λ _. ⌜ now (out .exit) ≡ sets (now (out .entry)) at (flatMap hexByte (now (src .entry))) ⌝ }
 {
     let mut i: usize = 0;
     while i < src.len() {

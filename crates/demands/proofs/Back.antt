@@ -1,6 +1,6 @@
 -- Writing what was read gives the same bytes, whatever the lent buffers held.
 use mathlib.Core.Path.{_≡_, refl, ap₂, _∙_}
-use mathlib.Core.List.{List, [], _∷_, _++_, append-nil}
+use mathlib.Core.List.{List, [], _∷_, _++_, append-nil, flatMap}
 use Prim.Native.Nat.{ℕ}
 use native.Mathlib.Omega.{arith}
 use borrow.Author.Tests.{le-leb}
@@ -9,7 +9,7 @@ use lib.Seq.{drop-length}
 use Rattle.bits.specs.Numbers.{Bytes}
 use Rattle.settings.specs.declared.Row.{Row}
 use Rattle.settings.specs.declared.Settings.{Settings}
-use Rattle.recording.specs.Entries.{putRow, putAll}
+use Rattle.recording.specs.Entries.{putRow}
 use Rattle.recording.specs.Reader.{reading}
 use Rattle.recording.specs.Answers.{rowCount}
 use Rattle.recording.specs.Steps.{rowsOf}
@@ -26,7 +26,8 @@ filled n piece out z e =
     rw (z, le-leb (length piece) (length out) (omega arith), none) (append-nil piece)
 
 module _ (lent : ℕ → List ℕ) (sized : (n : ℕ) → length (lent n) ≡ n) where
-  rows-back : (st : Settings) (rows : List Row) → All (rowPieceNumber st) rows → putAll (λ row. rowAfter st row (lent (length (putRow row)))) rows ≡ putAll putRow rows
+  rows-back : (st : Settings) (rows : List Row) → All (rowPieceNumber st) rows → flatMap (λ row. rowAfter st row (lent (length (putRow row)))) rows ≡ flatMap putRow rows
+  unfolding flatMap
   rows-back st [] h = refl
   rows-back st (row ∷ rows) h =
       ap₂ (λ (a b : List ℕ). a ++ b) (filled (rowPieceNumber st row) (putRow row) (lent (length (putRow row))) (h .0) (sized (length (putRow row)))) (rows-back st rows (h .1))

@@ -21,6 +21,8 @@ use Rattle.bits.proofs.put_decimal.Reads as bits·put-decimal
 use Rattle.effects.proofs.event_at.Reads as effects·event-at
 use Rattle.effects.proofs.put_record.Reads as effects·put-record
 use Rattle.recording.proofs.row_at.Reads as recording·row-at
+use Rattle.recording.proofs.words_at.Reads as recording·words-at
+use Rattle.recording.proofs.effects_at.Reads as recording·effects-at
 use Rattle.recording.proofs.entries_of.Reads as recording·entries-of
 use Rattle.recording.proofs.width_of.Reads as recording·width-of
 use Rattle.recording.proofs.number_of.Reads as recording·number-of
@@ -121,10 +123,16 @@ effects-event-at κs = by-equation (effects·event-at.Learnt κs) _ (λ a r e h.
 pub effects-put-record : (κs : Lfts 1) → Unique (effects·put-record.Learnt κs) (λ e. now (e .0))
 effects-put-record κs = by-equations (effects·put-record.Learnt κs) (λ e. now (e .0)) (λ a. tt) _ (λ a r e h. (refl, h))
 
--- ## A row at a known place, and the table of sections (`recording`)
+-- ## What stands at a known place, and the table of sections (`recording`)
 
 pub recording-row-at : (κs : Lfts 1) → Unique (recording·row-at.Learnt κs) none
 recording-row-at κs = by-equation (recording·row-at.Learnt κs) _ (λ a r e h. h)
+
+pub recording-words-at : (κs : Lfts 1) → Unique (recording·words-at.Learnt κs) none
+recording-words-at κs = by-equation (recording·words-at.Learnt κs) _ (λ a r e h. h)
+
+pub recording-effects-at : (κs : Lfts 1) → Unique (recording·effects-at.Learnt κs) none
+recording-effects-at κs = by-equation (recording·effects-at.Learnt κs) _ (λ a r e h. h)
 
 pub recording-entries-of : (κs : Lfts 0) → Unique (recording·entries-of.Learnt κs) none
 recording-entries-of κs = by-equation (recording·entries-of.Learnt κs) _ (λ a r e h. h)

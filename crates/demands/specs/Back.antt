@@ -1,11 +1,11 @@
 -- Document 01's recordings, and what the writer gives for one that was read. Document 01, "Recordings".
 use Prim.Native.Nat.{ℕ}
 use mathlib.Core.Path.{_≡_}
-use mathlib.Core.List.{List, _++_}
+use mathlib.Core.List.{List, _++_, flatMap}
 use lib.ListN.{length}
 use Rattle.settings.specs.declared.Row.{Row}
 use Rattle.settings.specs.declared.Settings.{Settings}
-use Rattle.recording.specs.Entries.{putRow, putAll}
+use Rattle.recording.specs.Entries.{putRow}
 use Rattle.recording.specs.Reader.{reading}
 use Rattle.recording.specs.Answers.{rowCount}
 use Rattle.recording.specs.Steps.{rowsOf}
@@ -21,4 +21,4 @@ abbrev pub writtenBack : (lent : ℕ → List ℕ) → List ℕ → List ℕ
 writtenBack lent s =
     let st = reading s .settings in
     let n = rowCount (reading s .answer) in
-    openingAfter st n (lent (length (opening st n))) ++ putAll (λ row. rowAfter st row (lent (length (putRow row)))) (rowsOf s)
+    openingAfter st n (lent (length (opening st n))) ++ flatMap (λ row. rowAfter st row (lent (length (putRow row)))) (rowsOf s)

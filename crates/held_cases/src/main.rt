@@ -11,7 +11,7 @@ fn run(case: &[u8; 245], buf: &mut [u8]) -> Held {
     let st = cases::settings_at(case, 0);
     let x = cases::state_at(case, 101);
     let hold = bits::get32(case, 219);
-    let words = cases::words_at(case, 223);
+    let words = recording::words_at(case, 223);
     cases::fill(buf);
     x.held(st, Row { hold, words }, buf)
 }

@@ -6,8 +6,8 @@ use mathlib.Core.List.{List}
 use Prim.Native.Nat.{ℕ, zero, suc, _+_, _*_, _-_, _/_, _%_, _^_, _≤_, _<_}
 use native.Mathlib.Nat.{add-assoc, div-eq-of-lt, mod-lt, zero-mul, zero-add, add-zero}
 use native.Mathlib.Omega.{arith}
-use borrow.Author.Tests.{ltb-true, ltb-false, leb-true, leb-false, lt-ltb, le-ltb, le-leb, lt-leb, eq-eqb, ne-eqb}
-use lib.Bits.{bitAnd, bitOr, and-block, and-high, and-zero-r, and-le-l, and-le-r, or-zero-l, or-add-and}
+use borrow.Author.Tests.{ltb-true, ltb-false, leb-true, leb-false, lt-ltb, le-ltb, ne-eqb}
+use lib.Bits.{bitAnd, bitOr, and-block, and-high, and-zero-r, and-le-r, or-zero-l, or-add-and}
 use lib.Count.{ones, ones-cat}
 use lib.Dec.{eqb, eqb·suc-zero, leb, ltb}
 use lib.Arith.{digits-div}
@@ -175,12 +175,12 @@ module _ (k : Limits) (s : List ℕ) (at : ℕ) (bytes : Bytes s) where
       four-words 16 (absentOf (k .count)) (absentOf 1) (absentOf (k .count)) (absentOf (k .count)) (absent-lt 1) e-lt e-lt
       ∙ rw (none-absent (word 16) (k .count) (word-lt 16), none-absent (word 18) 1 (word-lt 18), below-two (word 18), none-absent (word 20) (k .count) (word-lt 20), none-absent (word 22) (k .count) (word-lt 22))
 
-  words-are : eqb (bitOr (bitOr first second) third) 0 ≡ wordsOk k (wordsAt s at)
+  words-are : eqb (bitOr (bitOr first second) third) 0 ≡ wordsOk k (wordsAt s (at + 4))
   unfolding wordsAt
   words-are =
       or-none (bitOr first second) third
       ∙ ap₂ _&&_ (or-none first second ∙ ap₂ _&&_ first-words second-words) third-words
-      ∙ simp and-assoc
+      ∙ simp (and-assoc, add-assoc)
 
   hold-is : numAt 8 s (at + 0) / 2 ^ 32 ≡ numAt 4 s at
   hold-is = rw add-zero (ap (λ (x : ℕ). x / 2 ^ 32) (num-parts 4 4 s at) ∙ digits-div (numAt 4 s at) (num-lt 4 s (at + 4) bytes))
@@ -188,18 +188,23 @@ module _ (k : Limits) (s : List ℕ) (at : ℕ) (bytes : Bytes s) where
   last-words : (numAt 8 s (at + 16) / 65536 % 65536 ≡ word 20) × (numAt 8 s (at + 16) % 65536 ≡ word 22) × (numAt 8 s (at + 16) % 2 ^ 32 ≡ word 20 * 65536 + word 22)
   last-words = last-two (word 16) (word 18) (word 20) (word 22) _ (word-lt 20) (word-lt 22) (eight s at 16)
 
-  several-is : (barsOf k .several || leb (ones (numAt 8 s (at + 16) % 2 ^ 32)) 1) ≡ (bitOf (k .options) 2 || not (several (wordsAt s at)))
+  several-is : (barsOf k .several || leb (ones (numAt 8 s (at + 16) % 2 ^ 32)) 1) ≡ (bitOf (k .options) 2 || not (several (wordsAt s (at + 4))))
   unfolding barsOf wordsAt
   several-is =
-      ap (λ (b : Bool). bitOf (k .options) 2 || b)
-      (ap (λ (x : ℕ). leb x 1) (ap ones (last-words .2) ∙ ones-cat 16 (word 20) (word 22) (word-lt 22)) ∙ sym (one-at-most (ones (word 20) + ones (word 22))))
+      rw (add-assoc at 4 16, add-assoc at 4 18)
+      (ap (λ (b : Bool). bitOf (k .options) 2 || b)
+      (ap (λ (x : ℕ). leb x 1) (ap ones (last-words .2) ∙ ones-cat 16 (word 20) (word 22) (word-lt 22)) ∙ sym (one-at-most (ones (word 20) + ones (word 22)))))
+
+  apart-is : eqb (bitAnd (numAt 8 s (at + 16) / 65536 % 65536) (numAt 8 s (at + 16) % 65536)) 0 ≡ apart (wordsAt s (at + 4))
+  unfolding wordsAt
+  apart-is = rw (add-assoc at 4 16, add-assoc at 4 18) (ap₂ (λ (x y : ℕ). eqb (bitAnd x y) 0) (last-words .0) (last-words .1))
 
   row-is : quick (barsOf k) (numAt 8 s (at + 0)) (numAt 8 s (at + 8)) (numAt 8 s (at + 16)) ≡ eqb (rowNumber k (rowAt s at)) 0
-  unfolding rowNumber wordsNumber rowAt wordsAt
+  unfolding rowNumber wordsNumber rowAt
   row-is =
       ap₂ _&&_ (ap₂ _&&_ (ap (λ (x : ℕ). leb 1 x && leb x mostHold) hold-is) words-are)
-      (ap₂ _&&_ (ap₂ (λ (x y : ℕ). eqb (bitAnd x y) 0) (last-words .0) (last-words .1)) several-is)
-      ∙ sym (no-number (leb 1 (numAt 4 s at) && leb (numAt 4 s at) mostHold) (wordsOk k (wordsAt s at)) (apart (wordsAt s at)) (bitOf (k .options) 2 || not (several (wordsAt s at))))
+      (ap₂ _&&_ apart-is several-is)
+      ∙ sym (no-number (leb 1 (numAt 4 s at) && leb (numAt 4 s at) mostHold) (wordsOk k (wordsAt s (at + 4))) (apart (wordsAt s (at + 4))) (bitOf (k .options) 2 || not (several (wordsAt s (at + 4)))))
 
   pub quick-is-number : (bars : Bars) (f g t : ℕ) → bars ≡ barsOf k → f ≡ numAt 8 s at → g ≡ numAt 8 s (at + 8) → t ≡ numAt 8 s (at + 16)
       → quick bars f g t ≡ eqb (rowNumber k (rowAt s at)) 0

@@ -1,6 +1,6 @@
 -- Sections of entries that are written and read back, for any kind of entry: by recursion on the list of entries.
 use mathlib.Core.Path.{_≡_, refl, sym, ap, ap₂, _∙_, subst}
-use mathlib.Core.List.{List, [], _∷_, _++_, append-assoc}
+use mathlib.Core.List.{List, [], _∷_, _++_, append-assoc, flatMap}
 use Prim.Native.Nat.{ℕ, zero, suc, _+_, _-_, _*_, _≤_, _<_}
 use native.Mathlib.Nat.{add-zero, mul-suc, mul-zero}
 use native.Mathlib.Omega.{arith}
@@ -8,9 +8,9 @@ use lib.ListN.{length, take, drop, length-append}
 use lib.Seq.{take-add, drop-drop}
 use Rattle.bits.specs.Numbers.{Bytes, numAt, digits}
 use Rattle.bits.proofs.Numbers.{length-digits, digits-num, num-digits}
-use Rattle.recording.specs.Entries.{listOf, putAll}
+use Rattle.recording.specs.Entries.{listOf}
 use Rattle.recording.specs.Encode.{counted, All}
-use Rattle.recording.proofs.Lists.{length-listOf, length-putAll}
+use Rattle.recording.proofs.Lists.{length-listOf, length-flatMap}
 use Rattle.recording.proofs.Sections.{Passed, Whole}
 
 -- an entry is read at a place, written as w bytes, and checked: 0 for right
@@ -22,12 +22,13 @@ pub record Codec (A : Type 0) (w : ℕ) (get : List ℕ → ℕ → A) (put : A 
 module _ {A : Type 0} (w : ℕ) (get : List ℕ → ℕ → A) (put : A → List ℕ) (check : A → ℕ) (C : Codec A w get put check) where
   pub length-counted : (xs : List A) → length (counted put xs) ≡ 2 + w * length xs
   length-counted xs =
-      length-append (digits 2 (length xs)) (putAll put xs)
-      ∙ omega (arith, length-digits 2 (length xs), length-putAll put w (C .width) xs)
+      length-append (digits 2 (length xs)) (flatMap put xs)
+      ∙ omega (arith, length-digits 2 (length xs), length-flatMap put w (C .width) xs)
 
   -- ## What is read is written back
 
-  put-list : (s : List ℕ) (n at : ℕ) → Bytes s → at + w * n ≤ length s → putAll put (listOf (get s) w n at) ≡ take (w * n) (drop at s)
+  put-list : (s : List ℕ) (n at : ℕ) → Bytes s → at + w * n ≤ length s → flatMap put (listOf (get s) w n at) ≡ take (w * n) (drop at s)
+  unfolding flatMap
   put-list s zero at b h = rw mul-zero
   put-list s (suc n) at b h =
       let e : w * suc n ≡ w + w * n = omega (arith, mul-suc w n) in
@@ -50,17 +51,18 @@ module _ {A : Type 0} (w : ℕ) (get : List ℕ → ℕ → A) (put : A → List
       let front : digits 2 (length (listOf (get s) w n (at + 2))) ≡ take 2 (drop at s) =
       ap (digits 2) (length-listOf (get s) w n (at + 2)) ∙ digits-num 2 s at b (h .room)
       in
-      let back : putAll put (listOf (get s) w n (at + 2)) ≡ take (w * n) (drop (at + 2) s) =
+      let back : flatMap put (listOf (get s) w n (at + 2)) ≡ take (w * n) (drop (at + 2) s) =
       put-list s n (at + 2) b (omega (arith, h .passed .next, h .passed .inside))
       in
       ap₂ (λ (x y : List ℕ). x ++ y) front back ∙ rw (m, take-add 2 (w * n) (drop at s), drop-drop 2 at s)
 
   -- ## What is written is read back
 
-  get-list : (xs : List A) (p q : List ℕ) (at : ℕ) → at ≡ length p → All check xs → listOf (get (p ++ (putAll put xs ++ q))) w (length xs) at ≡ xs
+  get-list : (xs : List A) (p q : List ℕ) (at : ℕ) → at ≡ length p → All check xs → listOf (get (p ++ (flatMap put xs ++ q))) w (length xs) at ≡ xs
+  unfolding flatMap
   get-list [] p q at e h = refl
   get-list (a ∷ xs) p q at e h =
-      let t = putAll put xs in
+      let t = flatMap put xs in
       let again : p ++ ((put a ++ t) ++ q) ≡ (p ++ put a) ++ (t ++ q) = simp append-assoc in
       let here : get (p ++ ((put a ++ t) ++ q)) at ≡ a = rw (append-assoc (put a) t q, e) (C .get-put a p (t ++ q) (h .0)) in
       let there : listOf (get (p ++ ((put a ++ t) ++ q))) w (length xs) (at + w) ≡ xs =
@@ -87,12 +89,12 @@ module _ {A : Type 0} (w : ℕ) (get : List ℕ → ℕ → A) (put : A → List
       let n = length xs in
       let s = p ++ (counted put xs ++ q) in
       let d = digits 2 n in
-      let t = putAll put xs in
+      let t = flatMap put xs in
       let s₁ : s ≡ p ++ (d ++ (t ++ q)) = ap (λ (l : List ℕ). p ++ l) (append-assoc d t q) in
       let s₂ : s ≡ (p ++ d) ++ (t ++ q) = s₁ ∙ sym (append-assoc p d (t ++ q)) in
       let len : length s ≡ length p + (2 + (w * n + length q)) =
       ap length s₁ ∙ length-append p (d ++ (t ++ q))
-      ∙ omega (arith, length-append d (t ++ q), length-append t q, length-digits 2 n, length-putAll put w (C .width) xs)
+      ∙ omega (arith, length-append d (t ++ q), length-append t q, length-digits 2 n, length-flatMap put w (C .width) xs)
       in
       let c : numAt 2 s at ≡ n = ap (λ (l : List ℕ). numAt 2 l at) s₁ ∙ num-digits 2 n p (t ++ q) at e (omega arith) in
       let l : listOf (get s) w n (at + 2) ≡ xs =

@@ -3,7 +3,7 @@ use mathlib.Core.Path.{_≡_, refl, sym, ap, _∙_}
 use mathlib.Core.Bool.{true}
 use mathlib.Core.List.{List, [], _∷_, _++_}
 use Prim.Native.Nat.{ℕ, zero, suc, _+_, _^_, _≤_, _<_}
-use native.Mathlib.Nat.{add-zero, add-suc}
+use native.Mathlib.Nat.{add-assoc, add-zero, add-suc}
 use native.Mathlib.Omega.{arith}
 use borrow.Author.Tests.{leb-true, ltb-true}
 use lib.Dec.{leb, ltb}
@@ -156,8 +156,8 @@ row-fit k known r h =
 
 pub row-front : (m : ℕ) (s : List ℕ) (at : ℕ) → at + 24 ≤ m → rowAt (take m s) at ≡ rowAt s at
 unfolding rowAt wordsAt ofRow
-row-front = layout-front rowLayout rowFields ofRow rowAt (λ a. refl) (λ s at. rw (add-zero at))
+row-front = layout-front rowLayout rowFields ofRow rowAt (λ a. refl) (λ s at. simp (add-zero, add-assoc))
 
 pub row-codec : (k : Limits) → Known k → Codec Row 24 rowAt putRow (rowNumber k)
 unfolding rowAt wordsAt ofRow putRow
-row-codec k known = of-layout rowLayout rowFields ofRow rowAt (rowNumber k) (λ a. refl) (λ a. refl) (λ s at. rw (add-zero at)) (row-fit k known)
+row-codec k known = of-layout rowLayout rowFields ofRow rowAt (rowNumber k) (λ a. refl) (λ a. refl) (λ s at. simp (add-zero, add-assoc)) (row-fit k known)

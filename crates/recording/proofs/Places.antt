@@ -20,7 +20,7 @@ use Rattle.recording.specs.Refused.{ToEnd}
 use Rattle.recording.proofs.Lists.{getD-listOf}
 use Rattle.bits.proofs.Lists.{and-left, and-right}
 use Rattle.recording.proofs.Between.{rows-whole}
-use Rattle.recording.proofs.Cases.{reading-cases}
+use Rattle.recording.proofs.Refusals.{said-or-accepted}
 
 -- ## Places, by arithmetic
 
@@ -57,11 +57,8 @@ module _ (s : List ℕ) where
 
   pub same-at-place : Same (reading s)
   same-at-place =
-      reading-cases s Same
-      (λ k p b i l. absurd (omega (arith, l)))
-      (λ e k p b f i l. absurd (omega (arith, l)))
-      (λ e r k p t g i l. absurd (omega (arith, l)))
-      (λ e r end t d i l. absurd (omega (arith, l)))
+      said-or-accepted s Same
+      (λ n p c i l. absurd (omega (arith, l)))
       (λ e r t i l. rw (place-yes (r + 2) (numAt 2 s r) (length s) i (rows-end e r t) l))
 
   -- and that is the row
@@ -70,11 +67,8 @@ module _ (s : List ℕ) where
 
   pub row-at-place : (d : Row) → There d (reading s)
   row-at-place d =
-      reading-cases s (There d)
-      (λ k p b i l. absurd (omega (arith, l)))
-      (λ e k p b f i l. absurd (omega (arith, l)))
-      (λ e r k p t g i l. absurd (omega (arith, l)))
-      (λ e r end t f i l. absurd (omega (arith, l)))
+      said-or-accepted s (There d)
+      (λ n p c i l. absurd (omega (arith, l)))
       (λ e r t i l.
       let at = r + 2 + 24 * i in
       let next : at + 24 ≡ r + 2 + 24 * suc i = omega arith in
@@ -87,11 +81,8 @@ module _ (s : List ℕ) where
 
   pub row-within : (d : Row) → Within d (reading s)
   row-within d =
-      reading-cases s (Within d)
-      (λ k p b i l. absurd (omega (arith, l)))
-      (λ e k p b f i l. absurd (omega (arith, l)))
-      (λ e r k p t g i l. absurd (omega (arith, l)))
-      (λ e r end t f i l. absurd (omega (arith, l)))
+      said-or-accepted s (Within d)
+      (λ n p c i l. absurd (omega (arith, l)))
       (λ e r t i l. (omega (arith, rows-end e r t, l), sym (getD-listOf (rowAt s) 24 (numAt 2 s r) (r + 2) i d l), refl))
 
   -- elsewhere it has ended
@@ -100,9 +91,6 @@ module _ (s : List ℕ) where
 
   pub ended-elsewhere : (at : ℕ) → Elsewhere at (reading s)
   ended-elsewhere at =
-      reading-cases s (Elsewhere at)
-      (λ k p b none. refl)
-      (λ e k p b f none. refl)
-      (λ e r k p t g none. refl)
-      (λ e r end t d none. refl)
+      said-or-accepted s (Elsewhere at)
+      (λ n p c none. refl)
       (λ e r t none. rw (place-no (r + 2) (numAt 2 s r) (length s) at (rows-end e r t) none))

@@ -26,7 +26,7 @@ use Rattle.recording.specs.Entries.{blockAt, effectAt, rowAt}
 use Rattle.recording.specs.Sections.{entries, section, widthOf, numberOf, countOk, testOf, sectionOf}
 use Rattle.recording.specs.Answers.{sectionNumber, sectionPlace}
 use Rattle.recording.specs.Reader.{noLimits, blockLimits, settingsAt, refusal, reading}
-use Rattle.recording.specs.Refused.{Reached, EntryStops, Stops, Refused}
+use Rattle.recording.specs.Refused.{Reached, EntryStops, Stops, ToEnd, Refused}
 use Rattle.recording.proofs.Between.{read-block, read-effects, read-rows, rows-whole, left-over}
 use Rattle.recording.proofs.Cases.{reading-cases, acceptance, not-accepted}
 use Rattle.recording.proofs.Sections.{entries-short, entries-bad, entries-step, section-short, section-count, section-entries}
@@ -193,15 +193,21 @@ module _ (kind : Kind) (k : Limits) (s : List ℕ) (at : ℕ) where
 
 -- ## Files
 
+-- what holds of each refusal that is said of the bytes, and of an acceptance, holds of the reading
+pub said-or-accepted : (s : List ℕ) (P : Reading → Type 0) → ((n p : ℕ) → Refused s n p → P (refusal n p))
+    → ((e r : ℕ) → ToEnd s e r (length s) → P (acceptance s e r)) → P (reading s)
+said-or-accepted s P refuses accepts =
+    reading-cases s P
+    (λ k p b. refuses k p (Refused.in-block k p (refuses-stops Block noLimits s 0 k p b)))
+    (λ e k p b f. refuses k p (Refused.in-effects k p e b (refuses-stops Effects (blockLimits s) s e k p f)))
+    (λ e r k p t g. refuses k p (Refused.in-rows k p e r t (refuses-stops Rows (limitsOf (settingsAt s e)) s r k p g)))
+    (λ e r end t d. refuses 7 end (Refused.spare e r end t (let i = rows-whole s (limitsOf (settingsAt s e)) r end (t .rows) .passed .inside in omega (arith, i, d))))
+    accepts
+
 -- a refusal's number and place are those that are said of the bytes
 pub refused-as-said : (s : List ℕ) (n p : ℕ) → reading s ≡ refusal n p → Refused s n p
 refused-as-said s n p =
-    reading-cases s (λ x. x ≡ refusal n p → Refused s n p)
-    (λ k q b h. same k q h (Refused.in-block k q (refuses-stops Block noLimits s 0 k q b)))
-    (λ e k q b f h. same k q h (Refused.in-effects k q e b (refuses-stops Effects (blockLimits s) s e k q f)))
-    (λ e r k q t g h. same k q h (Refused.in-rows k q e r t (refuses-stops Rows (limitsOf (settingsAt s e)) s r k q g)))
-    (λ e r end t d h. same 7 end h (Refused.spare e r end t (let i = rows-whole s (limitsOf (settingsAt s e)) r end (t .rows) .passed .inside in omega (arith, i, d))))
-    (λ e r t h. other e r (ap (λ (x : Reading). x .answer) h))
+    said-or-accepted s (λ x. x ≡ refusal n p → Refused s n p) (λ k q c h. same k q h c) (λ e r t h. other e r (ap (λ (x : Reading). x .answer) h))
   where
     same : (k q : ℕ) → refusal k q ≡ refusal n p → Refused s k q → Refused s n p
     same k q h c =

@@ -2,7 +2,7 @@
 -- `reading`, `stepAt` and `rowIn` are what the code returns, by the contracts in src/; `Bytes s` is what every slice of bytes is.
 use mathlib.Core.Path.{_≡_, refl, sym, ap, _∙_}
 use mathlib.Core.Bool.{true, false}
-use mathlib.Core.List.{List, _++_}
+use mathlib.Core.List.{List, _++_, flatMap}
 use mathlib.Core.Logic.{_⊎_}
 use Prim.Native.Nat.{ℕ, suc, _+_, _*_, _≤_, _<_}
 use native.Mathlib.Omega.{arith}
@@ -14,7 +14,7 @@ use Rattle.settings.specs.declared.Limits.{Limits}
 use Rattle.recording.specs.declared.Answer.the-variants as A
 use Rattle.recording.specs.declared.Reading.{Reading}
 use Rattle.recording.specs.declared.Kind.{Kind}
-use Rattle.recording.specs.Entries.{rowAt, putRow, putAll}
+use Rattle.recording.specs.Entries.{rowAt, putRow}
 use Rattle.recording.specs.Reader.{refusal, reading}
 use Rattle.recording.specs.Answers.{number, place, rowCount, firstRow, rowWidth, sectionNumber, sectionPlace, ended, noRow, stepRow, nextPlace}
 use Rattle.recording.specs.Steps.{rowIn, stepAt, rowsOf}
@@ -51,7 +51,7 @@ accepted-case = case-of
 -- ## Pieces
 
 -- an encoding is its opening and its rows
-pub encoding-in-pieces : (st : Settings) (rows : List Row) → encode st rows ≡ opening st (length rows) ++ putAll putRow rows
+pub encoding-in-pieces : (st : Settings) (rows : List Row) → encode st rows ≡ opening st (length rows) ++ flatMap putRow rows
 encoding-in-pieces = in-pieces
 
 -- the count that is answered is the number of the rows

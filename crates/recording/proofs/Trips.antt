@@ -1,8 +1,8 @@
 -- Reading and writing undo each other: an accepted file is the encoding of what was read, and an encoding is an opening
 -- piece and its rows.
 use mathlib.Core.Path.{_≡_, refl, _∙_}
-use mathlib.Core.List.{List, _++_, append-assoc}
-use mathlib.Core.Logic.{inl, inr}
+use mathlib.Core.List.{List, _++_, append-assoc, flatMap}
+use mathlib.Core.Logic.{_⊎_, inl, inr}
 use Prim.Native.Nat.{ℕ, _+_, _*_}
 use native.Mathlib.Omega.{arith}
 use lib.ListN.{length}
@@ -10,38 +10,32 @@ use lib.Seq.{take-length}
 use Rattle.bits.specs.Numbers.{Bytes}
 use Rattle.settings.specs.declared.Row.{Row}
 use Rattle.settings.specs.declared.Settings.{Settings}
-use Rattle.settings.specs.Right.{limitsOf}
 use Rattle.recording.specs.declared.Answer.the-variants as A
 use Rattle.recording.specs.declared.Reading.{Reading}
-use Rattle.recording.specs.declared.Kind.the-variants.{Block, Effects, Rows}
-use Rattle.recording.specs.Entries.{rowAt, putRow, putAll}
-use Rattle.recording.specs.Reader.{noLimits, blockLimits, settingsAt, reading}
+use Rattle.recording.specs.Entries.{rowAt, putRow}
+use Rattle.recording.specs.Reader.{blockLimits, reading}
 use Rattle.recording.specs.Answers.{number, rowCount, firstRow, rowWidth}
 use Rattle.recording.specs.Steps.{rowsIn, rowsOf}
 use Rattle.recording.specs.Encode.{encode, opening, Right}
 use Rattle.recording.specs.Refused.{ToEnd}
 use Rattle.recording.proofs.Lists.{length-listOf}
-use Rattle.recording.proofs.Refusals.{Given, section-gives, refuses-stops}
+use Rattle.recording.proofs.Refusals.{Given, file-gives, said-or-accepted}
 use Rattle.recording.proofs.Between.{block-room, effects-whole}
-use Rattle.recording.proofs.Cases.{acceptance, reading-cases}
+use Rattle.recording.proofs.Cases.{acceptance}
 use Rattle.recording.proofs.Exact.{right-at, encoded-at}
 
 -- ## Accepted files
 
 -- a refusal's number is not 0
-not-zero : {X : Type 0} (s : List ℕ) (n p : ℕ) → Given s n p → n ≡ 0 → X
-not-zero s n p (inl h) e = absurd (omega (arith, h .0, e))
-not-zero s n p (inr h) e = absurd (omega (arith, h .0, e))
+not-zero : {X : Type 0} (s : List ℕ) (n p : ℕ) → Given s n p ⊎ (n ≡ 7) → n ≡ 0 → X
+not-zero s n p (inl (inl h)) e = absurd (omega (arith, h .0, e))
+not-zero s n p (inl (inr h)) e = absurd (omega (arith, h .0, e))
+not-zero s n p (inr h) e = absurd (omega (arith, h, e))
 
 -- so what holds of an acceptance holds of the reading of an accepted file
 when-accepted : (s : List ℕ) (P : Reading → Type 0) → ((e r : ℕ) → ToEnd s e r (length s) → P (acceptance s e r)) → number (reading s .answer) ≡ 0 → P (reading s)
 when-accepted s P accepts =
-    reading-cases s (λ x. number (x .answer) ≡ 0 → P x)
-    (λ k p b h. not-zero s k p (section-gives Block noLimits s 0 k p (refuses-stops Block noLimits s 0 k p b)) h)
-    (λ e k p b f h. not-zero s k p (section-gives Effects (blockLimits s) s e k p (refuses-stops Effects (blockLimits s) s e k p f)) h)
-    (λ e r k p t g h. let l = limitsOf (settingsAt s e) in not-zero s k p (section-gives Rows l s r k p (refuses-stops Rows l s r k p g)) h)
-    (λ e r end t d h. absurd (omega (arith, h)))
-    (λ e r t h. accepts e r t)
+    said-or-accepted s (λ x. number (x .answer) ≡ 0 → P x) (λ n p c h. not-zero s n p (file-gives s n p c) h) (λ e r t h. accepts e r t)
 
 -- the settings and rows that are read are right
 pub accepted-right : (s : List ℕ) → number (reading s .answer) ≡ 0 → Right (reading s .settings) (rowsOf s)
@@ -71,6 +65,6 @@ length-rowsOf s = let a = reading s .answer in length-listOf (rowAt s) (rowWidth
 
 -- ## The pieces of an encoding
 
-pub in-pieces : (st : Settings) (rows : List Row) → encode st rows ≡ opening st (length rows) ++ putAll putRow rows
-unfolding encode opening
+pub in-pieces : (st : Settings) (rows : List Row) → encode st rows ≡ opening st (length rows) ++ flatMap putRow rows
+unfolding flatMap encode opening
 in-pieces st rows = simp append-assoc

@@ -1,14 +1,14 @@
 -- The bytes of a recording, and which settings and rows have one. Document 01, "Recordings".
 use Prim.Native.Nat.{ℕ, _≤_}
 use mathlib.Core.Path.{_≡_}
-use mathlib.Core.List.{List, [], _∷_, _++_}
+use mathlib.Core.List.{List, [], _∷_, _++_, flatMap}
 use lib.ListN.{length, take}
 use Rattle.bits.specs.Numbers.{digits}
 use Rattle.settings.specs.declared.Effect.{Effect}
 use Rattle.settings.specs.declared.Row.{Row}
 use Rattle.settings.specs.declared.Settings.{Settings}
 use Rattle.settings.specs.Right.{limitsOf, settingsNumber, rowNumber}
-use Rattle.recording.specs.Entries.{BlockEntry, putBlock, putEffect, putRow, putAll}
+use Rattle.recording.specs.Entries.{BlockEntry, putBlock, putEffect, putRow}
 
 abbrev pub blockOf : Settings → BlockEntry
 blockOf st = record { causes = st .causes; options = st .options; period = st .period }
@@ -18,7 +18,7 @@ effectsOf st = take (st .count) (st .effects)
 
 -- a section: its 16-bit count, then its entries
 abbrev pub counted : {A : Type 0} → (A → List ℕ) → List A → List ℕ
-counted put xs = digits 2 (length xs) ++ putAll put xs
+counted put xs = digits 2 (length xs) ++ flatMap put xs
 
 -- sections in a fixed order, nothing after the last
 unfoldable pub encode : Settings → List Row → List ℕ

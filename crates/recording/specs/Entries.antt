@@ -1,6 +1,6 @@
 -- The entries: their numbers in layout order, as they are read and as they are written. Document 01, "Recordings".
 use Prim.Native.Nat.{ℕ, zero, suc, _+_}
-use mathlib.Core.List.{List, [], _∷_, _++_}
+use mathlib.Core.List.{List, [], _∷_}
 use Rattle.bits.specs.Numbers.{numAt}
 use Rattle.bits.specs.Layout.{pack}
 use Rattle.settings.specs.declared.Effect.{Effect}
@@ -46,23 +46,24 @@ putEffect e = pack effectLayout (effectFields e)
 
 -- ## Rows: each hold (4), ten words (2 each)
 
+-- the ten words that start at `at`
 unfoldable pub wordsAt : List ℕ → ℕ → Words
 wordsAt s at =
     record {
-      values = numAt 2 s (at + 4);
-      bad = numAt 2 s (at + 6);
-      mask = numAt 2 s (at + 8);
-      «require_reset» = numAt 2 s (at + 10);
-      «reset_permit» = numAt 2 s (at + 12);
-      «start_permit» = numAt 2 s (at + 14);
-      reset = numAt 2 s (at + 16);
-      «force_permit» = numAt 2 s (at + 18);
-      «force_trip» = numAt 2 s (at + 20);
-      «force_normal» = numAt 2 s (at + 22);
+      values = numAt 2 s at;
+      bad = numAt 2 s (at + 2);
+      mask = numAt 2 s (at + 4);
+      «require_reset» = numAt 2 s (at + 6);
+      «reset_permit» = numAt 2 s (at + 8);
+      «start_permit» = numAt 2 s (at + 10);
+      reset = numAt 2 s (at + 12);
+      «force_permit» = numAt 2 s (at + 14);
+      «force_trip» = numAt 2 s (at + 16);
+      «force_normal» = numAt 2 s (at + 18);
     }
 
 unfoldable pub rowAt : List ℕ → ℕ → Row
-rowAt s at = record { hold = numAt 4 s at; words = wordsAt s at }
+rowAt s at = record { hold = numAt 4 s at; words = wordsAt s (at + 4) }
 
 abbrev pub rowLayout : List ℕ
 rowLayout = 4 ∷ 2 ∷ 2 ∷ 2 ∷ 2 ∷ 2 ∷ 2 ∷ 2 ∷ 2 ∷ 2 ∷ 2 ∷ []
@@ -77,12 +78,7 @@ putRow r = pack rowLayout (rowFields r)
 
 -- ## Entries one after the other
 
-module _ {A : Type 0} where
-  -- n entries of w bytes each, from `at`
-  abbrev pub listOf : (ℕ → A) → ℕ → ℕ → ℕ → List A
-  listOf get w zero at = []
-  listOf get w (suc n) at = get at ∷ listOf get w n (at + w)
-
-  abbrev pub putAll : (A → List ℕ) → List A → List ℕ
-  putAll put [] = []
-  putAll put (a ∷ xs) = put a ++ putAll put xs
+-- n entries of w bytes each, from `at`
+abbrev pub listOf : {A : Type 0} → (ℕ → A) → ℕ → ℕ → ℕ → List A
+listOf get w zero at = []
+listOf get w (suc n) at = get at ∷ listOf get w n (at + w)

@@ -6,7 +6,7 @@ mod quick;
 
 ghost use mathlib.Core.Path.{_≡_};
 ghost use mathlib.Core.List.{_++_};
-ghost use Prim.Native.Nat.{_+_, _*_, _-_, _^_, _≤_, _<_};
+ghost use Prim.Native.Nat.{_+_, _*_, _-_, _≤_, _<_};
 ghost use lib.ListN.{length, replicate};
 ghost use Rattle.bits.specs.Numbers.{numAt};
 ghost use Rattle.settings.specs.Signals.{noEffect};
@@ -71,22 +71,22 @@ fn effect_at(s: &[u8], at: usize) -> Effect
     }
 }
 
-// The ten words of the row at `at`.
-fn words_at(s: &[u8], at: usize) -> Words
-    requires { ⌜ at + 24 ≤ length (now s) ⌝ }
+// The ten words that start at `at`.
+pub fn words_at(s: &[u8], at: usize) -> Words
+    requires { ⌜ at + 20 ≤ length (now s) ⌝ }
     ensures { λ r. ⌜ r ≡ wordsAt (now (s .entry)) at ⌝ }
 {
     Words {
-        values: bits::get16(s, at + 4),
-        bad: bits::get16(s, at + 6),
-        mask: bits::get16(s, at + 8),
-        require_reset: bits::get16(s, at + 10),
-        reset_permit: bits::get16(s, at + 12),
-        start_permit: bits::get16(s, at + 14),
-        reset: bits::get16(s, at + 16),
-        force_permit: bits::get16(s, at + 18),
-        force_trip: bits::get16(s, at + 20),
-        force_normal: bits::get16(s, at + 22),
+        values: bits::get16(s, at),
+        bad: bits::get16(s, at + 2),
+        mask: bits::get16(s, at + 4),
+        require_reset: bits::get16(s, at + 6),
+        reset_permit: bits::get16(s, at + 8),
+        start_permit: bits::get16(s, at + 10),
+        reset: bits::get16(s, at + 12),
+        force_permit: bits::get16(s, at + 14),
+        force_trip: bits::get16(s, at + 16),
+        force_normal: bits::get16(s, at + 18),
     }
 }
 
@@ -97,7 +97,7 @@ pub fn row_at(s: &[u8], at: usize) -> Row
 {
     Row {
         hold: bits::get32(s, at),
-        words: words_at(s, at),
+        words: words_at(s, at + 4),
     }
 }
 
@@ -234,7 +234,7 @@ fn read_section(kind: Kind, known: Limits, s: &[u8], at: usize) -> Section
 // ---- the reader
 
 // The n effects from `at`, and empty slots after them.
-fn effects_at(s: &[u8], at: usize, n: usize) -> [Effect; 16]
+pub fn effects_at(s: &[u8], at: usize, n: usize) -> [Effect; 16]
     requires { ⌜ (n ≤ 16) × (at + 6 * n ≤ length (now s)) ⌝ }
     ensures { λ r. ⌜ r ≡ listOf (effectAt (now (s .entry))) 6 n at ++ replicate (16 - n) noEffect ⌝ }
 {

@@ -7,7 +7,7 @@ use block::Scanned;
 fn run(case: &[u8; 241], buf: &mut [u8]) -> Scanned {
     let st = cases::settings_at(case, 0);
     let x = cases::state_at(case, 101);
-    let w = cases::words_at(case, 219);
+    let w = recording::words_at(case, 219);
     cases::fill(buf);
     x.scan(st, w, buf)
 }

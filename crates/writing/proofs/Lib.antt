@@ -1,4 +1,3 @@
-pub mod Stores
 pub mod Opening
 pub mod Pieces
 pub mod Passes

@@ -2,14 +2,14 @@
 -- `openingWritten`, `openingAfter`, `rowWritten` and `rowAfter` are what the code returns and leaves in the lent buffer, by the
 -- contracts in src/; `Bytes s` is what every slice of bytes is.
 use mathlib.Core.Path.{_≡_, sym, _∙_}
-use mathlib.Core.List.{List, _++_}
+use mathlib.Core.List.{List, _++_, flatMap}
 use Prim.Native.Nat.{ℕ}
 use lib.ListN.{length, drop}
 use Rattle.bits.specs.Numbers.{Bytes}
 use Rattle.settings.specs.declared.Row.{Row}
 use Rattle.settings.specs.declared.Settings.{Settings}
 use Rattle.settings.specs.Refusals.{orElse, roomNumber}
-use Rattle.recording.specs.Entries.{putRow, putAll}
+use Rattle.recording.specs.Entries.{putRow}
 use Rattle.recording.specs.Reader.{reading}
 use Rattle.recording.specs.Answers.{rowCount}
 use Rattle.recording.specs.Steps.{rowsOf}
@@ -26,7 +26,7 @@ use Rattle.writing.proofs.Passes.{right-passes, passes-right}
 -- the opening and the rows that were read are written without refusal, and they are the file's bytes
 pub written-as-read : (s : List ℕ) → Bytes s → Accepted s
     → let st = reading s .settings in let n = rowCount (reading s .answer) in
-    (openingNumber st n ≡ 0) × All (rowPieceNumber st) (rowsOf s) × (opening st n ++ putAll putRow (rowsOf s) ≡ s)
+    (openingNumber st n ≡ 0) × All (rowPieceNumber st) (rowsOf s) × (opening st n ++ flatMap putRow (rowsOf s) ≡ s)
 written-as-read s bytes h =
     let e = accepted-is-encoding s bytes h in
     let st = reading s .settings in
@@ -36,7 +36,7 @@ written-as-read s bytes h =
 
 -- an opening and as many rows as it says, all written without refusal, are read as those settings and rows
 pub read-as-written : (st : Settings) (rows : List Row) → length (st .effects) ≡ 16 → openingNumber st (length rows) ≡ 0 → All (rowPieceNumber st) rows
-    → Answers (opening st (length rows) ++ putAll putRow rows) st rows
+    → Answers (opening st (length rows) ++ flatMap putRow rows) st rows
 read-as-written st rows sixteen h each = rw (← encoding-in-pieces st rows) (encoding-is-accepted st rows (passes-right st rows sixteen h each))
 
 -- ## The writer, of any piece that `n` refuses if it is not 0

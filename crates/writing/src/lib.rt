@@ -2,12 +2,12 @@
 // is put may change without moving a contract, as long as nothing is put before it is known to fit. It rests on `recording`, whose table
 // of sections has the widths, the counts and the numbers, on `settings` and `bits`.
 ghost use mathlib.Core.Path.{_≡_};
-ghost use mathlib.Core.List.{_∷_, []};
+ghost use mathlib.Core.List.{_∷_, [], flatMap};
 ghost use Prim.Native.Nat.{_+_, _*_, _^_, _≤_, _<_};
 ghost use lib.ListN.{length, take};
 ghost use lib.Seq.{sets};
 ghost use Rattle.bits.specs.Layout.{pack};
-ghost use Rattle.recording.specs.Entries.{putEffect, putRow, putAll};
+ghost use Rattle.recording.specs.Entries.{putEffect, putRow};
 ghost use Rattle.recording.specs.Encode.{opening};
 ghost use Rattle.writing.specs.Writer.{openingNumber, rowPieceNumber, openingWritten, openingAfter, rowWritten, rowAfter};
 use recording::Kind;
@@ -97,7 +97,7 @@ fn put_effect(s: &mut [u8], at: usize, e: Effect)
 // The first n effects from `at`; there are so many.
 fn put_effects(s: &mut [u8], at: usize, effects: [Effect; 16], n: usize)
     requires { ⌜ (n ≤ 16) × (at + 6 * n ≤ length (now s)) ⌝ }
-    ensures { λ _. ⌜ now (s .exit) ≡ sets (now (s .entry)) at (putAll putEffect (take n effects)) ⌝ }
+    ensures { λ _. ⌜ now (s .exit) ≡ sets (now (s .entry)) at (flatMap putEffect (take n effects)) ⌝ }
     ensures { λ _. ⌜ length (take n effects) ≡ n ⌝ }
 {
     let mut i = 0;

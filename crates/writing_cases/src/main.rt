@@ -36,7 +36,7 @@ fn print_row(case: &[u8; 129], buf: &mut [u8]) -> bool
 {
     let st = cases::settings_at(case, 0);
     let hold = bits::get32(case, 103);
-    let words = cases::words_at(case, 107);
+    let words = recording::words_at(case, 107);
     cases::fill(buf);
     let w = writing::write_row(st, Row { hold, words }, buf);
     print(w, buf, b'\n')

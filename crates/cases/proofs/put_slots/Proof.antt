@@ -1,5 +1,6 @@
 -- `cases::put_slots` meets its contract. The loop's invariant: with the slots that are left the buffer would be whole.
 use mathlib.Core.Path.{_≡_, refl, _∙_}
+use mathlib.Core.List.{flatMap}
 use Prim.Native.Nat.{_≤_, _-_, _+_, _*_}
 use native.Mathlib.Nat.{add-zero}
 use native.Mathlib.Omega.{arith}
@@ -7,13 +8,14 @@ use lib.ListN.{length, drop}
 use lib.Seq.{sets, length-sets}
 use borrow.Author.Needs.{needs}
 use Rattle.rules.specs.Rules.{noSlot}
-use Rattle.cases.specs.Answers.{joined, slotBytes}
-use Rattle.cases.proofs.Joined.{joined-turn, joined-ends, length-joined, length-slot}
+use Rattle.recording.proofs.Lists.{length-flatMap, store-turn, store-ends}
+use Rattle.cases.specs.Answers.{slotBytes}
+use Rattle.cases.proofs.Joined.{length-slot}
 use Rattle.cases.proofs.put_slots.Statement.{statement}
 use Rattle.cases.proofs.put_slots.Tie as tie
 
 abbrev Inv-loop : tie.InvT-loop
-Inv-loop out₀ at xs i₀ out i = (i ≤ 16) × (length out ≡ length out₀) × (sets out (at + 7 * i) (joined slotBytes (drop i xs)) ≡ sets out₀ at (joined slotBytes xs))
+Inv-loop out₀ at xs i₀ out i = (i ≤ 16) × (length out ≡ length out₀) × (sets out (at + 7 * i) (flatMap slotBytes (drop i xs)) ≡ sets out₀ at (flatMap slotBytes xs))
 
 abbrev μ-loop : tie.MeasureT-loop
 μ-loop out₀ at xs i₀ out i = 16 - i
@@ -26,13 +28,13 @@ loop-again c =
     let k = c .before .before .before .before .before .before in
     let s = c .before .before .before .before .before .before .before .before in
     let e = c .before .before .put-slot .ensures in
-    (omega arith, rw (e, length-sets) (k .loop .inv .1), rw e (joined-turn slotBytes 7 length-slot (k .loop .out) (s .args .at) (k .loop .i) (s .args .t3) noSlot (omega arith) ∙ k .loop .inv .2))
+    (omega arith, rw (e, length-sets) (k .loop .inv .1), rw e (store-turn slotBytes 7 length-slot (k .loop .out) (s .args .at) (k .loop .i) (s .args .t3) noSlot (omega arith) ∙ k .loop .inv .2))
 
 returns : tie.Need-returns Inv-loop μ-loop
 returns c =
     let k = c .before in
     let s = c .before .before .before in
-    (joined-ends slotBytes _ _ (s .args .at + 7 * k .loop .i) (k .loop .i) (s .args .t3) (omega arith) (k .loop .inv .2), omega (arith, length-joined slotBytes 7 length-slot (s .args .t3)))
+    (store-ends slotBytes _ _ (s .args .at + 7 * k .loop .i) (k .loop .i) (s .args .t3) (omega arith) (k .loop .inv .2), omega (arith, length-flatMap slotBytes 7 length-slot (s .args .t3)))
 
 pub put-slots-spec : {M : Type 1} → statement M
 put-slots-spec =

@@ -1,4 +1,5 @@
 -- `cases::settings_at` meets its contract: its fields are what their readers ensure.
+use mathlib.Core.List.{append-nil}
 use borrow.Author.Needs.{needs}
 use Rattle.cases.specs.Given.{settingsAt}
 use Rattle.cases.proofs.settings_at.Statement.{statement}
@@ -6,7 +7,7 @@ use Rattle.cases.proofs.settings_at.Tie as tie
 
 returns : tie.Need-returns
 unfolding settingsAt
-returns c = cc
+returns c = simp (c .get83 .ensures, c .before .get16 .ensures, c .before .before .get82 .ensures, c .before .before .before .get8 .ensures, c .before .before .before .before .effects-at .ensures, append-nil)
 
 pub settings-at-spec : {M : Type 1} → statement M
 settings-at-spec =

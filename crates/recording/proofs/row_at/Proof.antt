@@ -9,4 +9,4 @@ unfolding rowAt
 returns c = cc
 
 pub row-at-spec : {M : Type 1} → statement M
-row-at-spec = tie.close (tie.spec (λ c κs. search needs) (λ c κs. search needs) returns)
+row-at-spec = tie.close (tie.spec (λ c κs. search needs) (λ c. search needs) (λ c κs. search needs) returns)

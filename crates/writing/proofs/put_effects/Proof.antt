@@ -1,39 +1,49 @@
--- `writing::put_effects` meets its contract. The loop's invariant: the first i effects are stored.
+-- `writing::put_effects` meets its contract. The loop's invariant: with the effects that are left the bytes would be whole.
 use borrow.Author.Needs.{needs}
-use denote.Ref.{now}
 use native.Mathlib.Omega.{arith}
-use Prim.Native.Nat.{_≤_, _-_}
-use mathlib.Core.Path.{_≡_, refl, ap, _∙_}
-use lib.ListN.{length, take}
-use lib.Seq.{sets, length-sets, length-take-le}
-use Rattle.recording.specs.Entries.{putAll, putEffect}
-use Rattle.writing.proofs.Stores.{store-more}
+use Prim.Native.Nat.{_+_, _*_, _≤_, _-_}
+use native.Mathlib.Nat.{add-zero}
+use mathlib.Core.Path.{_≡_, refl, _∙_}
+use mathlib.Core.List.{flatMap}
+use lib.ListN.{length, take, drop, getD}
+use lib.Seq.{sets, length-sets, length-take-le, getD-take}
+use Rattle.settings.specs.Signals.{noEffect}
+use Rattle.recording.specs.Entries.{putEffect}
+use Rattle.recording.proofs.Lists.{store-turn, store-ends}
 use Rattle.writing.proofs.Opening.{effect-length}
 use Rattle.writing.proofs.put_effects.Statement.{statement}
 use Rattle.writing.proofs.put_effects.Tie as tie
 
 abbrev Inv-loop : tie.InvT-loop
-Inv-loop s₀ at n effects i₀ s i = (i ≤ n) × (length effects ≡ 16) × (s ≡ sets s₀ at (putAll putEffect (take i effects))) × (length s ≡ length s₀)
+Inv-loop s₀ at n effects i₀ s i =
+    (i ≤ n) × (length effects ≡ 16) × (length s ≡ length s₀)
+    × (sets s (at + 6 * i) (flatMap putEffect (drop i (take n effects))) ≡ sets s₀ at (flatMap putEffect (take n effects)))
 
 abbrev μ-loop : tie.MeasureT-loop
 μ-loop s₀ at n effects i₀ s i = n - i
 
 loop-holds : tie.Need-loop-holds Inv-loop μ-loop
-loop-holds c = (search needs, search needs, refl, refl)
+loop-holds c = (search needs, search needs, refl, rw add-zero)
 
 loop-again : tie.Need-loop-again Inv-loop μ-loop
 loop-again c =
     let l = c .before .before .before .before .before .before .before .loop in
     let a = c .before .before .before .before .before .before .before .before .before .args in
-    let stored = rw (c .before .before .before .effect-place .ensures) at (c .before .before .put-effect .ensures) in
-    let e = store-more putEffect 6 effect-length (a .t3) _ (now (a .s)) (l .s) _ (a .at) (l .i) (omega arith) (l .inv .2) stored in
-    (omega arith, l .inv .1, e, ap length e ∙ simp length-sets)
+    let same : getD (take (a .n) (a .t3)) (l .i) noEffect ≡ getD (a .t3) (l .i) noEffect = getD-take (a .n) (a .t3) (l .i) noEffect (omega arith) in
+    let stored = rw (c .before .before .before .effect-place .ensures, ← same) at (c .before .before .put-effect .ensures) in
+    let len = length-take-le (a .n) (a .t3) (omega arith) in (
+      omega arith,
+      l .inv .1,
+      rw (stored, length-sets) (l .inv .2),
+      rw stored (store-turn putEffect 6 effect-length (l .s) (a .at) (l .i) (take (a .n) (a .t3)) noEffect (omega (arith, len)) ∙ l .inv .3),
+    )
 
 returns : tie.Need-returns Inv-loop μ-loop
 returns c =
     let l = c .before .loop in
-    let e : l .i ≡ c .before .before .before .args .n = omega arith in
-    (rw (← e) (l .inv .2), length-take-le _ _ (omega arith))
+    let a = c .before .before .before .args in
+    let len = length-take-le (a .n) (a .t3) (omega arith) in
+    (store-ends putEffect _ _ (a .at + 6 * l .i) (l .i) (take (a .n) (a .t3)) (omega (arith, len)) (l .inv .3), len)
 
 pub put-effects-spec : {M : Type 1} → statement M
 put-effects-spec =
