@@ -6,7 +6,7 @@ use Rattle.cases.proofs.effect_at.Tie as tie
 
 returns : tie.Need-returns
 unfolding effectAt
-returns c = cc
+returns c = simp (c .get32 .ensures, c .before .get16 .ensures)
 
 pub effect-at-spec : {M : Type 1} → statement M
 effect-at-spec =
