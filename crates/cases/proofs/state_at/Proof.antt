@@ -6,7 +6,7 @@ use Rattle.cases.proofs.state_at.Tie as tie
 
 returns : tie.Need-returns
 unfolding stateAt
-returns c = cc
+returns c = simp (c .get16 .ensures, c .before .get32 .ensures, c .before .before .slots-at .ensures)
 
 pub state-at-spec : {M : Type 1} → statement M
 state-at-spec =
