@@ -11,7 +11,7 @@ use Rattle.effects.proofs.Records.{front-bytes}
 use Rattle.settings.specs.declared.Settings.{Settings}
 use Rattle.settings.specs.declared.Row.{Row}
 use Rattle.settings.specs.Limits.{mostScans}
-use Rattle.settings.specs.Right.{limitsOf, settingsNumber, rowNumber}
+use Rattle.settings.specs.Right.{knownOf, settingsNumber, rowNumber}
 use Rattle.settings.proofs.Refusals.{or-else-none, unless-none}
 use Rattle.settings.proofs.Right.{count-few}
 use Rattle.block.specs.declared.State.{State}
@@ -26,12 +26,12 @@ copied es at space space′ out buf e v l f = f ∙ rw (e, l, front-bytes es spa
 -- ## What input that is not refused tells
 
 module _ (st : Settings) (row : Row) (x : State) (n : ℕ) (is : n ≡ inputNumber st x row) (z : n ≡ 0) where
-  parts : (settingsNumber st ≡ 0) × (stateNumber st x ≡ 0) × (rowNumber (limitsOf st) row ≡ 0) × (scansNumber (x .done) (row .hold) ≡ 0)
+  parts : (settingsNumber st ≡ 0) × (stateNumber st x ≡ 0) × (rowNumber (knownOf st) row ≡ 0) × (scansNumber (x .done) (row .hold) ≡ 0)
   unfolding inputNumber
   parts =
       let a = or-else-none (settingsNumber st) _ (sym is ∙ z) in
       let b = or-else-none (stateNumber st x) _ (a .1) in
-      let c = or-else-none (rowNumber (limitsOf st) row) _ (b .1) in
+      let c = or-else-none (rowNumber (knownOf st) row) _ (b .1) in
       (a .0, b .0, c .0, c .1)
 
   pub settings-right : settingsNumber st ≡ 0
@@ -40,7 +40,7 @@ module _ (st : Settings) (row : Row) (x : State) (n : ℕ) (is : n ≡ inputNumb
   pub state-right : stateNumber st x ≡ 0
   state-right = parts .1
 
-  pub row-right : rowNumber (limitsOf st) row ≡ 0
+  pub row-right : rowNumber (knownOf st) row ≡ 0
   row-right = parts .2
 
   pub few : st .count ≤ 16

@@ -15,7 +15,7 @@ use Rattle.rules.specs.Rules.{isLatent, isExercised, noSignals}
 use Rattle.effects.specs.Scan.{latentWord, anyExercised}
 use Rattle.rounds.specs.Steps.{clear}
 use Rattle.rounds.proofs.Effects.{Timed, timed-tabulate}
-use Rattle.settings.specs.declared.Limits.{Limits}
+use Rattle.settings.specs.declared.Known.{Known}
 use Rattle.settings.specs.declared.Settings.{Settings}
 use Rattle.settings.specs.declared.Words.{Words}
 use Rattle.settings.specs.Right.{settingsNumber, wordsOk, fieldsNumber, wordsNumber, rowNumber}
@@ -35,7 +35,7 @@ exchanged p r f t n r′ e g =
     let e₃ = and-left (p && r) f e₂ in
     rw (and-left p r e₃, g, and-right (p && r) f e₂, and-right (p && r && f) t e₁, and-right (p && r && f && t) n e)
 
-pub later-right : (k : Limits) (w : Words) → wordsNumber k w ≡ 0 → wordsNumber k (later w) ≡ 0
+pub later-right : (k : Known) (w : Words) → wordsNumber k w ≡ 0 → wordsNumber k (later w) ≡ 0
 unfolding wordsNumber
 later-right k w e =
     let parts = or-else-none (fieldsNumber k w) _ e in
@@ -43,7 +43,7 @@ later-right k w e =
     rw (exchanged _ _ _ _ _ (ltb 0 (2 ^ k .count)) ok (lt-ltb 0 (2 ^ k .count) (pow-pos (k .count)))) (parts .1)
 
 -- the words of a right row are right for a single scan
-pub once-right : (k : Limits) (w : Words) → wordsNumber k w ≡ 0 → rowNumber k (once w) ≡ 0
+pub once-right : (k : Known) (w : Words) → wordsNumber k w ≡ 0 → rowNumber k (once w) ≡ 0
 unfolding rowNumber
 once-right k w e = e
 

@@ -22,7 +22,7 @@ use Rattle.planes.proofs.Turn.{fresh}
 use Rattle.wiring.specs.Wiring.{Stroked, strokedAt, strokedBy}
 use Rattle.settings.specs.declared.Settings.{Settings}
 use Rattle.settings.specs.declared.Row.{Row}
-use Rattle.settings.specs.Right.{limitsOf, settingsNumber}
+use Rattle.settings.specs.Right.{knownOf, settingsNumber}
 use Rattle.settings.specs.Signals.{signals, signalsOf}
 use Rattle.settings.proofs.Right.{row-words, hold-some}
 use Rattle.block.specs.declared.State.{State}
@@ -45,7 +45,7 @@ module _ (st : Settings) (row : Row) (x : State) (input : inputNumber st x row �
   ready : Ready st right (row .words) (row .hold) x
   ready =
       record {
-        words = row-words (limitsOf st) row (row-right st row x _ refl input);
+        words = row-words (knownOf st) row (row-right st row x _ refl input);
         state = state-right st row x _ refl input;
         scans = countable st row x _ refl input;
       }
@@ -84,7 +84,7 @@ module _ (st : Settings) (row : Row) (x : State) (input : inputNumber st x row �
       rw e (stepped-effect st right m (row .words) (start x) r, stepped-latent st right m (row .words) (start x) r)
 
   words-are : (run st row x .effect ≡ effectWord (st .count) (run st row x .state .slots)) × (run st row x .latent ≡ latentWord (signals st (row .words)))
-  words-are = from-hold (row .hold) (hold-some (limitsOf st) row (row-right st row x _ refl input)) refl
+  words-are = from-hold (row .hold) (hold-some (knownOf st) row (row-right st row x _ refl input)) refl
 
   -- exercised: the hold where some effect's active word is not 0, else 0
   pub exercised-is : run st row x .exercised ≡ row .hold * one (anyExercised (signals st (row .words)))

@@ -7,7 +7,7 @@ use lib.ListN.{length}
 use Rattle.settings.specs.declared.Settings.{Settings}
 use Rattle.settings.specs.declared.Words.{Words}
 use Rattle.settings.specs.Refusals.{orElse, granted, roomNumber}
-use Rattle.settings.specs.Right.{limitsOf}
+use Rattle.settings.specs.Right.{knownOf}
 use Rattle.settings.proofs.Right.{row-words}
 use Rattle.block.specs.declared.State.{State}
 use Rattle.block.specs.declared.Scanned.{Scanned}
@@ -29,7 +29,7 @@ unfolding run
 once-answer st w x input =
     let row = once w in
     let e =
-    scan-accepted st (settings-right st row x _ refl input) w x (12 * length (events st w x)) (row-words (limitsOf st) row (row-right st row x _ refl input))
+    scan-accepted st (settings-right st row x _ refl input) w x (12 * length (events st w x)) (row-words (knownOf st) row (row-right st row x _ refl input))
     (state-right st row x _ refl input) (countable st row x _ refl input) (omega arith)
     in
     λ i. record { number = 0; place = 0; state = e i .state; effect = e i .effect; latent = e i .latent; records = length (events st w x) }

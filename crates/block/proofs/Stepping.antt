@@ -13,7 +13,7 @@ use Rattle.rounds.specs.Steps.{Run, scan, held}
 use Rattle.settings.specs.declared.Settings.{Settings}
 use Rattle.settings.specs.declared.Words.{Words}
 use Rattle.settings.specs.Limits.{mostScans}
-use Rattle.settings.specs.Right.{limitsOf, settingsNumber, wordsNumber}
+use Rattle.settings.specs.Right.{knownOf, settingsNumber, wordsNumber}
 use Rattle.settings.specs.Signals.{signals}
 use Rattle.settings.proofs.Answers.{granted-in-room}
 use Rattle.block.specs.declared.State.{State}
@@ -33,12 +33,12 @@ later-again (suc k) w = refl
 -- ## Each single scan is accepted
 
 module _ (st : Settings) (right : settingsNumber st ≡ 0) where
-  input-accepted : (w : Words) (x : State) → wordsNumber (limitsOf st) w ≡ 0 → stateNumber st x ≡ 0 → x .done + 1 ≤ mostScans → inputNumber st x (once w) ≡ 0
+  input-accepted : (w : Words) (x : State) → wordsNumber (knownOf st) w ≡ 0 → stateNumber st x ≡ 0 → x .done + 1 ≤ mostScans → inputNumber st x (once w) ≡ 0
   unfolding inputNumber
-  input-accepted w x ok state h = rw (right, state, once-right (limitsOf st) w ok, le-leb (x .done + 1) mostScans h)
+  input-accepted w x ok state h = rw (right, state, once-right (knownOf st) w ok, le-leb (x .done + 1) mostScans h)
 
   -- a scan of a right state and right words, with room, is accepted
-  pub scan-accepted : (w : Words) (x : State) (room : ℕ) → wordsNumber (limitsOf st) w ≡ 0 → stateNumber st x ≡ 0 → x .done + 1 ≤ mostScans → 12 * length (events st w x) ≤ room
+  pub scan-accepted : (w : Words) (x : State) (room : ℕ) → wordsNumber (knownOf st) w ≡ 0 → stateNumber st x ≡ 0 → x .done + 1 ≤ mostScans → 12 * length (events st w x) ≤ room
       → scanOf st w x room ≡ grantedScan st w x
   unfolding scanOf scanNumber
   scan-accepted w x room ok state h fits =
@@ -46,7 +46,7 @@ module _ (st : Settings) (right : settingsNumber st ≡ 0) where
 
   -- what can go on for n scans more
   pub record Ready (w : Words) (n : ℕ) (x : State) : Type 0 where
-    pub words : wordsNumber (limitsOf st) w ≡ 0
+    pub words : wordsNumber (knownOf st) w ≡ 0
     pub state : stateNumber st x ≡ 0
     pub scans : x .done + n ≤ mostScans
 
@@ -59,7 +59,7 @@ module _ (st : Settings) (right : settingsNumber st ≡ 0) where
     ready-after =
         rw single-accepted
         (record {
-          words = later-right (limitsOf st) w (ready .words);
+          words = later-right (knownOf st) w (ready .words);
           state = scan-keeps-right st w x right (ready .state) (omega (arith, ready .scans));
           scans = omega (arith, ready .scans);
         })

@@ -18,7 +18,7 @@ use Rattle.settings.specs.declared.Settings.{Settings}
 use Rattle.settings.specs.declared.Words.{Words}
 use Rattle.settings.specs.declared.Row.{Row}
 use Rattle.settings.specs.Limits.{mostScans}
-use Rattle.settings.specs.Right.{limitsOf, settingsNumber, wordsNumber, rowNumber}
+use Rattle.settings.specs.Right.{knownOf, settingsNumber, wordsNumber, rowNumber}
 use Rattle.settings.specs.Signals.{signals, signalsOf}
 use Rattle.settings.proofs.Answers.{granted-in-room}
 use Rattle.settings.proofs.Right.{row-words}
@@ -40,7 +40,7 @@ pub a-fresh-state-is-right : (st : Settings) → stateNumber st fresh ≡ 0
 a-fresh-state-is-right = states.fresh-right
 
 -- a scan of what is right, with room for its records, is accepted, and leaves a right state
-pub a-right-scan-is-accepted : (st : Settings) (w : Words) (x : State) (room : ℕ) → settingsNumber st ≡ 0 → stateNumber st x ≡ 0 → wordsNumber (limitsOf st) w ≡ 0
+pub a-right-scan-is-accepted : (st : Settings) (w : Words) (x : State) (room : ℕ) → settingsNumber st ≡ 0 → stateNumber st x ≡ 0 → wordsNumber (knownOf st) w ≡ 0
     → x .done + 1 ≤ mostScans → 12 * length (events st w x) ≤ room
     → (scanOf st w x room ≡ grantedScan st w x) × (stateNumber st (scanOf st w x room .state) ≡ 0)
 a-right-scan-is-accepted st w x room right state words scans fits =
@@ -49,7 +49,7 @@ a-right-scan-is-accepted st w x room right state words scans fits =
 
 -- ## Demand 3: a held run
 
-module _ (st : Settings) (row : Row) (x : State) (settings : settingsNumber st ≡ 0) (state : stateNumber st x ≡ 0) (right-row : rowNumber (limitsOf st) row ≡ 0)
+module _ (st : Settings) (row : Row) (x : State) (settings : settingsNumber st ≡ 0) (state : stateNumber st x ≡ 0) (right-row : rowNumber (knownOf st) row ≡ 0)
     (scans : x .done + row .hold ≤ mostScans) where
   -- nothing refuses it before its room is looked at
   pub right-input-is-accepted : inputNumber st x row ≡ 0
@@ -61,7 +61,7 @@ module _ (st : Settings) (row : Row) (x : State) (settings : settingsNumber st �
       → 12 * length (events st (wordsAt k (row .words)) (stepped st (row .words) k (start x) .state)) ≤ room
       → scanOf st (wordsAt k (row .words)) (stepped st (row .words) k (start x) .state) room .number ≡ 0
   every-scan-is-accepted k h room fits =
-      let ready : Ready st settings (row .words) (k + 1) x = record { words = row-words (limitsOf st) row right-row; state = state; scans = omega arith } in
+      let ready : Ready st settings (row .words) (k + 1) x = record { words = row-words (knownOf st) row right-row; state = state; scans = omega arith } in
       let now = ready-at st settings k 1 (row .words) (start x) ready in
       ap (λ (a : Scanned). a .number) (scan-accepted st settings (wordsAt k (row .words)) (stepped st (row .words) k (start x) .state) room (now .words) (now .state) (now .scans) fits)
 
@@ -103,7 +103,7 @@ module _ (st : Settings) (row : Row) (x : State) (settings : settingsNumber st �
   pub a-held-run-keeps-right : stateNumber st (run st row x .state) ≡ 0
   unfolding run
   a-held-run-keeps-right =
-      let ready : Ready st settings (row .words) (row .hold + 0) x = record { words = row-words (limitsOf st) row right-row; state = state; scans = omega arith } in
+      let ready : Ready st settings (row .words) (row .hold + 0) x = record { words = row-words (knownOf st) row right-row; state = state; scans = omega arith } in
       ready-at st settings (row .hold) 0 (row .words) (start x) ready .state
 
   -- and as many slots as it had

@@ -11,7 +11,7 @@ use Rattle.settings.specs.declared.Words.{Words}
 use Rattle.settings.specs.declared.Row.{Row}
 use Rattle.settings.specs.Limits.{mostScans}
 use Rattle.settings.specs.Refusals.{unless, orElse, granted, roomNumber}
-use Rattle.settings.specs.Right.{limitsOf, settingsNumber, rowNumber}
+use Rattle.settings.specs.Right.{knownOf, settingsNumber, rowNumber}
 use Rattle.settings.specs.Signals.{signals}
 use Rattle.block.specs.declared.State.{State}
 use Rattle.block.specs.declared.Scanned.{Scanned}
@@ -27,7 +27,7 @@ scansNumber done hold = unless (leb (done + hold) mostScans) 9
 unfoldable pub inputNumber : Settings → State → Row → ℕ
 inputNumber st x row =
     orElse (settingsNumber st)
-    (orElse (stateNumber st x) (orElse (rowNumber (limitsOf st) row) (scansNumber (x .done) (row .hold))))
+    (orElse (stateNumber st x) (orElse (rowNumber (knownOf st) row) (scansNumber (x .done) (row .hold))))
 
 -- the records at the front of a lent buffer; bytes past the last record stay as they were
 abbrev pub atFront : List Event → List ℕ → List ℕ

@@ -169,7 +169,7 @@ fn input_number(st: Settings, x: State, row: Row) -> u8
     if state != 0 {
         return state;
     }
-    let words = settings::row_number(settings::limits_of(st), row);
+    let words = settings::row_number(settings::known_of(st), row);
     if words != 0 {
         return words;
     }

@@ -26,8 +26,8 @@ use Rattle.rounds.specs.Stroke.{byRounds}
 use Rattle.settings.specs.declared.Row.{Row}
 use Rattle.settings.specs.declared.Settings.{Settings}
 use Rattle.settings.specs.declared.Words.{Words}
-use Rattle.settings.specs.declared.Limits.{Limits}
-use Rattle.settings.specs.Right.{limitsOf, settingsNumber, wordsNumber, rowNumber}
+use Rattle.settings.specs.declared.Known.{Known}
+use Rattle.settings.specs.Right.{knownOf, settingsNumber, wordsNumber, rowNumber}
 use Rattle.settings.specs.Signals.{signals, signalsOf}
 use Rattle.settings.proofs.Right.{count-few}
 use Rattle.block.specs.declared.State.{State}
@@ -164,14 +164,14 @@ pub row-refused-in-order : (st : Settings) (row : Row) (out : List ℕ) → let 
     InOrder (rowPieceCases st row (length out)) (writtenNumber a) ((writtenPlace a ≡ 0) × (writtenLength a ≡ 0) × (rowAfter st row out ≡ out))
 row-refused-in-order st row out = piece-in-order (rowPieceNumber st row) (putRow row) out _ (order.row-piece-in-order st row (length out))
 
--- what checks alone (`settings_number`, `words_number`, `row_number`), of any settings and limits
+-- what checks alone (`settings_number`, `words_number`, `row_number`), of any settings and anything known of them
 pub settings-checked-in-order : (st : Settings) → settingsNumber st ≡ firstOf (settingsCases st)
 settings-checked-in-order st = order.settings-in-order st .first
 
-pub words-checked-in-order : (k : Limits) (w : Words) → wordsNumber k w ≡ firstOf (wordsCases k w)
+pub words-checked-in-order : (k : Known) (w : Words) → wordsNumber k w ≡ firstOf (wordsCases k w)
 words-checked-in-order k w = order.words-in-order k w .first
 
-pub row-checked-in-order : (k : Limits) (row : Row) → rowNumber k row ≡ firstOf (rowCases k row)
+pub row-checked-in-order : (k : Known) (row : Row) → rowNumber k row ≡ firstOf (rowCases k row)
 row-checked-in-order k row = order.row-in-order k row .first
 
 -- a walk, however it was made (`Walk::next`): where the reader refuses its bytes, or its place is no row's first byte, it has ended
@@ -292,7 +292,7 @@ pub record ByTheRules (st : Settings) (w : Words) (x : State) (out : List ℕ) (
   pub sequence : a .state .next ≡ seqAfter (x .next) (signals st w) (x .slots)
 
 by-the-rules : (st : Settings) (w : Words) (x : State) (out : List ℕ)
-    → settingsNumber st ≡ 0 → stateNumber st x ≡ 0 → wordsNumber (limitsOf st) w ≡ 0
+    → settingsNumber st ≡ 0 → stateNumber st x ≡ 0 → wordsNumber (knownOf st) w ≡ 0
     → x .done + 1 ≤ 1000000000 → 12 * length (events st w x) ≤ length out → length (x .slots) ≡ 16
     → ByTheRules st w x out (scanOf st w x (length out)) (scanInto st w x out)
 by-the-rules st w x out right state words scans fits sixteen =
@@ -323,7 +323,7 @@ pub record Demand2 : Type 0 where
   pub same-bytes-again : (lent : ℕ → List ℕ) → ((n : ℕ) → length (lent n) ≡ n) → (s : List ℕ) → Bytes s → Accepted s → writtenBack lent s ≡ s
   -- one scan of every accepted setting, state and row, with room for its records (a state has sixteen slots, as the array has)
   pub one-scan : (st : Settings) (w : Words) (x : State) (out : List ℕ)
-      → settingsNumber st ≡ 0 → stateNumber st x ≡ 0 → wordsNumber (limitsOf st) w ≡ 0
+      → settingsNumber st ≡ 0 → stateNumber st x ≡ 0 → wordsNumber (knownOf st) w ≡ 0
       → x .done + 1 ≤ 1000000000 → 12 * length (events st w x) ≤ length out → length (x .slots) ≡ 16
       → ByTheRules st w x out (scanOf st w x (length out)) (scanInto st w x out)
   -- P1 to P12
@@ -346,7 +346,7 @@ for hold w = record { hold = hold; words = w }
 
 pub demand-3 : (st : Settings) (x : State) (w : Words) (hold : ℕ) (out : List ℕ)
     -- for every accepted setting, state and row
-    → settingsNumber st ≡ 0 → stateNumber st x ≡ 0 → wordsNumber (limitsOf st) w ≡ 0
+    → settingsNumber st ≡ 0 → stateNumber st x ≡ 0 → wordsNumber (knownOf st) w ≡ 0
     -- and every hold of 1 to 1,000,000 scans ending at or before scan 1,000,000,000
     → 1 ≤ hold → hold ≤ 1000000 → x .done + hold ≤ 1000000000
     -- with room for its records, where r is what stepping those scans singly gives
@@ -375,7 +375,7 @@ pub demand-3 : (st : Settings) (x : State) (w : Words) (hold : ℕ) (out : List 
 unfolding run
 demand-3 st x w hold out right state words some most scans fits =
     let row = for hold w in
-    let ok = row-accepted (limitsOf st) w hold words some most in
+    let ok = row-accepted (knownOf st) w hold words some most in
     let e = block.one-stroke-is-single-scans st row x right state ok scans out fits in
     let few = block.live-at-most-twice-the-effects st row x right state ok scans in
     rw (e .0, e .1) (
@@ -396,8 +396,8 @@ demand-3 st x w hold out right state words some most scans fits =
 -- the stroke itself: rounds, at most as many as twice the effects and one, each a scan by the rules and then all scans before the next
 -- live one or the end, come to those single scans
 pub one-stroke-is-by-rounds : (st : Settings) (x : State) (w : Words) (hold : ℕ)
-    → settingsNumber st ≡ 0 → stateNumber st x ≡ 0 → wordsNumber (limitsOf st) w ≡ 0 → 1 ≤ hold → hold ≤ 1000000 → x .done + hold ≤ 1000000000
+    → settingsNumber st ≡ 0 → stateNumber st x ≡ 0 → wordsNumber (knownOf st) w ≡ 0 → 1 ≤ hold → hold ≤ 1000000 → x .done + hold ≤ 1000000000
     → byRounds (2 * st .count + 1) (signals st w) hold (startRun (x .done) (x .next) (x .slots)) ≡ runOf (stepped st w hold (start x))
 unfolding run
 one-stroke-is-by-rounds st x w hold right state words some most scans =
-    block.rounds-suffice st (for hold w) x right state (row-accepted (limitsOf st) w hold words some most) scans
+    block.rounds-suffice st (for hold w) x right state (row-accepted (knownOf st) w hold words some most) scans

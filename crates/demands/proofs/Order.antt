@@ -12,10 +12,10 @@ use Rattle.bits.specs.Words.{bitOf}
 use Rattle.settings.specs.declared.Settings.{Settings}
 use Rattle.settings.specs.declared.Words.{Words}
 use Rattle.settings.specs.declared.Row.{Row}
-use Rattle.settings.specs.declared.Limits.{Limits}
+use Rattle.settings.specs.declared.Known.{Known}
 use Rattle.settings.specs.Limits.{mostHold, mostScans}
 use Rattle.settings.specs.Refusals.{unless, orElse, granted, roomNumber}
-use Rattle.settings.specs.Right.{blockOk, countOk, slotOk, limitsOf, settingsNumber, wordsOk, apart, several, wordsNumber, rowNumber}
+use Rattle.settings.specs.Right.{blockOk, countOk, slotOk, knownOf, settingsNumber, wordsOk, apart, several, wordsNumber, rowNumber}
 use Rattle.block.specs.declared.State.{State}
 use Rattle.block.specs.State.{stateOk, stateNumber}
 use Rattle.block.specs.Scan.{scansNumber, inputNumber, once, events, scanNumber}
@@ -99,7 +99,7 @@ piece-in-order n piece out cs t = record { first = written-number n piece (lengt
 pub settings-in-order : (st : Settings) → Table (settingsNumber st) (settingsCases st)
 unfolding settingsNumber
 settings-in-order st =
-    then (check (blockOk (st .causes) (st .options) (st .period)) 1) (check (countOk (st .count) && allFrom (slotOk (limitsOf st)) 0 (st .effects)) 2)
+    then (check (blockOk (st .causes) (st .options) (st .period)) 1) (check (countOk (st .count) && allFrom (slotOk (knownOf st)) 0 (st .effects)) 2)
 
 several-case : (bit2 many : Bool) → Table (unless (bit2 || not many) 6) (6 when (many && not bit2) ∷ [])
 several-case true true = check true 5
@@ -107,11 +107,11 @@ several-case true false = check true 5
 several-case false true = check false 5
 several-case false false = check true 5
 
-pub words-in-order : (k : Limits) (w : Words) → Table (wordsNumber k w) (wordsCases k w)
+pub words-in-order : (k : Known) (w : Words) → Table (wordsNumber k w) (wordsCases k w)
 unfolding wordsNumber
 words-in-order k w = then (check (wordsOk k w) 3) (then (check (apart w) 4) (several-case (bitOf (k .options) 2) (several w)))
 
-pub row-in-order : (k : Limits) (row : Row) → Table (rowNumber k row) (rowCases k row)
+pub row-in-order : (k : Known) (row : Row) → Table (rowNumber k row) (rowCases k row)
 unfolding rowNumber
 row-in-order k row = then (check (leb 1 (row .hold) && leb (row .hold) mostHold) 3) (words-in-order k (row .words))
 
@@ -126,10 +126,10 @@ scans-in-order x row = beyond (x .done + row .hold) mostScans 8
 
 -- the input, and then the room for so many bytes
 run-in-order : (st : Settings) (row : Row) (x : State) (due room : ℕ) → Table (orElse (inputNumber st x row) (roomNumber due room))
-    (settingsCases st ++ stateCases st x ++ rowCases (limitsOf st) row ++ scansCases x row ++ roomCases due room)
+    (settingsCases st ++ stateCases st x ++ rowCases (knownOf st) row ++ scansCases x row ++ roomCases due room)
 unfolding inputNumber
 run-in-order st row x due room =
-    then (then (settings-in-order st) (then (state-in-order st x) (then (row-in-order (limitsOf st) row) (scans-in-order x row)))) (beyond due room 9)
+    then (then (settings-in-order st) (then (state-in-order st x) (then (row-in-order (knownOf st) row) (scans-in-order x row)))) (beyond due room 9)
 
 pub held-in-order : (st : Settings) (row : Row) (x : State) (room : ℕ) → Table (heldNumber st row x room) (heldCases st row x room)
 unfolding heldNumber
@@ -147,4 +147,4 @@ opening-in-order st rows room = then (then (settings-in-order st) (check (sectio
 pub row-piece-in-order : (st : Settings) (row : Row) (room : ℕ)
     → Table (orElse (rowPieceNumber st row) (roomNumber (length (putRow row)) room)) (rowPieceCases st row room)
 unfolding rowPieceNumber
-row-piece-in-order st row room = then (then (settings-in-order st) (row-in-order (limitsOf st) row)) (beyond (length (putRow row)) room 9)
+row-piece-in-order st row room = then (then (settings-in-order st) (row-in-order (knownOf st) row)) (beyond (length (putRow row)) room 9)

@@ -12,11 +12,11 @@ use Rattle.rules.specs.Signals.{Signals}
 use Rattle.rules.specs.Rules.{noSlot, noSignals, next, isLatent}
 use Rattle.effects.specs.Scan.{latentWord}
 use Rattle.effects.proofs.Laws.{step-at, step-past}
-use Rattle.settings.specs.declared.Limits.{Limits}
+use Rattle.settings.specs.declared.Known.{Known}
 use Rattle.settings.specs.declared.Settings.{Settings}
 use Rattle.settings.specs.declared.Words.{Words}
 use Rattle.settings.specs.Limits.{mostHold, mostScans}
-use Rattle.settings.specs.Right.{limitsOf, settingsNumber, wordsNumber, rowNumber}
+use Rattle.settings.specs.Right.{knownOf, settingsNumber, wordsNumber, rowNumber}
 use Rattle.settings.specs.Signals.{signals, signalsOf}
 use Rattle.settings.proofs.Answers.{granted-in-room}
 use Rattle.block.specs.declared.State.{State}
@@ -53,13 +53,13 @@ module _ (st : Settings) (w : Words) where
   latent-inside = subst (λ (n : ℕ). latentWord ss < 2 ^ n) count (wordOf-lt (λ j. isLatent (getD ss j noSignals)) (length ss))
 
 -- a scan of what is right, with room for its records, is granted
-pub scan-granted : (st : Settings) (w : Words) (x : State) (out : List ℕ) → settingsNumber st ≡ 0 → stateNumber st x ≡ 0 → wordsNumber (limitsOf st) w ≡ 0
+pub scan-granted : (st : Settings) (w : Words) (x : State) (out : List ℕ) → settingsNumber st ≡ 0 → stateNumber st x ≡ 0 → wordsNumber (knownOf st) w ≡ 0
     → x .done + 1 ≤ mostScans → 12 * length (events st w x) ≤ length out
     → (scanOf st w x (length out) ≡ grantedScan st w x) × (scanInto st w x out ≡ atFront (events st w x) out)
 unfolding scanOf scanInto scanNumber
 scan-granted st w x out right state words scans fits =
     let due = 12 * length (events st w x) in
-    let none = right-input-is-accepted st (once w) x right state (once-right (limitsOf st) w words) scans in (
+    let none = right-input-is-accepted st (once w) x right state (once-right (knownOf st) w words) scans in (
       sym (granted-in-room (inputNumber st x (once w)) due (length out) 0 (sym none) (grantedScan st w x) (refusedScan x) refl fits),
       sym (granted-in-room (inputNumber st x (once w)) due (length out) 0 (sym none) (atFront (events st w x) out) (λ n. out) refl fits),
     )
@@ -67,7 +67,7 @@ scan-granted st w x out right state words scans fits =
 -- ## Many scans
 
 -- right words with a hold of 1 to 1,000,000 are a right row
-pub row-accepted : (k : Limits) (w : Words) (hold : ℕ) → wordsNumber k w ≡ 0 → 1 ≤ hold → hold ≤ mostHold → rowNumber k (record { hold = hold; words = w }) ≡ 0
+pub row-accepted : (k : Known) (w : Words) (hold : ℕ) → wordsNumber k w ≡ 0 → 1 ≤ hold → hold ≤ mostHold → rowNumber k (record { hold = hold; words = w }) ≡ 0
 unfolding rowNumber
 row-accepted k w hold words some most = rw (le-leb 1 hold some, le-leb hold mostHold most, words)
 

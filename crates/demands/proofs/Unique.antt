@@ -34,7 +34,7 @@ use Rattle.listing.proofs.has_room.Reads as listing·has-room
 use Rattle.listing.proofs.most_piece.Reads as listing·most-piece
 use Rattle.settings.proofs.Row.most_hold.Reads as settings·most-hold
 use Rattle.settings.proofs.Effect.most_delay.Reads as settings·most-delay
-use Rattle.settings.proofs.limits_of.Reads as settings·limits-of
+use Rattle.settings.proofs.known_of.Reads as settings·known-of
 use Rattle.settings.proofs.block_number.Reads as settings·block-number
 use Rattle.settings.proofs.effect_number.Reads as settings·effect-number
 use Rattle.settings.proofs.settings_number.Reads as settings·settings-number
@@ -127,8 +127,8 @@ settings-most-hold κs = record { nothing-asked = λ a. tt; unique = by-equation
 pub settings-most-delay : (κs : Lfts 0) → OneAnswer (settings·most-delay.Asked κs) (settings·most-delay.Learnt κs) none
 settings-most-delay κs = record { nothing-asked = λ a. tt; unique = by-equation (settings·most-delay.Learnt κs) _ (λ a r e h. h) }
 
-pub settings-limits-of : (κs : Lfts 0) → OneAnswer (settings·limits-of.Asked κs) (settings·limits-of.Learnt κs) none
-settings-limits-of κs = record { nothing-asked = λ a. tt; unique = by-equation (settings·limits-of.Learnt κs) _ (λ a r e h. h) }
+pub settings-known-of : (κs : Lfts 0) → OneAnswer (settings·known-of.Asked κs) (settings·known-of.Learnt κs) none
+settings-known-of κs = record { nothing-asked = λ a. tt; unique = by-equation (settings·known-of.Learnt κs) _ (λ a r e h. h) }
 
 pub settings-block-number : (κs : Lfts 0) → OneAnswer (settings·block-number.Asked κs) (settings·block-number.Learnt κs) none
 settings-block-number κs = record { nothing-asked = λ a. tt; unique = by-equation (settings·block-number.Learnt κs) _ (λ a r e h. h) }

@@ -11,9 +11,9 @@ use Rattle.bits.specs.Words.{bitOf}
 use Rattle.settings.specs.declared.Settings.{Settings}
 use Rattle.settings.specs.declared.Words.{Words}
 use Rattle.settings.specs.declared.Row.{Row}
-use Rattle.settings.specs.declared.Limits.{Limits}
+use Rattle.settings.specs.declared.Known.{Known}
 use Rattle.settings.specs.Limits.{mostHold, mostScans}
-use Rattle.settings.specs.Right.{blockOk, countOk, slotOk, limitsOf, wordsOk, apart, several}
+use Rattle.settings.specs.Right.{blockOk, countOk, slotOk, knownOf, wordsOk, apart, several}
 use Rattle.block.specs.declared.State.{State}
 use Rattle.block.specs.State.{stateOk}
 use Rattle.block.specs.Scan.{once, events}
@@ -49,11 +49,11 @@ pub record InOrder (cases : List Case) (number : ℕ) (refused : Type 0) : Type 
 abbrev pub settingsCases : Settings → List Case
 settingsCases st =
     2 when not (blockOk (st .causes) (st .options) (st .period))
-    ∷ 3 when not (countOk (st .count) && allFrom (slotOk (limitsOf st)) 0 (st .effects))
+    ∷ 3 when not (countOk (st .count) && allFrom (slotOk (knownOf st)) 0 (st .effects))
     ∷ []
 
 -- 4: a row word wrong. 5: one effect in both force words. 6: several forced without option bit 2
-abbrev pub wordsCases : Limits → Words → List Case
+abbrev pub wordsCases : Known → Words → List Case
 wordsCases k w =
     4 when not (wordsOk k w)
     ∷ 5 when not (apart w)
@@ -61,7 +61,7 @@ wordsCases k w =
     ∷ []
 
 -- 4: the hold wrong, before the words
-abbrev pub rowCases : Limits → Row → List Case
+abbrev pub rowCases : Known → Row → List Case
 rowCases k row = 4 when not (leb 1 (row .hold) && leb (row .hold) mostHold) ∷ wordsCases k (row .words)
 
 -- 4: row count wrong
@@ -85,12 +85,12 @@ roomCases needed room = 10 when ltb room needed ∷ []
 -- a held run: settings (2, 3), state (8), row (4, 5, 6), 9, and then 10: room below 12 bytes times the records due
 abbrev pub heldCases : Settings → Row → State → (room : ℕ) → List Case
 heldCases st row x room =
-    settingsCases st ++ stateCases st x ++ rowCases (limitsOf st) row ++ scansCases x row ++ roomCases (12 * length (run st row x .events)) room
+    settingsCases st ++ stateCases st x ++ rowCases (knownOf st) row ++ scansCases x row ++ roomCases (12 * length (run st row x .events)) room
 
 -- a scan: the same, with a hold of 1
 abbrev pub scanCases : Settings → Words → State → (room : ℕ) → List Case
 scanCases st w x room =
-    settingsCases st ++ stateCases st x ++ rowCases (limitsOf st) (once w) ++ scansCases x (once w) ++ roomCases (12 * length (events st w x)) room
+    settingsCases st ++ stateCases st x ++ rowCases (knownOf st) (once w) ++ scansCases x (once w) ++ roomCases (12 * length (events st w x)) room
 
 -- the opening piece: settings, a wrong row count being 4, and last 10: room below the piece
 abbrev pub openingCases : Settings → (rows room : ℕ) → List Case
@@ -98,4 +98,4 @@ openingCases st rows room = settingsCases st ++ countCases rows ++ roomCases (le
 
 -- a row's piece: settings, the row, and last 10: room below the piece
 abbrev pub rowPieceCases : Settings → Row → (room : ℕ) → List Case
-rowPieceCases st row room = settingsCases st ++ rowCases (limitsOf st) row ++ roomCases (length (putRow row)) room
+rowPieceCases st row room = settingsCases st ++ rowCases (knownOf st) row ++ roomCases (length (putRow row)) room

@@ -15,7 +15,7 @@ use lib.Pow.{pow-mono, pow-pos, shr-mod, split}
 use Rattle.bits.specs.Numbers.{Bytes, numAt}
 use Rattle.bits.specs.Words.{bitOf}
 use Rattle.bits.proofs.Numbers.{num-lt, num-parts}
-use Rattle.settings.specs.declared.Limits.{Limits}
+use Rattle.settings.specs.declared.Known.{Known}
 use Rattle.settings.specs.Limits.{mostHold}
 use Rattle.settings.specs.Refusals.{unless, orElse}
 use Rattle.settings.specs.Right.{wordsOk, apart, several, wordsNumber, rowNumber}
@@ -121,7 +121,7 @@ quick bars f g t =
     ((leb 1 (f / 2 ^ 32) && leb (f / 2 ^ 32) mostHold) && eqb (bitOr (bitOr (bitAnd f (bars .first)) (bitAnd g (bars .second))) (bitAnd t (bars .third))) 0)
     && (eqb (bitAnd (t / 65536 % 65536) (t % 65536)) 0 && (bars .several || leb (ones (t % 2 ^ 32)) 1))
 
-module _ (k : Limits) (s : List ℕ) (at : ℕ) (bytes : Bytes s) where
+module _ (k : Known) (s : List ℕ) (at : ℕ) (bytes : Bytes s) where
   abbrev word : ℕ → ℕ
   word o = numAt 2 s (at + o)
 

@@ -7,15 +7,15 @@ use borrow.Author.Tests.{eq-eqb, ne-eqb}
 use lib.ListN.{length}
 use Rattle.bits.specs.Numbers.{numAt}
 use Rattle.settings.specs.declared.Settings.{Settings}
-use Rattle.settings.specs.declared.Limits.{Limits}
-use Rattle.settings.specs.Right.{limitsOf}
+use Rattle.settings.specs.declared.Known.{Known}
+use Rattle.settings.specs.Right.{knownOf}
 use Rattle.recording.specs.declared.Section.{Section}
 use Rattle.recording.specs.declared.Section.the-variants as S
 use Rattle.recording.specs.declared.Answer.the-variants as A
 use Rattle.recording.specs.declared.Reading.{Reading}
 use Rattle.recording.specs.declared.Kind.the-variants.{Block, Effects, Rows}
 use Rattle.recording.specs.Sections.{widthOf, testOf, sectionOf}
-use Rattle.recording.specs.Reader.{fromSection, noLimits, blockLimits, settingsAt, refusal, reading, afterBlock, afterEffects, afterRows}
+use Rattle.recording.specs.Reader.{fromSection, nothingKnown, knownOfBlock, settingsAt, refusal, reading, afterBlock, afterEffects, afterRows}
 use Rattle.recording.proofs.Sections.{Whole, section-next}
 
 -- a section that refuses ends the reading
@@ -24,31 +24,31 @@ from-refused x y f g n p e r = rw (← e, r)
 
 -- ## What each section has shown
 
-pub block-room : (s : List ℕ) (e : ℕ) → sectionOf Block noLimits s 0 ≡ S.Next e → (e ≡ 6) × (6 ≤ length s)
+pub block-room : (s : List ℕ) (e : ℕ) → sectionOf Block nothingKnown s 0 ≡ S.Next e → (e ≡ 6) × (6 ≤ length s)
 block-room s e h =
     let w = section-next _ _ _ _ _ s 0 e h in
     let one : numAt 2 s 0 ≡ 1 = omega (arith, w .least, w .most) in
     let next : e ≡ 6 = rw one at (w .passed .next) in
     (next, omega (arith, w .passed .inside, next))
 
-pub effects-whole : (s : List ℕ) (k : Limits) (e r : ℕ) → sectionOf Effects k s e ≡ S.Next r → Whole (testOf Effects k s) 6 1 16 s e r
+pub effects-whole : (s : List ℕ) (k : Known) (e r : ℕ) → sectionOf Effects k s e ≡ S.Next r → Whole (testOf Effects k s) 6 1 16 s e r
 effects-whole s k e r h = section-next _ _ _ _ _ s e r h
 
-pub rows-whole : (s : List ℕ) (k : Limits) (r end : ℕ) → sectionOf Rows k s r ≡ S.Next end → Whole (testOf Rows k s) 24 1 2048 s r end
+pub rows-whole : (s : List ℕ) (k : Known) (r end : ℕ) → sectionOf Rows k s r ≡ S.Next end → Whole (testOf Rows k s) 24 1 2048 s r end
 rows-whole s k r end h = section-next _ _ _ _ _ s r end h
 
 -- ## The reading, as far as the sections that passed
 
-module _ (s : List ℕ) (e : ℕ) (b : sectionOf Block noLimits s 0 ≡ S.Next e) where
+module _ (s : List ℕ) (e : ℕ) (b : sectionOf Block nothingKnown s 0 ≡ S.Next e) where
   pub read-block : reading s ≡ afterBlock s e
   unfolding reading
   read-block = rw b
 
-  module _ (r : ℕ) (f : sectionOf Effects (blockLimits s) s e ≡ S.Next r) where
+  module _ (r : ℕ) (f : sectionOf Effects (knownOfBlock s) s e ≡ S.Next r) where
     pub read-effects : reading s ≡ afterEffects s e r
     read-effects = read-block ∙ rw f
 
-    pub read-rows : (end : ℕ) → sectionOf Rows (limitsOf (settingsAt s e)) s r ≡ S.Next end → reading s ≡ afterRows s e r end
+    pub read-rows : (end : ℕ) → sectionOf Rows (knownOf (settingsAt s e)) s r ≡ S.Next end → reading s ≡ afterRows s e r end
     read-rows end g = read-effects ∙ rw g
 
 -- ## The answer after the rows

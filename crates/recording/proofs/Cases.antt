@@ -9,7 +9,7 @@ use borrow.Author.Tests.{eqb-true, eqb-false}
 use lib.Dec.{eqb}
 use lib.ListN.{length}
 use Rattle.bits.specs.Numbers.{numAt}
-use Rattle.settings.specs.Right.{limitsOf}
+use Rattle.settings.specs.Right.{knownOf}
 use Rattle.recording.specs.declared.Section.{Section}
 use Rattle.recording.specs.declared.Section.the-variants as S
 use Rattle.recording.specs.declared.Answer.the-variants as A
@@ -17,16 +17,16 @@ use Rattle.recording.specs.declared.Reading.{Reading}
 use Rattle.recording.specs.declared.Kind.the-variants.{Block, Effects, Rows}
 use Rattle.recording.specs.Sections.{widthOf, sectionOf}
 use Rattle.recording.specs.Refused.{ToRows, ToEnd}
-use Rattle.recording.specs.Reader.{fromSection, noLimits, blockLimits, settingsAt, refusal, reading, afterBlock, afterEffects, afterRows}
+use Rattle.recording.specs.Reader.{fromSection, nothingKnown, knownOfBlock, settingsAt, refusal, reading, afterBlock, afterEffects, afterRows}
 
 abbrev pub acceptance : List ℕ → (e r : ℕ) → Reading
 acceptance s e r = record { answer = A.Accepted (numAt 2 s r) (r + 2) (widthOf Rows); settings = settingsAt s e }
 
 -- what holds in each of the five ways holds of the reading
 module _ (s : List ℕ) (P : Reading → Type 0)
-    (block-stops : (k p : ℕ) → sectionOf Block noLimits s 0 ≡ S.Refused k p → P (refusal k p))
-    (effects-stop : (e k p : ℕ) → sectionOf Block noLimits s 0 ≡ S.Next e → sectionOf Effects (blockLimits s) s e ≡ S.Refused k p → P (refusal k p))
-    (rows-stop : (e r k p : ℕ) → ToRows s e r → sectionOf Rows (limitsOf (settingsAt s e)) s r ≡ S.Refused k p → P (refusal k p))
+    (block-stops : (k p : ℕ) → sectionOf Block nothingKnown s 0 ≡ S.Refused k p → P (refusal k p))
+    (effects-stop : (e k p : ℕ) → sectionOf Block nothingKnown s 0 ≡ S.Next e → sectionOf Effects (knownOfBlock s) s e ≡ S.Refused k p → P (refusal k p))
+    (rows-stop : (e r k p : ℕ) → ToRows s e r → sectionOf Rows (knownOf (settingsAt s e)) s r ≡ S.Refused k p → P (refusal k p))
     (spare : (e r end : ℕ) → ToEnd s e r end → (end ≡ length s → ⊥) → P (refusal 7 end))
     (accepts : (e r : ℕ) → ToEnd s e r (length s) → P (acceptance s e r)) where
   at-end : (e r end : ℕ) (d : Bool) → eqb end (length s) ≡ d → ToEnd s e r end → P (afterRows s e r end)
@@ -35,21 +35,21 @@ module _ (s : List ℕ) (P : Reading → Type 0)
       let same = eqb-true end (length s) q in
       rw q (accepts e r (record { before = t .before; rows = t .rows ∙ rw same }))
 
-  at-rows : (e r : ℕ) (x : Section) → sectionOf Rows (limitsOf (settingsAt s e)) s r ≡ x → ToRows s e r → P (fromSection x (afterRows s e r))
+  at-rows : (e r : ℕ) (x : Section) → sectionOf Rows (knownOf (settingsAt s e)) s r ≡ x → ToRows s e r → P (fromSection x (afterRows s e r))
   at-rows e r (S.Refused k p) g t = rows-stop e r k p t g
   at-rows e r (S.Next end) g t = at-end e r end (eqb end (length s)) refl (record { before = t; rows = g })
 
-  at-effects : (e : ℕ) (x : Section) → sectionOf Effects (blockLimits s) s e ≡ x → sectionOf Block noLimits s 0 ≡ S.Next e → P (fromSection x (afterEffects s e))
+  at-effects : (e : ℕ) (x : Section) → sectionOf Effects (knownOfBlock s) s e ≡ x → sectionOf Block nothingKnown s 0 ≡ S.Next e → P (fromSection x (afterEffects s e))
   at-effects e (S.Refused k p) f b = effects-stop e k p b f
-  at-effects e (S.Next r) f b = at-rows e r (sectionOf Rows (limitsOf (settingsAt s e)) s r) refl (record { block = b; effects = f })
+  at-effects e (S.Next r) f b = at-rows e r (sectionOf Rows (knownOf (settingsAt s e)) s r) refl (record { block = b; effects = f })
 
-  at-block : (x : Section) → sectionOf Block noLimits s 0 ≡ x → P (fromSection x (afterBlock s))
+  at-block : (x : Section) → sectionOf Block nothingKnown s 0 ≡ x → P (fromSection x (afterBlock s))
   at-block (S.Refused k p) b = block-stops k p b
-  at-block (S.Next e) b = at-effects e (sectionOf Effects (blockLimits s) s e) refl b
+  at-block (S.Next e) b = at-effects e (sectionOf Effects (knownOfBlock s) s e) refl b
 
   pub reading-cases : P (reading s)
   unfolding reading
-  reading-cases = at-block (sectionOf Block noLimits s 0) refl
+  reading-cases = at-block (sectionOf Block nothingKnown s 0) refl
 
 -- a refusal is not an acceptance
 pub not-accepted : {X : Type 0} (k p n f w : ℕ) → A.Refused k p ≡ A.Accepted n f w → X

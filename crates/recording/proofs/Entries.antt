@@ -15,7 +15,7 @@ use Rattle.bits.specs.Layout.{total, fieldsAt, pack}
 use Rattle.bits.proofs.Numbers.{Fit, pack-fields, fields-pack}
 use Rattle.settings.specs.declared.Effect.{Effect}
 use Rattle.settings.specs.declared.Row.{Row}
-use Rattle.settings.specs.declared.Limits.{Limits}
+use Rattle.settings.specs.declared.Known.{Known}
 use Rattle.settings.specs.Limits.{mostDelay, mostHold}
 use Rattle.settings.specs.Right.{blockOk, effectOk, effectNumber, wordsOk, fieldsNumber, apartNumber, severalNumber, wordsNumber, holdNumber, rowNumber}
 use Rattle.settings.specs.Refusals.{orElse}
@@ -60,8 +60,8 @@ module _ {A : Type 0} (ws : List ℕ) (fields : A → List ℕ) (of : List ℕ �
       ∙ ap of (are (take m s) at ∙ fields-front m ws s at 0 (omega arith) ∙ sym (are s at))
       ∙ back (get s at)
 
--- what is known of the limits once the sections before an entry are right
-pub record Known (k : Limits) : Type 0 where
+-- what holds of the counts once the sections before an entry are right
+pub record Checked (k : Known) : Type 0 where
   pub causes : k .causes ≤ 16
   pub count : k .count ≤ 16
 
@@ -99,9 +99,9 @@ ofEffect : List ℕ → Effect
 ofEffect vs = record { association = getD vs 0 0; delay = getD vs 1 0 }
 
 effect-fit : (causes : ℕ) → causes ≤ 16 → (e : Effect) → effectNumber causes e ≡ 0 → Fit effectLayout (effectFields e)
-effect-fit causes known e h =
+effect-fit causes checked e h =
     let ok : effectOk causes e ≡ true = unless-none _ 2 h in
-    let a = word-fits causes (e .association) known (search (and-left, and-right)) in
+    let a = word-fits causes (e .association) checked (search (and-left, and-right)) in
     let d = leb-true (e .delay) mostDelay (search (and-left, and-right)) in
     (a, (omega (arith, d), tt))
 
@@ -111,7 +111,7 @@ effect-front = layout-front effectLayout effectFields ofEffect effectAt (λ a. r
 
 pub effect-codec : (causes : ℕ) → causes ≤ 16 → Codec Effect 6 effectAt putEffect (effectNumber causes)
 unfolding effectAt ofEffect putEffect
-effect-codec causes known = of-layout effectLayout effectFields ofEffect effectAt (effectNumber causes) (λ a. refl) (λ a. refl) (λ s at. rw (add-zero at)) (effect-fit causes known)
+effect-codec causes checked = of-layout effectLayout effectFields ofEffect effectAt (effectNumber causes) (λ a. refl) (λ a. refl) (λ s at. rw (add-zero at)) (effect-fit causes checked)
 
 -- ## A row
 
@@ -133,31 +133,31 @@ ofRow vs =
       };
     }
 
-row-hold : (k : Limits) (r : Row) → rowNumber k r ≡ 0 → r .hold ≤ mostHold
+row-hold : (k : Known) (r : Row) → rowNumber k r ≡ 0 → r .hold ≤ mostHold
 unfolding rowNumber
 row-hold k r h =
     leb-true (r .hold) mostHold (and-right (leb 1 (r .hold)) _ (unless-none _ 3 (or-else-none (holdNumber (r .hold)) (wordsNumber k (r .words)) h .0)))
 
-row-words : (k : Limits) (r : Row) → rowNumber k r ≡ 0 → wordsOk k (r .words) ≡ true
+row-words : (k : Known) (r : Row) → rowNumber k r ≡ 0 → wordsOk k (r .words) ≡ true
 unfolding rowNumber wordsNumber
 row-words k r h =
     let w = r .words in
     let words = or-else-none (holdNumber (r .hold)) (wordsNumber k w) h .1 in
     unless-none _ 3 (or-else-none (fieldsNumber k w) (orElse (apartNumber w) (severalNumber k w)) words .0)
 
-row-fit : (k : Limits) → Known k → (r : Row) → rowNumber k r ≡ 0 → Fit rowLayout (rowFields r)
-row-fit k known r h =
+row-fit : (k : Known) → Checked k → (r : Row) → rowNumber k r ≡ 0 → Fit rowLayout (rowFields r)
+row-fit k checked r h =
     let ok = row-words k r h in
     let w = r .words in
     let permit = leb-true (w .«force_permit») 1 (search (and-left, and-right) depth 12) in
-    let cause : (x : ℕ) → ltb x (2 ^ k .causes) ≡ true → x < 65536 = λ x t. word-fits (k .causes) x (known .causes) t in
-    let effect : (x : ℕ) → ltb x (2 ^ k .count) ≡ true → x < 65536 = λ x t. word-fits (k .count) x (known .count) t in
+    let cause : (x : ℕ) → ltb x (2 ^ k .causes) ≡ true → x < 65536 = λ x t. word-fits (k .causes) x (checked .causes) t in
+    let effect : (x : ℕ) → ltb x (2 ^ k .count) ≡ true → x < 65536 = λ x t. word-fits (k .count) x (checked .count) t in
     (omega (arith, row-hold k r h), (cause (w .values) (search (and-left, and-right) depth 12), (cause (w .bad) (search (and-left, and-right) depth 12), (cause (w .mask) (search (and-left, and-right) depth 12), (effect (w .«require_reset») (search (and-left, and-right) depth 12), (effect (w .«reset_permit») (search (and-left, and-right) depth 12), (effect (w .«start_permit») (search (and-left, and-right) depth 12), (effect (w .reset) (search (and-left, and-right) depth 12), (omega (arith, permit), (effect (w .«force_trip») (search (and-left, and-right) depth 12), (effect (w .«force_normal») (search (and-left, and-right) depth 12), tt)))))))))))
 
 pub row-front : (m : ℕ) (s : List ℕ) (at : ℕ) → at + 24 ≤ m → rowAt (take m s) at ≡ rowAt s at
 unfolding rowAt wordsAt ofRow
 row-front = layout-front rowLayout rowFields ofRow rowAt (λ a. refl) (λ s at. simp (add-zero, add-assoc))
 
-pub row-codec : (k : Limits) → Known k → Codec Row 24 rowAt putRow (rowNumber k)
+pub row-codec : (k : Known) → Checked k → Codec Row 24 rowAt putRow (rowNumber k)
 unfolding rowAt wordsAt ofRow putRow
-row-codec k known = of-layout rowLayout rowFields ofRow rowAt (rowNumber k) (λ a. refl) (λ a. refl) (λ s at. simp (add-zero, add-assoc)) (row-fit k known)
+row-codec k checked = of-layout rowLayout rowFields ofRow rowAt (rowNumber k) (λ a. refl) (λ a. refl) (λ s at. simp (add-zero, add-assoc)) (row-fit k checked)

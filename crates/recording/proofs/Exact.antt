@@ -9,9 +9,9 @@ use lib.Seq.{take-at, take-add}
 use Rattle.bits.specs.Numbers.{Bytes, numAt}
 use Rattle.settings.specs.declared.Effect.{Effect}
 use Rattle.settings.specs.declared.Row.{Row}
-use Rattle.settings.specs.declared.Limits.{Limits}
+use Rattle.settings.specs.declared.Known.{Known}
 use Rattle.settings.specs.declared.Settings.{Settings}
-use Rattle.settings.specs.Right.{limitsOf, effectNumber, rowNumber}
+use Rattle.settings.specs.Right.{knownOf, effectNumber, rowNumber}
 use Rattle.settings.specs.Signals.{noEffect}
 use Rattle.recording.specs.declared.Section.{Section}
 use Rattle.recording.specs.declared.Section.the-variants as S
@@ -19,13 +19,13 @@ use Rattle.recording.specs.declared.Answer.the-variants as A
 use Rattle.recording.specs.declared.Kind.the-variants.{Block, Effects, Rows}
 use Rattle.recording.specs.Entries.{BlockEntry, blockAt, blockCheck, effectAt, rowAt, listOf, putBlock, putEffect, putRow}
 use Rattle.recording.specs.Sections.{sectionOf}
-use Rattle.recording.specs.Reader.{noLimits, blockLimits, settingsAt, refusal, reading, afterRows}
+use Rattle.recording.specs.Reader.{nothingKnown, knownOfBlock, settingsAt, refusal, reading, afterRows}
 use Rattle.recording.specs.Refused.{ToEnd}
 use Rattle.recording.specs.Encode.{blockOf, effectsOf, counted, encode, All, Right}
 use Rattle.recording.proofs.Lists.{length-listOf}
 use Rattle.recording.proofs.Sections.{Whole, section-next, section-pass}
 use Rattle.recording.proofs.Codec.{Codec, Back, section-back, section-bytes, all-list, length-counted}
-use Rattle.recording.proofs.Entries.{Known, block-causes, block-codec, effect-codec, row-codec}
+use Rattle.recording.proofs.Entries.{Checked, block-causes, block-codec, effect-codec, row-codec}
 use Rattle.recording.proofs.Right.{Parts, in-parts, of-parts}
 use Rattle.recording.proofs.Between.{read-rows, accepted, left-over}
 
@@ -35,8 +35,8 @@ blockBytes st = counted putBlock (blockOf st ∷ [])
 abbrev effectBytes : Settings → List ℕ
 effectBytes st = counted putEffect (effectsOf st)
 
-known-of : (st : Settings) → Parts st → Known (limitsOf st)
-known-of st p = record { causes = block-causes (blockOf st) (p .block); count = p .most }
+checked-of : (st : Settings) → Parts st → Checked (knownOf st)
+checked-of st p = record { causes = block-causes (blockOf st) (p .block); count = p .most }
 
 -- ## What is written is read back
 
@@ -44,14 +44,14 @@ module _ (st : Settings) (rows : List Row) (right : Right st rows) where
   parts : Parts st
   parts = in-parts st (right .slots) (right .settings)
 
-  known : Known (limitsOf st)
-  known = known-of st parts
+  checked : Checked (knownOf st)
+  checked = checked-of st parts
 
   effects-are : Codec Effect 6 effectAt putEffect (effectNumber (st .causes))
-  effects-are = effect-codec (st .causes) (known .causes)
+  effects-are = effect-codec (st .causes) (checked .causes)
 
-  rows-are : Codec Row 24 rowAt putRow (rowNumber (limitsOf st))
-  rows-are = row-codec (limitsOf st) known
+  rows-are : Codec Row 24 rowAt putRow (rowNumber (knownOf st))
+  rows-are = row-codec (knownOf st) checked
 
   length-effectsOf : length (effectsOf st) ≡ st .count
   length-effectsOf = length-take (st .count) (st .effects) ∙ omega (arith, right .slots, parts .most)
@@ -69,7 +69,7 @@ module _ (st : Settings) (rows : List Row) (right : Right st rows) where
   unfolding encode
   length-encode =
       length-append (blockBytes st) (effectBytes st ++ counted putRow rows)
-      ∙ omega (arith, length-append (effectBytes st) (counted putRow rows), length-block, length-effects, length-counted 24 rowAt putRow (rowNumber (limitsOf st)) rows-are rows)
+      ∙ omega (arith, length-append (effectBytes st) (counted putRow rows), length-block, length-effects, length-counted 24 rowAt putRow (rowNumber (knownOf st)) rows-are rows)
 
   -- the three sections of an encoding that stands before q, read back
   module _ (q : List ℕ) where
@@ -94,12 +94,12 @@ module _ (st : Settings) (rows : List Row) (right : Right st rows) where
         (section-back 6 effectAt putEffect (effectNumber (st .causes)) effects-are (effectsOf st) (blockBytes st) (counted putRow rows ++ q) 1 16 6
         (sym length-block) (parts .effects) (omega (arith, length-effectsOf, parts .least)) (omega (arith, length-effectsOf, parts .most)) (omega arith))
 
-    rows-back : Back 24 rowAt putRow (rowNumber (limitsOf st)) rows-are s 1 2048 rowsPlace rows
+    rows-back : Back 24 rowAt putRow (rowNumber (knownOf st)) rows-are s 1 2048 rowsPlace rows
     rows-back =
         let front = blockBytes st ++ effectBytes st in
         let same : s ≡ front ++ (counted putRow rows ++ q) = in-sections ∙ sym (append-assoc (blockBytes st) (effectBytes st) (counted putRow rows ++ q)) in
-        subst (λ (l : List ℕ). Back 24 rowAt putRow (rowNumber (limitsOf st)) rows-are l 1 2048 rowsPlace rows) (sym same)
-        (section-back 24 rowAt putRow (rowNumber (limitsOf st)) rows-are rows front q 1 2048 rowsPlace
+        subst (λ (l : List ℕ). Back 24 rowAt putRow (rowNumber (knownOf st)) rows-are l 1 2048 rowsPlace rows) (sym same)
+        (section-back 24 rowAt putRow (rowNumber (knownOf st)) rows-are rows front q 1 2048 rowsPlace
         (omega (arith, length-append (blockBytes st) (effectBytes st), length-block, length-effects)) (right .each-row) (right .rows-least) (right .rows-most) (omega arith))
 
     at-block : blockAt s 2 ≡ blockOf st
@@ -115,21 +115,21 @@ module _ (st : Settings) (rows : List Row) (right : Right st rows) where
         in
         λ i. record { causes = at-block i .causes; options = at-block i .options; period = at-block i .period; count = at-count i; effects = list i }
 
-    block-section : sectionOf Block noLimits s 0 ≡ S.Next 6
+    block-section : sectionOf Block nothingKnown s 0 ≡ S.Next 6
     block-section = section-pass _ 4 1 1 2 s 0 6 (block-back .whole)
 
-    effects-section : sectionOf Effects (blockLimits s) s 6 ≡ S.Next rowsPlace
+    effects-section : sectionOf Effects (knownOfBlock s) s 6 ≡ S.Next rowsPlace
     effects-section =
-        let limits : blockLimits s ≡ record { causes = st .causes; count = 0; options = st .options } =
+        let known : knownOfBlock s ≡ record { causes = st .causes; count = 0; options = st .options } =
         λ i. record { causes = at-block i .causes; count = 0; options = at-block i .options }
         in
         let place : 6 + 2 + 6 * length (effectsOf st) ≡ rowsPlace = omega (arith, length-effectsOf) in
-        ap (λ (k : Limits). sectionOf Effects k s 6) limits ∙ section-pass _ 6 1 16 3 s 6 _ (effects-back .whole) ∙ ap {B = Section} (λ n. S.Next n) place
+        ap (λ (k : Known). sectionOf Effects k s 6) known ∙ section-pass _ 6 1 16 3 s 6 _ (effects-back .whole) ∙ ap {B = Section} (λ n. S.Next n) place
 
-    rows-section : sectionOf Rows (limitsOf (settingsAt s 6)) s rowsPlace ≡ S.Next (length (encode st rows))
+    rows-section : sectionOf Rows (knownOf (settingsAt s 6)) s rowsPlace ≡ S.Next (length (encode st rows))
     rows-section =
         let end : rowsPlace + 2 + 24 * length rows ≡ length (encode st rows) = omega (arith, length-encode) in
-        ap (λ (z : Settings). sectionOf Rows (limitsOf z) s rowsPlace) settings-back ∙ section-pass _ 24 1 2048 4 s rowsPlace _ (rows-back .whole)
+        ap (λ (z : Settings). sectionOf Rows (knownOf z) s rowsPlace) settings-back ∙ section-pass _ 24 1 2048 4 s rowsPlace _ (rows-back .whole)
         ∙ ap {B = Section} (λ n. S.Next n) end
 
     all-pass : reading s ≡ afterRows s 6 rowsPlace (length (encode st rows))
@@ -178,20 +178,20 @@ module _ (s : List ℕ) (e r end : ℕ) (t : ToEnd s e r end) where
   effects-whole : Whole (λ i. effectNumber (st .causes) (effectAt s i)) 6 1 16 s e r
   effects-whole = section-next _ 6 1 16 3 s e r (t .before .effects)
 
-  rows-whole : Whole (λ i. rowNumber (limitsOf st) (rowAt s i)) 24 1 2048 s r end
+  rows-whole : Whole (λ i. rowNumber (knownOf st) (rowAt s i)) 24 1 2048 s r end
   rows-whole = section-next _ 24 1 2048 4 s r end (t .rows)
 
   block-right : blockCheck (blockOf st) ≡ 0
   block-right = block-whole .passed .right 0 (block-whole .least)
 
-  limits-known : Known (limitsOf st)
-  limits-known = record { causes = block-causes (blockOf st) block-right; count = effects-whole .most }
+  settings-checked : Checked (knownOf st)
+  settings-checked = record { causes = block-causes (blockOf st) block-right; count = effects-whole .most }
 
   effects-codec : Codec Effect 6 effectAt putEffect (effectNumber (st .causes))
-  effects-codec = effect-codec (st .causes) (limits-known .causes)
+  effects-codec = effect-codec (st .causes) (settings-checked .causes)
 
-  rows-codec : Codec Row 24 rowAt putRow (rowNumber (limitsOf st))
-  rows-codec = row-codec (limitsOf st) limits-known
+  rows-codec : Codec Row 24 rowAt putRow (rowNumber (knownOf st))
+  rows-codec = row-codec (knownOf st) settings-checked
 
   listed : effectsOf st ≡ listOf (effectAt s) 6 (st .count) (e + 2)
   listed = take-at (listOf (effectAt s) 6 (st .count) (e + 2)) (replicate (16 - st .count) noEffect) (st .count) (length-listOf (effectAt s) 6 (st .count) (e + 2))
@@ -221,7 +221,7 @@ module _ (s : List ℕ) (e r end : ℕ) (t : ToEnd s e r end) where
         slots = sixteen;
         rows-least = omega (arith, len, rows-whole .least);
         rows-most = omega (arith, len, rows-whole .most);
-        each-row = all-list 24 rowAt putRow (rowNumber (limitsOf st)) rows-codec s (numAt 2 s r) (r + 2) (rows-whole .passed .right);
+        each-row = all-list 24 rowAt putRow (rowNumber (knownOf st)) rows-codec s (numAt 2 s r) (r + 2) (rows-whole .passed .right);
       }
 
   pub within : end ≤ length s
@@ -238,7 +238,7 @@ module _ (s : List ℕ) (e r end : ℕ) (t : ToEnd s e r end) where
         ap (counted putEffect) listed ∙ section-bytes 6 effectAt putEffect (effectNumber (st .causes)) effects-codec s 1 16 e r bytes effects-whole
 
     row-bytes : counted putRow (rowsAt s r) ≡ take (end - r) (drop r s)
-    row-bytes = section-bytes 24 rowAt putRow (rowNumber (limitsOf st)) rows-codec s 1 2048 r end bytes rows-whole
+    row-bytes = section-bytes 24 rowAt putRow (rowNumber (knownOf st)) rows-codec s 1 2048 r end bytes rows-whole
 
     -- and their encoding is the bytes through the rows' end
     pub encoded-at : encode st (rowsAt s r) ≡ take end s

@@ -11,14 +11,14 @@ use lib.Dec.{leb}
 use lib.ListN.{length, take}
 use lib.Seq.{length-take-le}
 use Rattle.bits.specs.Numbers.{numAt}
-use Rattle.settings.specs.declared.Limits.{Limits}
-use Rattle.settings.specs.Right.{limitsOf, effectNumber, rowNumber}
+use Rattle.settings.specs.declared.Known.{Known}
+use Rattle.settings.specs.Right.{knownOf, effectNumber, rowNumber}
 use Rattle.recording.specs.declared.Section.the-variants as S
 use Rattle.recording.specs.declared.Kind.{Kind}
 use Rattle.recording.specs.declared.Kind.the-variants.{Block, Effects, Rows}
 use Rattle.recording.specs.Entries.{blockCheck}
 use Rattle.recording.specs.Sections.{entries, widthOf, leastOf, mostOf, countOk, testOf, sectionOf}
-use Rattle.recording.specs.Reader.{noLimits, blockLimits, settingsAt, reading}
+use Rattle.recording.specs.Reader.{nothingKnown, knownOfBlock, settingsAt, reading}
 use Rattle.bits.proofs.Lists.{and-right}
 use Rattle.recording.proofs.Sections.{section-count, section-entries}
 use Rattle.recording.proofs.Entries.{num-front, block-front, effect-front, row-front}
@@ -35,13 +35,13 @@ entries-front test test′ w len len′ m (suc n) at f h h′ l =
     let here : at + w ≤ m = omega (arith, e) in
     rw (le-leb (at + w) len (omega (arith, here)), le-leb (at + w) len′ (omega (arith, here)), f at here, entries-front test test′ w len len′ m n (at + w) f h h′ (omega (arith, e)))
 
-test-front : (kind : Kind) (k : Limits) (m : ℕ) (s : List ℕ) (at : ℕ) → at + widthOf kind ≤ m → testOf kind k s at ≡ testOf kind k (take m s) at
+test-front : (kind : Kind) (k : Known) (m : ℕ) (s : List ℕ) (at : ℕ) → at + widthOf kind ≤ m → testOf kind k s at ≡ testOf kind k (take m s) at
 test-front Block k m s at h = ap blockCheck (sym (block-front m s at h))
 test-front Effects k m s at h = ap (effectNumber (k .causes)) (sym (effect-front m s at h))
 test-front Rows k m s at h = ap (rowNumber k) (sym (row-front m s at h))
 
 -- a section whose longest form ends by m
-module _ (kind : Kind) (k : Limits) (m : ℕ) (s : List ℕ) (at : ℕ) (long : m ≤ length s) (ends : at + 2 + widthOf kind * mostOf kind ≤ m) where
+module _ (kind : Kind) (k : Known) (m : ℕ) (s : List ℕ) (at : ℕ) (long : m ≤ length s) (ends : at + 2 + widthOf kind * mostOf kind ≤ m) where
   count-front : numAt 2 s at ≡ numAt 2 (take m s) at
   count-front = sym (num-front m 2 s at (omega (arith, ends)))
 
@@ -69,38 +69,38 @@ module _ (s : List ℕ) (long : 49258 < length s) where
   abbrev front : List ℕ
   front = take 49259 s
 
-  block-same : sectionOf Block noLimits s 0 ≡ sectionOf Block noLimits front 0
-  block-same = section-front Block noLimits 49259 s 0 long (omega arith)
+  block-same : sectionOf Block nothingKnown s 0 ≡ sectionOf Block nothingKnown front 0
+  block-same = section-front Block nothingKnown 49259 s 0 long (omega arith)
 
-  block-limits-same : blockLimits s ≡ blockLimits front
-  block-limits-same =
+  known-of-block-same : knownOfBlock s ≡ knownOfBlock front
+  known-of-block-same =
       let c = num-front 49259 1 s 2 (omega arith) in
       let o = num-front 49259 1 s 3 (omega arith) in
       λ i. record { causes = sym c i; count = 0; options = sym o i }
 
-  module _ (e : ℕ) (b : sectionOf Block noLimits s 0 ≡ S.Next e) where
+  module _ (e : ℕ) (b : sectionOf Block nothingKnown s 0 ≡ S.Next e) where
     six : e ≡ 6
     six = block-room s e b .0
 
-    effects-same : sectionOf Effects (blockLimits s) s e ≡ sectionOf Effects (blockLimits front) front e
+    effects-same : sectionOf Effects (knownOfBlock s) s e ≡ sectionOf Effects (knownOfBlock front) front e
     effects-same =
-        section-front Effects (blockLimits s) 49259 s e long (omega (arith, six)) ∙ ap (λ (k : Limits). sectionOf Effects k front e) block-limits-same
+        section-front Effects (knownOfBlock s) 49259 s e long (omega (arith, six)) ∙ ap (λ (k : Known). sectionOf Effects k front e) known-of-block-same
 
-    limits-same : limitsOf (settingsAt s e) ≡ limitsOf (settingsAt front e)
-    limits-same =
+    known-same : knownOf (settingsAt s e) ≡ knownOf (settingsAt front e)
+    known-same =
         let n = num-front 49259 2 s e (omega (arith, six)) in
-        λ i. record { causes = block-limits-same i .causes; count = sym n i; options = block-limits-same i .options }
+        λ i. record { causes = known-of-block-same i .causes; count = sym n i; options = known-of-block-same i .options }
 
-    module _ (r : ℕ) (f : sectionOf Effects (blockLimits s) s e ≡ S.Next r) where
+    module _ (r : ℕ) (f : sectionOf Effects (knownOfBlock s) s e ≡ S.Next r) where
       rows-by : r ≤ 104
-      rows-by = let w = effects-whole s (blockLimits s) e r f in omega (arith, six, w .most, w .passed .next)
+      rows-by = let w = effects-whole s (knownOfBlock s) e r f in omega (arith, six, w .most, w .passed .next)
 
-      rows-same : sectionOf Rows (limitsOf (settingsAt s e)) s r ≡ sectionOf Rows (limitsOf (settingsAt front e)) front r
+      rows-same : sectionOf Rows (knownOf (settingsAt s e)) s r ≡ sectionOf Rows (knownOf (settingsAt front e)) front r
       rows-same =
-          section-front Rows (limitsOf (settingsAt s e)) 49259 s r long (omega (arith, rows-by)) ∙ ap (λ (k : Limits). sectionOf Rows k front r) limits-same
+          section-front Rows (knownOf (settingsAt s e)) 49259 s r long (omega (arith, rows-by)) ∙ ap (λ (k : Known). sectionOf Rows k front r) known-same
 
-      end-by : (end : ℕ) → sectionOf Rows (limitsOf (settingsAt s e)) s r ≡ S.Next end → end ≤ 49258
-      end-by end g = let w = rows-whole s (limitsOf (settingsAt s e)) r end g in omega (arith, rows-by, w .most, w .passed .next)
+      end-by : (end : ℕ) → sectionOf Rows (knownOf (settingsAt s e)) s r ≡ S.Next end → end ≤ 49258
+      end-by end g = let w = rows-whole s (knownOf (settingsAt s e)) r end g in omega (arith, rows-by, w .most, w .passed .next)
 
   pub reading-of-front : reading s ≡ reading front
   unfolding reading

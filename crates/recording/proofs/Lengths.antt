@@ -9,8 +9,8 @@ use lib.ListN.{length, replicate, take, length-replicate}
 use Rattle.settings.specs.declared.Settings.{Settings}
 use Rattle.settings.specs.declared.Words.{Words}
 use Rattle.settings.specs.declared.Row.{Row}
-use Rattle.settings.specs.declared.Limits.{Limits}
-use Rattle.settings.specs.Right.{limitsOf, settingsNumber, wordsNumber, rowNumber}
+use Rattle.settings.specs.declared.Known.{Known}
+use Rattle.settings.specs.Right.{knownOf, settingsNumber, wordsNumber, rowNumber}
 use Rattle.settings.specs.Signals.{noEffect}
 use Rattle.recording.specs.Encode.{encode, All, Right}
 use Rattle.recording.proofs.Exact.{length-encode}
@@ -44,7 +44,7 @@ zero-words =
 pub quiet : Row
 quiet = record { hold = 1; words = zero-words }
 
-all-same : (k : Limits) (r : Row) → rowNumber k r ≡ 0 → (n : ℕ) → All (rowNumber k) (replicate n r)
+all-same : (k : Known) (r : Row) → rowNumber k r ≡ 0 → (n : ℕ) → All (rowNumber k) (replicate n r)
 all-same k r h zero = tt
 all-same k r h (suc n) = (h, all-same k r h n)
 
@@ -65,7 +65,7 @@ longest-right =
       slots = refl;
       rows-least = omega (arith, n);
       rows-most = omega (arith, n);
-      each-row = all-same (limitsOf (plain 16)) quiet refl 2048;
+      each-row = all-same (knownOf (plain 16)) quiet refl 2048;
     }
 
 pub longest : Right (plain 16) (replicate 2048 quiet) × (length (encode (plain 16) (replicate 2048 quiet)) ≡ 49258)

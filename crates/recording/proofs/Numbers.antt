@@ -6,10 +6,10 @@ use Prim.Native.Nat.{ℕ, _≤_, _<_}
 use native.Mathlib.Omega.{arith}
 use lib.ListN.{length, take}
 use Rattle.bits.specs.Numbers.{Bytes}
-use Rattle.settings.specs.Right.{limitsOf}
+use Rattle.settings.specs.Right.{knownOf}
 use Rattle.recording.specs.declared.Reading.{Reading}
 use Rattle.recording.specs.declared.Kind.the-variants.{Block, Effects, Rows}
-use Rattle.recording.specs.Reader.{noLimits, blockLimits, settingsAt, refusal, reading}
+use Rattle.recording.specs.Reader.{nothingKnown, knownOfBlock, settingsAt, refusal, reading}
 use Rattle.recording.specs.Answers.{number, place}
 use Rattle.recording.specs.Encode.{encode}
 use Rattle.recording.specs.Refused.{Refused}
@@ -42,9 +42,9 @@ module _ (s : List ℕ) where
   Spare x = number (x .answer) ≡ 7 → (place (x .answer) < length s) × (number (reading (take (place (x .answer)) s) .answer) ≡ 0)
 
   spare-said : Bytes s → (n p : ℕ) → Refused s n p → Spare (refusal n p)
-  spare-said bytes n p (Refused.in-block n′ p′ c) h = not-seven n′ p′ (section-gives Block noLimits s 0 n′ p′ c) h
-  spare-said bytes n p (Refused.in-effects n′ p′ e b c) h = not-seven n′ p′ (section-gives Effects (blockLimits s) s e n′ p′ c) h
-  spare-said bytes n p (Refused.in-rows n′ p′ e r t c) h = not-seven n′ p′ (section-gives Rows (limitsOf (settingsAt s e)) s r n′ p′ c) h
+  spare-said bytes n p (Refused.in-block n′ p′ c) h = not-seven n′ p′ (section-gives Block nothingKnown s 0 n′ p′ c) h
+  spare-said bytes n p (Refused.in-effects n′ p′ e b c) h = not-seven n′ p′ (section-gives Effects (knownOfBlock s) s e n′ p′ c) h
+  spare-said bytes n p (Refused.in-rows n′ p′ e r t c) h = not-seven n′ p′ (section-gives Rows (knownOf (settingsAt s e)) s r n′ p′ c) h
   spare-said bytes n p (Refused.spare e r end t l) h =
       let bs : encode (settingsAt s e) (rowsAt s r) ≡ take end s = encoded-at s e r end t bytes in
       let c = complete (settingsAt s e) (rowsAt s r) (right-at s e r end t) in

@@ -9,7 +9,7 @@ use lib.Dec.{leb, ltb, eqb}
 use lib.ListN.{length, getD}
 use Rattle.bits.specs.Numbers.{numAt}
 use Rattle.settings.specs.declared.Row.{Row}
-use Rattle.settings.specs.Right.{limitsOf}
+use Rattle.settings.specs.Right.{knownOf}
 use Rattle.recording.specs.declared.Reading.{Reading}
 use Rattle.recording.specs.declared.Step.the-variants as T
 use Rattle.recording.specs.Entries.{rowAt}
@@ -49,7 +49,7 @@ module _ (s : List ℕ) where
   place x i = firstRow (x .answer) + rowWidth (x .answer) * i
 
   rows-end : (e r : ℕ) → ToEnd s e r (length s) → length s ≡ r + 2 + 24 * numAt 2 s r
-  rows-end e r t = rows-whole s (limitsOf (settingsAt s e)) r (length s) (t .rows) .passed .next
+  rows-end e r t = rows-whole s (knownOf (settingsAt s e)) r (length s) (t .rows) .passed .next
 
   -- at a row's place the inner function gives what the outer one gives
   abbrev Same : Reading → Type 0

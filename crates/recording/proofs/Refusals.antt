@@ -11,10 +11,10 @@ use lib.Dec.{leb}
 use lib.ListN.{length}
 use Rattle.bits.specs.Numbers.{numAt}
 use Rattle.settings.specs.declared.Row.{Row}
-use Rattle.settings.specs.declared.Limits.{Limits}
+use Rattle.settings.specs.declared.Known.{Known}
 use Rattle.settings.specs.Refusals.{unless, orElse}
 use Rattle.settings.specs.Limits.{mostHold}
-use Rattle.settings.specs.Right.{limitsOf, blockOk, effectOk, holdNumber, wordsOk, fieldsNumber, apart, apartNumber, several, severalNumber, wordsNumber, rowNumber}
+use Rattle.settings.specs.Right.{knownOf, blockOk, effectOk, holdNumber, wordsOk, fieldsNumber, apart, apartNumber, several, severalNumber, wordsNumber, rowNumber}
 use Rattle.bits.specs.Words.{bitOf}
 use Rattle.recording.specs.declared.Section.{Section}
 use Rattle.recording.specs.declared.Section.the-variants as S
@@ -25,7 +25,7 @@ use Rattle.recording.specs.declared.Kind.the-variants.{Block, Effects, R
 use Rattle.recording.specs.Entries.{blockAt, effectAt, rowAt}
 use Rattle.recording.specs.Sections.{entries, section, widthOf, numberOf, countOk, testOf, sectionOf}
 use Rattle.recording.specs.Answers.{sectionNumber, sectionPlace}
-use Rattle.recording.specs.Reader.{noLimits, blockLimits, settingsAt, refusal, reading}
+use Rattle.recording.specs.Reader.{nothingKnown, knownOfBlock, settingsAt, refusal, reading}
 use Rattle.recording.specs.Refused.{Reached, EntryStops, Stops, ToEnd, Refused}
 use Rattle.recording.proofs.Between.{read-block, read-effects, read-rows, rows-whole, left-over}
 use Rattle.recording.proofs.Cases.{reading-cases, acceptance, not-accepted}
@@ -103,7 +103,7 @@ module _ (test : ℕ → ℕ) (w len : ℕ) where
 
 -- ## Sections
 
-module _ (kind : Kind) (k : Limits) (s : List ℕ) (at : ℕ) where
+module _ (kind : Kind) (k : Known) (s : List ℕ) (at : ℕ) where
   in-section : (n p : ℕ) (b : Bool) → leb (at + 2) (length s) ≡ b → (d : Bool) → countOk kind (numAt 2 s at) ≡ d → sectionOf kind k s at ≡ S.Refused n p → Stops kind k s at n p
   unfolding section
   in-section n p false q d r eq =
@@ -152,7 +152,7 @@ or-else-range : (a b : ℕ) → InRange a → InRange b → InRange (orElse a b)
 or-else-range zero b h g = g
 or-else-range (suc a) b h g = h
 
-row-range : (k : Limits) (r : Row) → InRange (rowNumber k r)
+row-range : (k : Known) (r : Row) → InRange (rowNumber k r)
 unfolding rowNumber wordsNumber
 row-range k r =
     let w = r .words in
@@ -163,7 +163,7 @@ row-range k r =
     or-else-range (holdNumber (r .hold)) (wordsNumber k w) hold
     (or-else-range (fieldsNumber k w) (orElse (apartNumber w) (severalNumber k w)) fields (or-else-range (apartNumber w) (severalNumber k w) both many))
 
-test-range : (kind : Kind) (k : Limits) (s : List ℕ) (at : ℕ) → InRange (testOf kind k s at)
+test-range : (kind : Kind) (k : Known) (s : List ℕ) (at : ℕ) → InRange (testOf kind k s at)
 test-range Block k s at = let b = blockAt s at in unless-range (blockOk (b .causes) (b .options) (b .period)) 2 (omega arith) (omega arith)
 test-range Effects k s at = unless-range (effectOk (k .causes) (effectAt s at)) 3 (omega arith) (omega arith)
 test-range Rows k s at = row-range k (rowAt s at)
@@ -181,7 +181,7 @@ not-zero : (n k : ℕ) → InRange n → n ≡ suc k → (2 ≤ suc k) × (suc k
 not-zero n k (inl z) e = absurd (omega (arith, z, e))
 not-zero n k (inr h) e = (omega (arith, h .0, e), omega (arith, h .1, e))
 
-module _ (kind : Kind) (k : Limits) (s : List ℕ) (at : ℕ) where
+module _ (kind : Kind) (k : Known) (s : List ℕ) (at : ℕ) where
   entry-gives : (n p : ℕ) → EntryStops (testOf kind k s) (widthOf kind) (length s) (numAt 2 s at) (at + 2) n p → Given s n p
   entry-gives n p (EntryStops.short i h l) = inl (refl, refl)
   entry-gives n p (EntryStops.wrong i m h l t) = inr (not-zero _ m (test-range kind k s (at + 2 + widthOf kind * i)) t)
@@ -198,10 +198,10 @@ pub said-or-accepted : (s : List ℕ) (P : Reading → Type 0) → ((n p : ℕ) 
     → ((e r : ℕ) → ToEnd s e r (length s) → P (acceptance s e r)) → P (reading s)
 said-or-accepted s P refuses accepts =
     reading-cases s P
-    (λ k p b. refuses k p (Refused.in-block k p (refuses-stops Block noLimits s 0 k p b)))
-    (λ e k p b f. refuses k p (Refused.in-effects k p e b (refuses-stops Effects (blockLimits s) s e k p f)))
-    (λ e r k p t g. refuses k p (Refused.in-rows k p e r t (refuses-stops Rows (limitsOf (settingsAt s e)) s r k p g)))
-    (λ e r end t d. refuses 7 end (Refused.spare e r end t (let i = rows-whole s (limitsOf (settingsAt s e)) r end (t .rows) .passed .inside in omega (arith, i, d))))
+    (λ k p b. refuses k p (Refused.in-block k p (refuses-stops Block nothingKnown s 0 k p b)))
+    (λ e k p b f. refuses k p (Refused.in-effects k p e b (refuses-stops Effects (knownOfBlock s) s e k p f)))
+    (λ e r k p t g. refuses k p (Refused.in-rows k p e r t (refuses-stops Rows (knownOf (settingsAt s e)) s r k p g)))
+    (λ e r end t d. refuses 7 end (Refused.spare e r end t (let i = rows-whole s (knownOf (settingsAt s e)) r end (t .rows) .passed .inside in omega (arith, i, d))))
     accepts
 
 -- a refusal's number and place are those that are said of the bytes
@@ -222,16 +222,16 @@ refused-as-said s n p =
 -- and what is said of the bytes is answered
 pub said-is-refused : (s : List ℕ) (n p : ℕ) → Refused s n p → reading s ≡ refusal n p
 unfolding reading
-said-is-refused s n p (Refused.in-block n′ p′ h) = rw (stops-refuses Block noLimits s 0 n′ p′ h)
-said-is-refused s n p (Refused.in-effects n′ p′ e b h) = read-block s e b ∙ rw (stops-refuses Effects (blockLimits s) s e n′ p′ h)
+said-is-refused s n p (Refused.in-block n′ p′ h) = rw (stops-refuses Block nothingKnown s 0 n′ p′ h)
+said-is-refused s n p (Refused.in-effects n′ p′ e b h) = read-block s e b ∙ rw (stops-refuses Effects (knownOfBlock s) s e n′ p′ h)
 said-is-refused s n p (Refused.in-rows n′ p′ e r t h) =
-    read-effects s e (t .block) r (t .effects) ∙ rw (stops-refuses Rows (limitsOf (settingsAt s e)) s r n′ p′ h)
+    read-effects s e (t .block) r (t .effects) ∙ rw (stops-refuses Rows (knownOf (settingsAt s e)) s r n′ p′ h)
 said-is-refused s n p (Refused.spare e r end t h) =
     read-rows s e (t .before .block) r (t .before .effects) end (t .rows) ∙ sym (left-over s e r end (λ q. omega (arith, q, h)))
 
 -- a file is refused by 1 at its length, by one of 2 to 6, or by 7
 pub file-gives : (s : List ℕ) (n p : ℕ) → Refused s n p → Given s n p ⊎ (n ≡ 7)
-file-gives s n p (Refused.in-block n′ p′ h) = inl (section-gives Block noLimits s 0 n′ p′ h)
-file-gives s n p (Refused.in-effects n′ p′ e b h) = inl (section-gives Effects (blockLimits s) s e n′ p′ h)
-file-gives s n p (Refused.in-rows n′ p′ e r t h) = inl (section-gives Rows (limitsOf (settingsAt s e)) s r n′ p′ h)
+file-gives s n p (Refused.in-block n′ p′ h) = inl (section-gives Block nothingKnown s 0 n′ p′ h)
+file-gives s n p (Refused.in-effects n′ p′ e b h) = inl (section-gives Effects (knownOfBlock s) s e n′ p′ h)
+file-gives s n p (Refused.in-rows n′ p′ e r t h) = inl (section-gives Rows (knownOf (settingsAt s e)) s r n′ p′ h)
 file-gives s n p (Refused.spare e r end t h) = inr refl

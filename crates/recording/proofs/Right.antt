@@ -10,9 +10,9 @@ use lib.ListN.{length, take, replicate}
 use lib.Seq.{take-nil, length-take-le}
 use Rattle.bits.specs.Lists.{allFrom}
 use Rattle.settings.specs.declared.Effect.{Effect}
-use Rattle.settings.specs.declared.Limits.{Limits}
+use Rattle.settings.specs.declared.Known.{Known}
 use Rattle.settings.specs.declared.Settings.{Settings}
-use Rattle.settings.specs.Right.{limitsOf, blockOk, blockNumber, effectOk, effectNumber, countOk, slotOk, effectsNumber, settingsNumber}
+use Rattle.settings.specs.Right.{knownOf, blockOk, blockNumber, effectOk, effectNumber, countOk, slotOk, effectsNumber, settingsNumber}
 use Rattle.settings.specs.Signals.{noEffect}
 use Rattle.settings.proofs.Refusals.{or-else-none, unless-none}
 use Rattle.recording.specs.Entries.{blockCheck}
@@ -21,7 +21,7 @@ use Rattle.bits.proofs.Lists.{and-left, and-right}
 
 -- ## The slots: effects, and nothing after them
 
-module _ (k : Limits) where
+module _ (k : Known) where
   empty-slot : (e : Effect) → (eqb (e .association) 0 && eqb (e .delay) 0) ≡ true → e ≡ noEffect
   empty-slot e h =
       let c = eqb-true (e .association) 0 (and-left (eqb (e .association) 0) (eqb (e .delay) 0) h) in
@@ -81,9 +81,9 @@ module _ (st : Settings) (sixteen : length (st .effects) ≡ 16) where
   in-parts h =
       let n = st .count in
       let both = or-else-none (blockNumber (st .causes) (st .options) (st .period)) (effectsNumber st) h in
-      let tests = unless-none (countOk n && allFrom (slotOk (limitsOf st)) 0 (st .effects)) 2 (both .1) in
-      let count = and-left (countOk n) (allFrom (slotOk (limitsOf st)) 0 (st .effects)) tests in
-      let s = slots-split (limitsOf st) (st .effects) 0 (and-right (countOk n) (allFrom (slotOk (limitsOf st)) 0 (st .effects)) tests) in
+      let tests = unless-none (countOk n && allFrom (slotOk (knownOf st)) 0 (st .effects)) 2 (both .1) in
+      let count = and-left (countOk n) (allFrom (slotOk (knownOf st)) 0 (st .effects)) tests in
+      let s = slots-split (knownOf st) (st .effects) 0 (and-right (countOk n) (allFrom (slotOk (knownOf st)) 0 (st .effects)) tests) in
       let same : n - 0 ≡ n = omega arith in
       record {
         block = both .0;
@@ -98,7 +98,7 @@ module _ (st : Settings) (sixteen : length (st .effects) ≡ 16) where
   of-parts p =
       let n = st .count in
       let len : length (effectsOf st) ≡ n = length-take-le n (st .effects) (omega (arith, sixteen, p .most)) in
-      let s : allFrom (slotOk (limitsOf st)) 0 (st .effects) ≡ true =
-      ap (allFrom (slotOk (limitsOf st)) 0) (p .slots) ∙ slots-join (limitsOf st) (effectsOf st) (16 - n) 0 (omega (arith, len)) (p .effects)
+      let s : allFrom (slotOk (knownOf st)) 0 (st .effects) ≡ true =
+      ap (allFrom (slotOk (knownOf st)) 0) (p .slots) ∙ slots-join (knownOf st) (effectsOf st) (16 - n) 0 (omega (arith, len)) (p .effects)
       in
       rw (unless-none (blockOk (st .causes) (st .options) (st .period)) 1 (p .block), le-leb 1 n (p .least), le-leb n 16 (p .most), s)

@@ -10,7 +10,7 @@ use lib.ListN.{length, getD, take}
 use Rattle.bits.specs.Numbers.{Bytes}
 use Rattle.settings.specs.declared.Row.{Row}
 use Rattle.settings.specs.declared.Settings.{Settings}
-use Rattle.settings.specs.declared.Limits.{Limits}
+use Rattle.settings.specs.declared.Known.{Known}
 use Rattle.recording.specs.declared.Answer.the-variants as A
 use Rattle.recording.specs.declared.Reading.{Reading}
 use Rattle.recording.specs.declared.Kind.{Kind}
@@ -101,11 +101,11 @@ pub said-is-refused : (s : List ℕ) (n p : ℕ) → Refused s n p → (number (
 said-is-refused s n p h = let e = answered s n p h in (ap (λ (x : Reading). number (x .answer)) e, ap (λ (x : Reading). place (x .answer)) e)
 
 -- so it is of each section
-pub section-refused-as-said : (kind : Kind) (k : Limits) (s : List ℕ) (at : ℕ) → let x = sectionOf kind k s at in
+pub section-refused-as-said : (kind : Kind) (k : Known) (s : List ℕ) (at : ℕ) → let x = sectionOf kind k s at in
     (sectionNumber x ≡ 0 → ⊥) → Stops kind k s at (sectionNumber x) (sectionPlace x)
 section-refused-as-said kind k s at h = section-said kind k s at h
 
-pub section-said-is-refused : (kind : Kind) (k : Limits) (s : List ℕ) (at n p : ℕ) → Stops kind k s at n p → let x = sectionOf kind k s at in
+pub section-said-is-refused : (kind : Kind) (k : Known) (s : List ℕ) (at n p : ℕ) → Stops kind k s at n p → let x = sectionOf kind k s at in
     (sectionNumber x ≡ n) × (sectionPlace x ≡ p)
 section-said-is-refused kind k s at n p h = let e = stops-refuses kind k s at n p h in (ap sectionNumber e, ap sectionPlace e)
 

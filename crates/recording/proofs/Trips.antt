@@ -13,7 +13,7 @@ use Rattle.settings.specs.declared.Settings.{Settings}
 use Rattle.recording.specs.declared.Answer.the-variants as A
 use Rattle.recording.specs.declared.Reading.{Reading}
 use Rattle.recording.specs.Entries.{rowAt, putRow}
-use Rattle.recording.specs.Reader.{blockLimits, reading}
+use Rattle.recording.specs.Reader.{knownOfBlock, reading}
 use Rattle.recording.specs.Answers.{number, rowCount, firstRow, rowWidth}
 use Rattle.recording.specs.Steps.{rowsIn, rowsOf}
 use Rattle.recording.specs.Encode.{encode, opening, Right}
@@ -57,7 +57,7 @@ accepted-case s = when-accepted s (λ x. x .answer ≡ A.Accepted (rowCount (x .
 pub first-row-place : (s : List ℕ) → number (reading s .answer) ≡ 0 → firstRow (reading s .answer) ≡ 10 + 6 * reading s .settings .count
 first-row-place s =
     when-accepted s (λ x. firstRow (x .answer) ≡ 10 + 6 * x .settings .count)
-    (λ e r t. omega (arith, block-room s e (t .before .block) .0, effects-whole s (blockLimits s) e r (t .before .effects) .passed .next))
+    (λ e r t. omega (arith, block-room s e (t .before .block) .0, effects-whole s (knownOfBlock s) e r (t .before .effects) .passed .next))
 
 -- the count that is answered is the number of the rows
 pub length-rowsOf : (s : List ℕ) → length (rowsOf s) ≡ rowCount (reading s .answer)

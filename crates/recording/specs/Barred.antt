@@ -3,7 +3,7 @@
 use Prim.Native.Nat.{ℕ, _+_, _*_, _-_, _^_, _≤_}
 use mathlib.Core.Path.{_≡_}
 use Rattle.bits.specs.Words.{bitOf}
-use Rattle.settings.specs.declared.Limits.{Limits}
+use Rattle.settings.specs.declared.Known.{Known}
 use Rattle.recording.specs.declared.quick.Bars.{Bars}
 use Rattle.recording.specs.Sections.{entries}
 
@@ -16,7 +16,7 @@ abbrev pub fourOf : (a b c d : ℕ) → ℕ
 fourOf a b c d = ((a * 65536 + b) * 65536 + c) * 65536 + d
 
 -- words 1 to 3 have no bit of an absent cause, words 4 to 7, 9 and 10 none of an absent effect, and word 8 none but the lowest
-unfoldable pub barsOf : Limits → Bars
+unfoldable pub barsOf : Known → Bars
 barsOf k =
     record {
       first = fourOf 0 0 (absentOf (k .causes)) (absentOf (k .causes));

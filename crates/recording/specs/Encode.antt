@@ -7,7 +7,7 @@ use Rattle.bits.specs.Numbers.{digits}
 use Rattle.settings.specs.declared.Effect.{Effect}
 use Rattle.settings.specs.declared.Row.{Row}
 use Rattle.settings.specs.declared.Settings.{Settings}
-use Rattle.settings.specs.Right.{limitsOf, settingsNumber, rowNumber}
+use Rattle.settings.specs.Right.{knownOf, settingsNumber, rowNumber}
 use Rattle.recording.specs.Entries.{BlockEntry, putBlock, putEffect, putRow}
 
 abbrev pub blockOf : Settings → BlockEntry
@@ -39,4 +39,4 @@ pub record Right (st : Settings) (rows : List Row) : Type 0 where
   pub slots : length (st .effects) ≡ 16
   pub rows-least : 1 ≤ length rows
   pub rows-most : length rows ≤ 2048
-  pub each-row : All (rowNumber (limitsOf st)) rows
+  pub each-row : All (rowNumber (knownOf st)) rows

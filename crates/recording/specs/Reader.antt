@@ -6,8 +6,8 @@ use lib.Dec.{eqb}
 use lib.ListN.{length, replicate}
 use Rattle.bits.specs.Numbers.{numAt}
 use Rattle.settings.specs.declared.Settings.{Settings}
-use Rattle.settings.specs.declared.Limits.{Limits}
-use Rattle.settings.specs.Right.{limitsOf}
+use Rattle.settings.specs.declared.Known.{Known}
+use Rattle.settings.specs.Right.{knownOf}
 use Rattle.settings.specs.Signals.{noEffect}
 use Rattle.recording.specs.declared.Section.{Section}
 use Rattle.recording.specs.declared.Section.the-variants as S
@@ -17,7 +17,7 @@ use Rattle.recording.specs.declared.Kind.the-variants.{Block, Effects, R
 use Rattle.recording.specs.Entries.{effectAt, listOf}
 use Rattle.recording.specs.Sections.{widthOf, sectionOf}
 
--- ## Settings and limits
+-- ## Settings, and what is known of them
 
 -- the settings of a file whose effects section starts at e
 abbrev pub settingsAt : List ℕ → ℕ → Settings
@@ -31,11 +31,11 @@ settingsAt s e =
     }
 
 -- what is known before the block section, and after it
-abbrev pub noLimits : Limits
-noLimits = record { causes = 0; count = 0; options = 0 }
+abbrev pub nothingKnown : Known
+nothingKnown = record { causes = 0; count = 0; options = 0 }
 
-abbrev pub blockLimits : List ℕ → Limits
-blockLimits s = record { causes = numAt 1 s 2; count = 0; options = numAt 1 s 3 }
+abbrev pub knownOfBlock : List ℕ → Known
+knownOfBlock s = record { causes = numAt 1 s 2; count = 0; options = numAt 1 s 3 }
 
 -- ## The reading
 
@@ -57,10 +57,10 @@ afterRows s e r end =
     cond (eqb end (length s)) (record { answer = A.Accepted (numAt 2 s r) (r + 2) (widthOf Rows); settings = settingsAt s e }) (refusal 7 end)
 
 abbrev pub afterEffects : List ℕ → (e r : ℕ) → Reading
-afterEffects s e r = fromSection (sectionOf Rows (limitsOf (settingsAt s e)) s r) (afterRows s e r)
+afterEffects s e r = fromSection (sectionOf Rows (knownOf (settingsAt s e)) s r) (afterRows s e r)
 
 abbrev pub afterBlock : List ℕ → (e : ℕ) → Reading
-afterBlock s e = fromSection (sectionOf Effects (blockLimits s) s e) (afterEffects s e)
+afterBlock s e = fromSection (sectionOf Effects (knownOfBlock s) s e) (afterEffects s e)
 
 unfoldable pub reading : List ℕ → Reading
-reading s = fromSection (sectionOf Block noLimits s 0) (afterBlock s)
+reading s = fromSection (sectionOf Block nothingKnown s 0) (afterBlock s)

@@ -7,13 +7,13 @@ use mathlib.Core.Bool.{true, false}
 use mathlib.Core.List.{List}
 use lib.ListN.{length}
 use Rattle.bits.specs.Numbers.{numAt}
-use Rattle.settings.specs.declared.Limits.{Limits}
-use Rattle.settings.specs.Right.{limitsOf}
+use Rattle.settings.specs.declared.Known.{Known}
+use Rattle.settings.specs.Right.{knownOf}
 use Rattle.recording.specs.declared.Kind.{Kind}
 use Rattle.recording.specs.declared.Kind.the-variants.{Block, Effects, Rows}
 use Rattle.recording.specs.declared.Section.the-variants.{Next}
 use Rattle.recording.specs.Sections.{widthOf, numberOf, countOk, testOf, sectionOf}
-use Rattle.recording.specs.Reader.{noLimits, blockLimits, settingsAt}
+use Rattle.recording.specs.Reader.{nothingKnown, knownOfBlock, settingsAt}
 
 -- ## In n entries of w bytes from `at`, in a file of `len` bytes
 
@@ -31,7 +31,7 @@ pub data EntryStops (test : ℕ → ℕ) (w len n at : ℕ) : ℕ → ℕ → Ty
 
 -- ## In a section at `at`
 
-pub data Stops (kind : Kind) (k : Limits) (s : List ℕ) (at : ℕ) : ℕ → ℕ → Type 0 where
+pub data Stops (kind : Kind) (k : Known) (s : List ℕ) (at : ℕ) : ℕ → ℕ → Type 0 where
   -- 1: the bytes end before the count does
   short : length s < at + 2 → Stops kind k s at 1 (length s)
   -- the section's number: its count is wrong
@@ -44,16 +44,16 @@ pub data Stops (kind : Kind) (k : Limits) (s : List ℕ) (at : ℕ) : ℕ → �
 
 -- the sections before the rows pass, and all three
 pub record ToRows (s : List ℕ) (e r : ℕ) : Type 0 where
-  pub block : sectionOf Block noLimits s 0 ≡ Next e
-  pub effects : sectionOf Effects (blockLimits s) s e ≡ Next r
+  pub block : sectionOf Block nothingKnown s 0 ≡ Next e
+  pub effects : sectionOf Effects (knownOfBlock s) s e ≡ Next r
 
 pub record ToEnd (s : List ℕ) (e r end : ℕ) : Type 0 where
   pub before : ToRows s e r
-  pub rows : sectionOf Rows (limitsOf (settingsAt s e)) s r ≡ Next end
+  pub rows : sectionOf Rows (knownOf (settingsAt s e)) s r ≡ Next end
 
 pub data Refused (s : List ℕ) : ℕ → ℕ → Type 0 where
-  in-block : (number place : ℕ) → Stops Block noLimits s 0 number place → Refused s number place
-  in-effects : (number place e : ℕ) → sectionOf Block noLimits s 0 ≡ Next e → Stops Effects (blockLimits s) s e number place → Refused s number place
-  in-rows : (number place e r : ℕ) → ToRows s e r → Stops Rows (limitsOf (settingsAt s e)) s r number place → Refused s number place
+  in-block : (number place : ℕ) → Stops Block nothingKnown s 0 number place → Refused s number place
+  in-effects : (number place e : ℕ) → sectionOf Block nothingKnown s 0 ≡ Next e → Stops Effects (knownOfBlock s) s e number place → Refused s number place
+  in-rows : (number place e r : ℕ) → ToRows s e r → Stops Rows (knownOf (settingsAt s e)) s r number place → Refused s number place
   -- 7: bytes left over
   spare : (e r end : ℕ) → ToEnd s e r end → end < length s → Refused s 7 end

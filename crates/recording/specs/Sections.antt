@@ -5,7 +5,7 @@ use mathlib.Core.List.{List}
 use lib.Dec.{leb}
 use lib.ListN.{length}
 use Rattle.bits.specs.Numbers.{numAt}
-use Rattle.settings.specs.declared.Limits.{Limits}
+use Rattle.settings.specs.declared.Known.{Known}
 use Rattle.settings.specs.Limits.{mostEffects}
 use Rattle.settings.specs.Refusals.{granted}
 use Rattle.settings.specs.Right.{effectNumber, rowNumber}
@@ -57,11 +57,11 @@ numberOf Block = 2
 numberOf Effects = 3
 numberOf Rows = 4
 
--- the number that refuses an entry, by the limits that the sections before it set
-abbrev pub testOf : Kind → Limits → List ℕ → ℕ → ℕ
+-- the number that refuses an entry, by what is known from the sections before it
+abbrev pub testOf : Kind → Known → List ℕ → ℕ → ℕ
 testOf Block k s at = blockCheck (blockAt s at)
 testOf Effects k s at = effectNumber (k .causes) (effectAt s at)
 testOf Rows k s at = rowNumber k (rowAt s at)
 
-abbrev pub sectionOf : Kind → Limits → List ℕ → ℕ → Section
+abbrev pub sectionOf : Kind → Known → List ℕ → ℕ → Section
 sectionOf kind k s at = section (testOf kind k s) (widthOf kind) (leastOf kind) (mostOf kind) (numberOf kind) s at

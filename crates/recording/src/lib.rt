@@ -12,11 +12,11 @@ ghost use Rattle.bits.specs.Numbers.{numAt};
 ghost use Rattle.settings.specs.Signals.{noEffect};
 ghost use Rattle.recording.specs.Entries.{effectAt, wordsAt, rowAt, listOf};
 ghost use Rattle.recording.specs.Sections.{widthOf, leastOf, mostOf, numberOf, countOk, testOf, sectionOf};
-ghost use Rattle.recording.specs.Reader.{noLimits, blockLimits, settingsAt, refusal, fromSection, reading};
+ghost use Rattle.recording.specs.Reader.{nothingKnown, knownOfBlock, settingsAt, refusal, fromSection, reading};
 ghost use Rattle.recording.specs.Barred.{Skipped};
 ghost use Rattle.recording.specs.Steps.{rowIn, isPlace, stepAt};
 use settings::Effect;
-use settings::Limits;
+use settings::Known;
 use settings::Row;
 use settings::Settings;
 use settings::Words;
@@ -160,7 +160,7 @@ pub fn count_ok(kind: Kind, n: u16) -> bool
 }
 
 // 0 for an entry that is right, or its refusal's number.
-fn entry_number(kind: Kind, known: Limits, s: &[u8], at: usize) -> u8
+fn entry_number(kind: Kind, known: Known, s: &[u8], at: usize) -> u8
     requires { ⌜ at + widthOf kind ≤ length (now s) ⌝ }
     ensures { λ r. ⌜ r ≡ testOf kind known (now (s .entry)) at ⌝ }
 {
@@ -176,7 +176,7 @@ fn entry_number(kind: Kind, known: Limits, s: &[u8], at: usize) -> u8
 }
 
 // How many of the n entries from `at` a quick test passes before the first that it does not: rows alone have one.
-fn passed_quickly(kind: Kind, known: Limits, s: &[u8], n: u16, at: usize) -> u16
+fn passed_quickly(kind: Kind, known: Known, s: &[u8], n: u16, at: usize) -> u16
     requires { ⌜ at ≤ length (now s) ⌝ }
     ensures { λ r. ⌜ Skipped (testOf kind known (now (s .entry))) (widthOf kind) (length (now (s .entry))) n at r ⌝ }
 {
@@ -188,7 +188,7 @@ fn passed_quickly(kind: Kind, known: Limits, s: &[u8], n: u16, at: usize) -> u16
 }
 
 // A section: its count's bytes, its count, then for each entry its bytes and its fields.
-fn read_section(kind: Kind, known: Limits, s: &[u8], at: usize) -> Section
+fn read_section(kind: Kind, known: Known, s: &[u8], at: usize) -> Section
     requires { ⌜ at ≤ length (now s) ⌝ }
     ensures { λ r. ⌜ r ≡ sectionOf kind known (now (s .entry)) at ⌝ }
 {
@@ -271,23 +271,23 @@ fn settings_at(s: &[u8], e: usize) -> Settings
     }
 }
 
-// What the block section's entry tells of the limits.
-fn block_limits(s: &[u8]) -> Limits
+// What is known after the block section.
+fn known_of_block(s: &[u8]) -> Known
     requires { ⌜ 4 ≤ length (now s) ⌝ }
-    ensures { λ r. ⌜ r ≡ blockLimits (now (s .entry)) ⌝ }
+    ensures { λ r. ⌜ r ≡ knownOfBlock (now (s .entry)) ⌝ }
 {
     let b = entries_of(0);
-    Limits {
+    Known {
         causes: bits::get8(s, b),
         count: 0,
         options: bits::get8(s, b + 1),
     }
 }
 
-fn no_limits() -> Limits
-    ensures { λ r. ⌜ r ≡ noLimits ⌝ }
+fn nothing_known() -> Known
+    ensures { λ r. ⌜ r ≡ nothingKnown ⌝ }
 {
-    Limits {
+    Known {
         causes: 0,
         count: 0,
         options: 0,
@@ -329,16 +329,16 @@ fn stopped(part: Section) -> Reading
 pub fn read(s: &[u8]) -> Reading
     ensures { λ r. ⌜ r ≡ reading (now (s .entry)) ⌝ }
 {
-    let block = read_section(Kind::Block, no_limits(), s, 0);
+    let block = read_section(Kind::Block, nothing_known(), s, 0);
     let Section::Next(e) = block else {
         return stopped(block);
     };
-    let effects = read_section(Kind::Effects, block_limits(s), s, e);
+    let effects = read_section(Kind::Effects, known_of_block(s), s, e);
     let Section::Next(r) = effects else {
         return stopped(effects);
     };
     let settings = settings_at(s, e);
-    let rows = read_section(Kind::Rows, settings::limits_of(settings), s, r);
+    let rows = read_section(Kind::Rows, settings::known_of(settings), s, r);
     let Section::Next(end) = rows else {
         return stopped(rows);
     };

@@ -7,14 +7,14 @@ ghost use lib.Bits.{bitAnd, bitOr};
 ghost use lib.Count.{ones};
 ghost use lib.Dec.{eqb, leb};
 ghost use lib.ListN.{length};
-ghost use Rattle.settings.specs.declared.Limits.{Limits};
+ghost use Rattle.settings.specs.declared.Known.{Known};
 ghost use Rattle.settings.specs.Limits.{mostHold};
 ghost use Rattle.settings.specs.Right.{rowNumber};
 ghost use Rattle.recording.specs.declared.Kind.the-variants.{Rows};
 ghost use Rattle.recording.specs.Entries.{rowAt};
 ghost use Rattle.recording.specs.Sections.{testOf};
 ghost use Rattle.recording.specs.Barred.{absentOf, fourOf, barsOf, Skipped};
-use settings::Limits;
+use settings::Known;
 use settings::Row;
 
 // The bits that no right row has, in each of its three numbers of eight bytes, and whether several effects may be forced.
@@ -44,7 +44,7 @@ fn four(a: u64, b: u64, c: u64, d: u64) -> u64
     ((a * 65536 + b) * 65536 + c) * 65536 + d
 }
 
-fn bars_of(known: Limits) -> Bars
+fn bars_of(known: Known) -> Bars
     ensures { λ r. ⌜ r ≡ barsOf known ⌝ }
 {
     let c = absent(known.causes);
@@ -84,7 +84,7 @@ fn forces_right(several: bool, third: u64) -> bool
 // The row at `at` is right.
 fn row_right(b: Bars, s: &[u8], at: usize) -> bool
     requires { ⌜ at + 24 ≤ length (now s) ⌝ }
-    ensures { λ r. ⌜ ((k : Limits) → b ≡ barsOf k → r ≡ eqb (rowNumber k (rowAt (now (s .entry)) at)) 0) ⌝ }
+    ensures { λ r. ⌜ ((k : Known) → b ≡ barsOf k → r ≡ eqb (rowNumber k (rowAt (now (s .entry)) at)) 0) ⌝ }
 {
     let first = bits::get64(s, at);
     let second = bits::get64(s, at + 8);
@@ -99,7 +99,7 @@ fn least(a: usize, b: usize) -> usize
 }
 
 // How many of the n rows from `at` are whole and right before the first that is not.
-pub fn right_rows(known: Limits, s: &[u8], n: u16, at: usize) -> u16
+pub fn right_rows(known: Known, s: &[u8], n: u16, at: usize) -> u16
     requires { ⌜ at ≤ length (now s) ⌝ }
     ensures { λ r. ⌜ Skipped (testOf Rows known (now (s .entry))) 24 (length (now (s .entry))) n at r ⌝ }
 {

@@ -12,7 +12,7 @@ use lib.Seq.{take-suc, take-add, take-all, length-take-le}
 use Rattle.settings.specs.declared.Settings.{Settings}
 use Rattle.settings.specs.Limits.{mostScans}
 use Rattle.settings.specs.Refusals.{granted}
-use Rattle.settings.specs.Right.{limitsOf, settingsNumber, rowNumber}
+use Rattle.settings.specs.Right.{knownOf, settingsNumber, rowNumber}
 use Rattle.block.specs.Scan.{scansNumber}
 use Rattle.block.proofs.Theorems.{a-fresh-state-is-right}
 use Rattle.recording.specs.declared.Answer.the-variants as A
@@ -169,8 +169,8 @@ module _ (s : List ℕ) where
     pub settings-right : settingsNumber st ≡ 0
     settings-right = right .settings
 
-    pub row-right : (i : ℕ) → i < rowCount (reading s .answer) → rowNumber (limitsOf st) (rowOf s i) ≡ 0
-    row-right i l = all-at (rowNumber (limitsOf st)) i (rowsOf s) noRow (omega (arith, length-rowsOf s)) (right .each-row)
+    pub row-right : (i : ℕ) → i < rowCount (reading s .answer) → rowNumber (knownOf st) (rowOf s i) ≡ 0
+    row-right i l = all-at (rowNumber (knownOf st)) i (rowsOf s) noRow (omega (arith, length-rowsOf s)) (right .each-row)
 
     pub few-rows : rowCount (reading s .answer) ≤ 2048
     few-rows = omega (arith, length-rowsOf s, right .rows-most)
@@ -183,7 +183,7 @@ module _ (s : List ℕ) where
     unfolding firstRows
     sound i =
         sound-rows st (right .settings) (rowWidth (reading s .answer)) (firstRow (reading s .answer)) (take i (rowsOf s))
-        (all-take (rowNumber (limitsOf st)) i (rowsOf s) (right .each-row)) started started-sound
+        (all-take (rowNumber (knownOf st)) i (rowsOf s) (right .each-row)) started started-sound
 
     pub scans-done : replay s .number ≡ 0 → replay s .replay .state .done ≡ sumOfHolds (rowsOf s)
     scans-done =

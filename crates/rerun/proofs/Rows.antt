@@ -15,7 +15,7 @@ use Rattle.effects.specs.Scan.{anyExercised}
 use Rattle.settings.specs.declared.Settings.{Settings}
 use Rattle.settings.specs.declared.Row.{Row}
 use Rattle.settings.specs.Limits.{mostScans}
-use Rattle.settings.specs.Right.{limitsOf, settingsNumber, rowNumber}
+use Rattle.settings.specs.Right.{knownOf, settingsNumber, rowNumber}
 use Rattle.settings.specs.Signals.{signals}
 use Rattle.settings.specs.Refusals.{unless, orElse, granted}
 use Rattle.settings.proofs.Refusals.{unless-none}
@@ -124,7 +124,7 @@ pub record Sound (st : Settings) (r : Replay) : Type 0 where
   pub exercised : r .exercised ≤ r .state .done
 
 module _ (st : Settings) (right : settingsNumber st ≡ 0) where
-  module _ (row : Row) (right-row : rowNumber (limitsOf st) row ≡ 0) (r : Replay) (sound : Sound st r) (z : scansNumber (r .state .done) (row .hold) ≡ 0) where
+  module _ (row : Row) (right-row : rowNumber (knownOf st) row ≡ 0) (r : Replay) (sound : Sound st r) (z : scansNumber (r .state .done) (row .hold) ≡ 0) where
     scans : r .state .done + row .hold ≤ mostScans
     scans = leb-true (r .state .done + row .hold) mostScans (unless-none _ 8 z)
 
@@ -164,7 +164,7 @@ module _ (st : Settings) (right : settingsNumber st ≡ 0) where
     pub within-scans : run st row (r .state) .state .done ≤ mostScans
     within-scans = omega (arith, done-after, scans)
 
-  pub sound-rows : (w at : ℕ) (xs : List Row) → All (rowNumber (limitsOf st)) xs → (r : Replay) → Sound st r → Sound st (rowsFrom st w at xs r .replay)
+  pub sound-rows : (w at : ℕ) (xs : List Row) → All (rowNumber (knownOf st)) xs → (r : Replay) → Sound st r → Sound st (rowsFrom st w at xs r .replay)
   sound-rows w at [] all r sound = sound
   sound-rows w at (x ∷ xs) all r sound =
       granted-either (rowsFrom st w (at + w) xs (afterRow st x r)) (refusedAt at r) (λ o. Sound st (o .replay)) (scansNumber (r .state .done) (x .hold))
@@ -172,7 +172,7 @@ module _ (st : Settings) (right : settingsNumber st ≡ 0) where
       (λ k. sound)
 
   -- the scans done are the holds of the rows
-  pub done-is-holds : (w at : ℕ) (xs : List Row) → All (rowNumber (limitsOf st)) xs → (r : Replay) → Sound st r → rowsFrom st w at xs r .number ≡ 0
+  pub done-is-holds : (w at : ℕ) (xs : List Row) → All (rowNumber (knownOf st)) xs → (r : Replay) → Sound st r → rowsFrom st w at xs r .number ≡ 0
       → rowsFrom st w at xs r .replay .state .done ≡ r .state .done + sumOfHolds xs
   done-is-holds w at [] all r sound h = omega arith
   done-is-holds w at (x ∷ xs) all r sound h =

@@ -14,7 +14,7 @@ use Rattle.settings.specs.declared.Row.{Row}
 use Rattle.settings.specs.declared.Settings.{Settings}
 use Rattle.settings.specs.Limits.{mostScans}
 use Rattle.settings.specs.Refusals.{granted}
-use Rattle.settings.specs.Right.{limitsOf, settingsNumber, rowNumber}
+use Rattle.settings.specs.Right.{knownOf, settingsNumber, rowNumber}
 use Rattle.settings.proofs.Refusals.{unless-none}
 use Rattle.settings.proofs.Right.{count-few}
 use Rattle.planes.specs.Board.{boardAt, boardOf}
@@ -272,7 +272,7 @@ module _ (s : List ℕ) (st : Settings) (width : ℕ) (t : Totals) (g : Going s 
         right-state : stateNumber st shown ≡ 0
         right-state = rw (state-is, g .settings) (sound s (g .accepted) (t .rows) .state)
 
-        right-row : rowNumber (limitsOf st) row ≡ 0
+        right-row : rowNumber (knownOf st) row ≡ 0
         right-row = rw (g .settings, row-is) (row-right s (g .accepted) (t .rows) more)
 
         pub right-input : inputNumber st shown row ≡ 0

@@ -12,11 +12,11 @@ use Rattle.bits.specs.Lists.{allFrom}
 use Rattle.bits.proofs.Lists.{and-left, and-right, all-at}
 use Rattle.settings.specs.declared.Effect.{Effect}
 use Rattle.settings.specs.declared.Settings.{Settings}
-use Rattle.settings.specs.declared.Limits.{Limits}
+use Rattle.settings.specs.declared.Known.{Known}
 use Rattle.settings.specs.declared.Row.{Row}
 use Rattle.settings.specs.declared.Words.{Words}
 use Rattle.settings.specs.Limits.{mostHold}
-use Rattle.settings.specs.Right.{blockOk, wordsOk, fieldsNumber, wordsNumber, holdNumber, rowNumber, blockNumber, countOk, effectOk, effectsNumber, limitsOf, settingsNumber, slotOk}
+use Rattle.settings.specs.Right.{blockOk, wordsOk, fieldsNumber, wordsNumber, holdNumber, rowNumber, blockNumber, countOk, effectOk, effectsNumber, knownOf, settingsNumber, slotOk}
 use Rattle.settings.specs.Signals.{noEffect}
 use Rattle.settings.proofs.Refusals.{or-else-none, unless-none}
 
@@ -28,7 +28,7 @@ module _ (st : Settings) (right : settingsNumber st ≡ 0) where
   block-right : blockOk (st .causes) (st .options) (st .period) ≡ true
   block-right = unless-none _ 1 (parts .0)
 
-  effects-right : (countOk (st .count) && allFrom (slotOk (limitsOf st)) 0 (st .effects)) ≡ true
+  effects-right : (countOk (st .count) && allFrom (slotOk (knownOf st)) 0 (st .effects)) ≡ true
   effects-right = unless-none _ 2 (parts .1)
 
   pub count-few : st .count ≤ 16
@@ -51,7 +51,7 @@ module _ (st : Settings) (right : settingsNumber st ≡ 0) where
 
     effect-right : i < length (st .effects) → effectOk (st .causes) e ≡ true
     effect-right k =
-        rw (zero-add, lt-ltb i (st .count) h) at (all-at (slotOk (limitsOf st)) 0 (st .effects) noEffect (and-right (countOk (st .count)) _ effects-right) i k)
+        rw (zero-add, lt-ltb i (st .count) h) at (all-at (slotOk (knownOf st)) 0 (st .effects) noEffect (and-right (countOk (st .count)) _ effects-right) i k)
 
     -- the association word of an effect has 16 bits
     pub association-lt : e .association < 65536
@@ -91,7 +91,7 @@ of-ten a b c d e f g h i j p =
       and-right (a && b && c && d && e && f && g && h && i) j p,
     )
 
-pub inside : (k : Limits) (w : Words) → wordsNumber k w ≡ 0 → Inside (k .count) w
+pub inside : (k : Known) (w : Words) → wordsNumber k w ≡ 0 → Inside (k .count) w
 unfolding wordsNumber
 inside k w e =
     let h =
@@ -118,7 +118,7 @@ inside k w e =
     }
 
 -- what a right row tells
-module _ (k : Limits) (row : Row) (right : rowNumber k row ≡ 0) where
+module _ (k : Known) (row : Row) (right : rowNumber k row ≡ 0) where
   pub row-words : wordsNumber k (row .words) ≡ 0
   unfolding rowNumber
   row-words = or-else-none (holdNumber (row .hold)) _ right .1

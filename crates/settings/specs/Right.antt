@@ -10,7 +10,7 @@ use Rattle.settings.specs.declared.Effect.{Effect}
 use Rattle.settings.specs.declared.Settings.{Settings}
 use Rattle.settings.specs.declared.Words.{Words}
 use Rattle.settings.specs.declared.Row.{Row}
-use Rattle.settings.specs.declared.Limits.{Limits}
+use Rattle.settings.specs.declared.Known.{Known}
 use Rattle.settings.specs.Limits.{mostCauses, mostEffects, mostDelay, mostHold}
 use Rattle.settings.specs.Refusals.{unless, orElse}
 
@@ -34,15 +34,15 @@ effectNumber causes e = unless (effectOk causes e) 3
 abbrev pub countOk : ℕ → Bool
 countOk count = leb 1 count && leb count mostEffects
 
-abbrev pub limitsOf : Settings → Limits
-limitsOf st = record { causes = st .causes; count = st .count; options = st .options }
+abbrev pub knownOf : Settings → Known
+knownOf st = record { causes = st .causes; count = st .count; options = st .options }
 
 -- slot i, from 0, holds an effect that is right; slots past the effect count are zero
-abbrev pub slotOk : Limits → ℕ → Effect → Bool
+abbrev pub slotOk : Known → ℕ → Effect → Bool
 slotOk k i e = cond (ltb i (k .count)) (effectOk (k .causes) e) (eqb (e .association) 0 && eqb (e .delay) 0)
 
 abbrev pub effectsNumber : Settings → ℕ
-effectsNumber st = unless (countOk (st .count) && allFrom (slotOk (limitsOf st)) 0 (st .effects)) 3
+effectsNumber st = unless (countOk (st .count) && allFrom (slotOk (knownOf st)) 0 (st .effects)) 3
 
 unfoldable pub settingsNumber : Settings → ℕ
 settingsNumber st = orElse (blockNumber (st .causes) (st .options) (st .period)) (effectsNumber st)
@@ -50,7 +50,7 @@ settingsNumber st = orElse (blockNumber (st .causes) (st .options) (st .period))
 -- ## Rows: 4, 5, then 6
 
 -- words 1 to 3 have only bits of existing causes, words 4 to 7, 9 and 10 only of existing effects; force permit is 0 or 1
-abbrev pub wordsOk : Limits → Words → Bool
+abbrev pub wordsOk : Known → Words → Bool
 wordsOk k w =
     ltb (w .values) (2 ^ k .causes)
     && ltb (w .bad) (2 ^ k .causes)
@@ -63,7 +63,7 @@ wordsOk k w =
     && ltb (w .«force_trip») (2 ^ k .count)
     && ltb (w .«force_normal») (2 ^ k .count)
 
-abbrev pub fieldsNumber : Limits → Words → ℕ
+abbrev pub fieldsNumber : Known → Words → ℕ
 fieldsNumber k w = unless (wordsOk k w) 4
 
 -- no effect stands in both force words
@@ -78,15 +78,15 @@ abbrev pub several : Words → Bool
 several w = ltb 1 (ones (w .«force_trip») + ones (w .«force_normal»))
 
 -- several effects may be forced if option bit 2 is set, permitted or not
-abbrev pub severalNumber : Limits → Words → ℕ
+abbrev pub severalNumber : Known → Words → ℕ
 severalNumber k w = unless (bitOf (k .options) 2 || not (several w)) 6
 
-unfoldable pub wordsNumber : Limits → Words → ℕ
+unfoldable pub wordsNumber : Known → Words → ℕ
 wordsNumber k w = orElse (fieldsNumber k w) (orElse (apartNumber w) (severalNumber k w))
 
 -- a hold of 1..1,000,000 scans
 abbrev pub holdNumber : ℕ → ℕ
 holdNumber hold = unless (leb 1 hold && leb hold mostHold) 4
 
-unfoldable pub rowNumber : Limits → Row → ℕ
+unfoldable pub rowNumber : Known → Row → ℕ
 rowNumber k r = orElse (holdNumber (r .hold)) (wordsNumber k (r .words))

@@ -10,7 +10,7 @@ ghost use lib.Count.{ones};
 ghost use lib.Dec.{eqb, leb, ltb};
 ghost use Rattle.bits.specs.Lists.{allFrom};
 ghost use Rattle.settings.specs.Limits.{mostDelay, mostHold};
-ghost use Rattle.settings.specs.Right.{limitsOf, blockNumber, effectOk, effectNumber, countOk, slotOk, effectsNumber, settingsNumber, wordsOk, fieldsNumber, apart, apartNumber, several, severalNumber, wordsNumber, holdNumber, rowNumber};
+ghost use Rattle.settings.specs.Right.{knownOf, blockNumber, effectOk, effectNumber, countOk, slotOk, effectsNumber, settingsNumber, wordsOk, fieldsNumber, apart, apartNumber, several, severalNumber, wordsNumber, holdNumber, rowNumber};
 ghost use Rattle.settings.specs.Signals.{forcesCount, badTrip};
 
 // The settings of one effect: its association word and its delay in milliseconds.
@@ -47,8 +47,8 @@ pub struct Row {
     pub words: Words,
 }
 
-// What the checks of effects and rows ask of the settings: the causes and effects that exist, and the options.
-pub struct Limits {
+// What is known of the settings where effects and rows are checked: the causes and effects that exist, and the options.
+pub struct Known {
     pub causes: u8,
     pub count: u8,
     pub options: u8,
@@ -78,10 +78,10 @@ impl Row {
 
 // ---- settings: 2, then 3
 
-pub fn limits_of(st: Settings) -> Limits
-    ensures { λ r. ⌜ r ≡ limitsOf st ⌝ }
+pub fn known_of(st: Settings) -> Known
+    ensures { λ r. ⌜ r ≡ knownOf st ⌝ }
 {
-    Limits {
+    Known {
         causes: st.causes,
         count: st.count,
         options: st.options,
@@ -113,7 +113,7 @@ pub fn effect_number(causes: u8, e: Effect) -> u8
 }
 
 // Slot i holds an effect that is right, or nothing past the count.
-fn slot_ok(known: Limits, i: usize, e: Effect) -> bool
+fn slot_ok(known: Known, i: usize, e: Effect) -> bool
     ensures { λ r. ⌜ r ≡ slotOk known i e ⌝ }
 {
     if i < (known.count as usize) {
@@ -123,7 +123,7 @@ fn slot_ok(known: Limits, i: usize, e: Effect) -> bool
     }
 }
 
-fn slots_ok(known: Limits, effects: [Effect; 16]) -> bool
+fn slots_ok(known: Known, effects: [Effect; 16]) -> bool
     ensures { λ r. ⌜ r ≡ allFrom (slotOk known) 0 effects ⌝ }
 {
     let mut i = 0;
@@ -148,7 +148,7 @@ fn effects_number(st: Settings) -> u8
     ensures { λ r. ⌜ r ≡ effectsNumber st ⌝ }
 {
     let effects = st.effects;
-    if count_ok(st.count) & slots_ok(limits_of(st), effects) {
+    if count_ok(st.count) & slots_ok(known_of(st), effects) {
         0
     } else {
         3
@@ -168,7 +168,7 @@ pub fn settings_number(st: Settings) -> u8
 
 // ---- rows: 4, 5, then 6
 
-fn words_ok(known: Limits, w: Words) -> bool
+fn words_ok(known: Known, w: Words) -> bool
     ensures { λ r. ⌜ r ≡ wordsOk known w ⌝ }
 {
     let causes = known.causes;
@@ -185,7 +185,7 @@ fn words_ok(known: Limits, w: Words) -> bool
         & bits::within(w.force_normal, count)
 }
 
-fn fields_number(known: Limits, w: Words) -> u8
+fn fields_number(known: Known, w: Words) -> u8
     ensures { λ r. ⌜ r ≡ fieldsNumber known w ⌝ }
 {
     if words_ok(known, w) { 0 } else { 4 }
@@ -211,7 +211,7 @@ fn is_several(w: Words) -> bool
     1 < bits::count_bits(w.force_trip) + bits::count_bits(w.force_normal)
 }
 
-fn several_number(known: Limits, w: Words) -> u8
+fn several_number(known: Known, w: Words) -> u8
     ensures { λ r. ⌜ r ≡ severalNumber known w ⌝ }
 {
     if bits::bit(known.options as u16, 2) | !is_several(w) {
@@ -222,7 +222,7 @@ fn several_number(known: Limits, w: Words) -> u8
 }
 
 // 0 for words that are right, or their refusal's number.
-pub fn words_number(known: Limits, w: Words) -> u8
+pub fn words_number(known: Known, w: Words) -> u8
     ensures { λ r. ⌜ r ≡ wordsNumber known w ⌝ }
 {
     let fields = fields_number(known, w);
@@ -247,7 +247,7 @@ fn hold_number(hold: u32) -> u8
 }
 
 // 0 for a row that is right, or its refusal's number.
-pub fn row_number(known: Limits, row: Row) -> u8
+pub fn row_number(known: Known, row: Row) -> u8
     ensures { λ r. ⌜ r ≡ rowNumber known row ⌝ }
 {
     let number = hold_number(row.hold);

@@ -16,7 +16,7 @@ use Rattle.planes.specs.Board.{signalsBy, signalsIn, runOf, Shown, Right, board
 use Rattle.settings.specs.declared.Row.{Row}
 use Rattle.settings.specs.declared.Settings.{Settings}
 use Rattle.settings.specs.declared.Words.{Words}
-use Rattle.settings.specs.Right.{limitsOf, settingsNumber, rowNumber, wordsNumber}
+use Rattle.settings.specs.Right.{knownOf, settingsNumber, rowNumber, wordsNumber}
 use Rattle.settings.specs.Signals.{signals}
 use Rattle.settings.proofs.Right.{row-words}
 use Rattle.wiring.specs.declared.Wiring.{Wiring}
@@ -39,13 +39,13 @@ unfolding wiringOf
 period-of st x e = ap (λ (y : Wiring). y .period) e
 
 module _ {st : Settings} {x : Wiring} {causes delays : List ℕ} {asked : Asked} {t : ℕ} (right : settingsNumber st ≡ 0)
-    (row : Row) (row-right : rowNumber (limitsOf st) row ≡ 0) (wired : Wired st x causes delays)
+    (row : Row) (row-right : rowNumber (knownOf st) row ≡ 0) (wired : Wired st x causes delays)
     (ea : asked ≡ askedBy (st .options) x causes (row .words)) (et : t ≡ trippedOf (row .words)) (from : Board) where
   abbrev w : Words
   w = row .words
 
-  words : wordsNumber (limitsOf st) w ≡ 0
-  words = row-words (limitsOf st) row row-right
+  words : wordsNumber (knownOf st) w ≡ 0
+  words = row-words (knownOf st) row row-right
 
   ex : x ≡ wiringOf st
   ex = wired .wiring

@@ -25,7 +25,7 @@ use Rattle.planes.specs.Board.{signalsBy, signalsIn}
 use Rattle.planes.proofs.Quiet.{anyTo, none-set}
 use Rattle.settings.specs.declared.Settings.{Settings}
 use Rattle.settings.specs.declared.Words.{Words}
-use Rattle.settings.specs.Right.{limitsOf, settingsNumber, wordsNumber}
+use Rattle.settings.specs.Right.{knownOf, settingsNumber, wordsNumber}
 use Rattle.settings.specs.Signals.{badTrip, forcesCount, signals, signalsOf}
 use Rattle.settings.proofs.Right.{count-few, association-lt, inside}
 use Rattle.wiring.specs.Wiring.{associationAt, delayAt, causesOf, delaysOf, wiringOf, trippedOf, askedBy}
@@ -55,7 +55,7 @@ lt-if : (b : Bool) (w n : ℕ) → w < 2 ^ n → cond b w 0 < 2 ^ n
 lt-if true w n h = h
 lt-if false w n h = pow-pos n
 
-module _ (st : Settings) (right : settingsNumber st ≡ 0) (w : Words) (words : wordsNumber (limitsOf st) w ≡ 0) where
+module _ (st : Settings) (right : settingsNumber st ≡ 0) (w : Words) (words : wordsNumber (knownOf st) w ≡ 0) where
   abbrev n : ℕ
   n = st .count
 
@@ -87,7 +87,7 @@ module _ (st : Settings) (right : settingsNumber st ≡ 0) (w : Words) (words : 
   pub asked-right : asked ≡ askedOf n (λ i. asks (shown i))
   unfolding askedOf signalsBy askedBy wiringOf
   asked-right =
-      let h = inside (limitsOf st) w words in
+      let h = inside (knownOf st) w words in
       let c = forcesCount (st .options) w in
       asked-path
       (sym (word-bits _ n (lt-if c (w .«force_trip») n (h .trip))))

@@ -13,7 +13,7 @@ ghost use Rattle.effects.specs.Records.{recordLength, bytes};
 ghost use Rattle.rounds.specs.Steps.{held};
 ghost use Rattle.planes.specs.Board.{boardAt, runOf, Shown};
 ghost use Rattle.settings.specs.Limits.{mostScans};
-ghost use Rattle.settings.specs.Right.{limitsOf, settingsNumber, rowNumber};
+ghost use Rattle.settings.specs.Right.{knownOf, settingsNumber, rowNumber};
 ghost use Rattle.settings.specs.Signals.{signals};
 ghost use Rattle.wiring.specs.Wiring.{causesOf, delaysOf, wiringOf, Wired, trippedOf, askedBy, strokedAt, strokedBy};
 use planes::Asked;
@@ -158,7 +158,7 @@ pub fn stroke(
     timers: &mut [u32; 16],
     firsts: &mut [u16; 16],
 ) -> Struck
-    requires { ⌜ (settingsNumber st ≡ 0) × Wired st x (now causes) (now times) × (rowNumber (limitsOf st) row ≡ 0) × (from .done + row .hold ≤ mostScans) × Shown (st .count) (boardAt from (now timers) (now firsts) .table) × (recordLength * length (held (signals st (row .words)) (row .hold) (runOf (st .count) (boardAt from (now timers) (now firsts))) .events) ≤ length (now buf)) ⌝ }
+    requires { ⌜ (settingsNumber st ≡ 0) × Wired st x (now causes) (now times) × (rowNumber (knownOf st) row ≡ 0) × (from .done + row .hold ≤ mostScans) × Shown (st .count) (boardAt from (now timers) (now firsts) .table) × (recordLength * length (held (signals st (row .words)) (row .hold) (runOf (st .count) (boardAt from (now timers) (now firsts))) .events) ≤ length (now buf)) ⌝ }
     ensures { λ r. ⌜ (strokedAt r (now (timers .exit)) (now (firsts .exit)) ≡ strokedBy st (row .words) (held (signals st (row .words)) (row .hold) (runOf (st .count) (boardAt from (now (timers .entry)) (now (firsts .entry)))))) × (now (buf .exit) ≡ sets (now (buf .entry)) 0 (bytes (held (signals st (row .words)) (row .hold) (runOf (st .count) (boardAt from (now (timers .entry)) (now (firsts .entry)))) .events))) ⌝ }
 {
     let words = row.words;

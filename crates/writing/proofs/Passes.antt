@@ -8,7 +8,7 @@ use Rattle.bits.proofs.Lists.{and-left, and-right}
 use Rattle.settings.specs.declared.Row.{Row}
 use Rattle.settings.specs.declared.Settings.{Settings}
 use Rattle.settings.specs.Refusals.{unless}
-use Rattle.settings.specs.Right.{limitsOf, settingsNumber, rowNumber}
+use Rattle.settings.specs.Right.{knownOf, settingsNumber, rowNumber}
 use Rattle.settings.proofs.Refusals.{or-else-none, unless-none}
 use Rattle.recording.specs.declared.Kind.the-variants.{Rows}
 use Rattle.recording.specs.Sections.{numberOf, countOk}
@@ -16,15 +16,15 @@ use Rattle.recording.specs.Encode.{All, Right}
 use Rattle.writing.specs.Writer.{openingNumber, rowPieceNumber}
 
 module _ (st : Settings) where
-  rows-pass : settingsNumber st ≡ 0 → (rows : List Row) → All (rowNumber (limitsOf st)) rows → All (rowPieceNumber st) rows
+  rows-pass : settingsNumber st ≡ 0 → (rows : List Row) → All (rowNumber (knownOf st)) rows → All (rowPieceNumber st) rows
   unfolding rowPieceNumber
   rows-pass z [] h = tt
   rows-pass z (r ∷ rows) h = (rw z (h .0), rows-pass z rows (h .1))
 
-  rows-back : (rows : List Row) → All (rowPieceNumber st) rows → All (rowNumber (limitsOf st)) rows
+  rows-back : (rows : List Row) → All (rowPieceNumber st) rows → All (rowNumber (knownOf st)) rows
   unfolding rowPieceNumber
   rows-back [] h = tt
-  rows-back (r ∷ rows) h = (or-else-none (settingsNumber st) (rowNumber (limitsOf st) r) (h .0) .1, rows-back rows (h .1))
+  rows-back (r ∷ rows) h = (or-else-none (settingsNumber st) (rowNumber (knownOf st) r) (h .0) .1, rows-back rows (h .1))
 
   pub right-passes : (rows : List Row) → Right st rows → (openingNumber st (length rows) ≡ 0) × All (rowPieceNumber st) rows
   unfolding openingNumber

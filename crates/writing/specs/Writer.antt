@@ -5,7 +5,7 @@ use lib.ListN.{length, drop}
 use Rattle.settings.specs.declared.Row.{Row}
 use Rattle.settings.specs.declared.Settings.{Settings}
 use Rattle.settings.specs.Refusals.{unless, orElse, granted, roomNumber}
-use Rattle.settings.specs.Right.{limitsOf, settingsNumber, rowNumber}
+use Rattle.settings.specs.Right.{knownOf, settingsNumber, rowNumber}
 use Rattle.recording.specs.declared.Kind.the-variants.{Rows}
 use Rattle.writing.specs.declared.Written.{Written}
 use Rattle.writing.specs.declared.Written.the-variants as W
@@ -21,7 +21,7 @@ openingNumber st rows = orElse (settingsNumber st) (unless (countOk Rows rows) (
 
 -- a row: 2, 3, then its own
 unfoldable pub rowPieceNumber : Settings → Row → ℕ
-rowPieceNumber st row = orElse (settingsNumber st) (rowNumber (limitsOf st) row)
+rowPieceNumber st row = orElse (settingsNumber st) (rowNumber (knownOf st) row)
 
 -- ## A piece that `number` refuses if it is not 0, into `room` bytes; 10 last, exactly if it doesn't fit
 

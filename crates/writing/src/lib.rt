@@ -158,7 +158,7 @@ fn row_piece_number(st: Settings, row: Row) -> u8
     if number != 0 {
         return number;
     }
-    settings::row_number(settings::limits_of(st), row)
+    settings::row_number(settings::known_of(st), row)
 }
 
 // ---- the two pieces

@@ -1,6 +1,6 @@
 -- `block::input_number` meets its contract, from what its callees ensure and the tests on the way.
 use mathlib.Core.Path.{ap, _∙_}
-use Rattle.settings.specs.declared.Limits.{Limits}
+use Rattle.settings.specs.declared.Known.{Known}
 use Rattle.settings.specs.Right.{rowNumber}
 use Rattle.settings.proofs.Refusals.{or-else-first, or-else-next}
 use Rattle.block.specs.Scan.{inputNumber}
@@ -23,14 +23,14 @@ unfolding inputNumber
 returns-3 c =
     or-else-next _ _ _ _ (c .before .before .before .before .before .before .settings-number .ensures) (c .before .before .before .before .before .if1 .left)
     (or-else-next _ _ _ _ (c .before .before .before .before .state-number .ensures) (c .before .before .before .if2 .left)
-    (or-else-first _ _ _ (c .before .row-number .ensures ∙ ap (λ (k : Limits). rowNumber k (c .before .before .before .before .before .before .before .args .row)) (c .before .before .limits-of .ensures)) (c .if3 .taken)))
+    (or-else-first _ _ _ (c .before .row-number .ensures ∙ ap (λ (k : Known). rowNumber k (c .before .before .before .before .before .before .before .args .row)) (c .before .before .known-of .ensures)) (c .if3 .taken)))
 
 returns-4 : tie.Need-returns-4
 unfolding inputNumber
 returns-4 c =
     or-else-next _ _ _ _ (c .before .before .before .before .before .before .before .settings-number .ensures) (c .before .before .before .before .before .before .if1 .left)
     (or-else-next _ _ _ _ (c .before .before .before .before .before .state-number .ensures) (c .before .before .before .before .if2 .left)
-    (or-else-next _ _ _ _ (c .before .before .row-number .ensures ∙ ap (λ (k : Limits). rowNumber k (c .before .before .before .before .before .before .before .before .args .row)) (c .before .before .before .limits-of .ensures)) (c .before .if3 .left) (c .scans-number .ensures)))
+    (or-else-next _ _ _ _ (c .before .before .row-number .ensures ∙ ap (λ (k : Known). rowNumber k (c .before .before .before .before .before .before .before .before .args .row)) (c .before .before .before .known-of .ensures)) (c .before .if3 .left) (c .scans-number .ensures)))
 
 pub input-number-spec : {M : Type 1} → statement M
 input-number-spec =

@@ -1,15 +1,15 @@
 -- `recording::read` meets its contract, from what its callees ensure and the tests on the way.
 use Rattle.recording.proofs.Between.{from-refused, left-over, accepted, block-room, effects-whole, rows-whole, read-block, read-effects, read-rows}
 use Rattle.recording.proofs.Sections.{Whole}
-use Rattle.recording.specs.Reader.{noLimits, blockLimits, settingsAt, reading, afterRows}
+use Rattle.recording.specs.Reader.{nothingKnown, knownOfBlock, settingsAt, reading, afterRows}
 use Rattle.recording.specs.Sections.{testOf, sectionOf}
 use Rattle.recording.specs.declared.Kind.the-variants.{Block, Effects, Rows}
 use Rattle.recording.specs.declared.Section.the-variants as S
-use Rattle.settings.specs.Right.{limitsOf}
+use Rattle.settings.specs.Right.{knownOf}
 use denote.Ref.{now}
 use mathlib.Core.List.{List}
 use mathlib.Core.Path.{_≡_, refl, sym, ap, _∙_}
-use Rattle.settings.specs.declared.Limits.{Limits}
+use Rattle.settings.specs.declared.Known.{Known}
 use Prim.Native.Nat.{ℕ}
 use native.Mathlib.Omega.{arith}
 use borrow.Author.Needs.{needs}
@@ -37,33 +37,33 @@ past-block c = c .before .before .before .before .before
 abbrev past-effects : tie.After-known-told3 → tie.After-known-told2
 past-effects c = c .before .before .before .before .before .before
 
-block-next : (c : tie.After-known-told) → sectionOf Block noLimits (bytes c) 0 ≡ S.Next (at-effects c)
+block-next : (c : tie.After-known-told) → sectionOf Block nothingKnown (bytes c) 0 ≡ S.Next (at-effects c)
 block-next c = sym (c .before .before .before .read-section .ensures) ∙ c .before .block .given .1
 
-effects-are : (c : tie.After-read-section2) → c .read-section2 .result ≡ sectionOf Effects (blockLimits (bytes (c .before .before))) (bytes (c .before .before)) (at-effects (c .before .before))
-effects-are c = rw (← c .before .block-limits .ensures) (c .read-section2 .ensures)
+effects-are : (c : tie.After-read-section2) → c .read-section2 .result ≡ sectionOf Effects (knownOfBlock (bytes (c .before .before))) (bytes (c .before .before)) (at-effects (c .before .before))
+effects-are c = rw (← c .before .known-of-block .ensures) (c .read-section2 .ensures)
 
-effects-next : (c : tie.After-known-told2) → sectionOf Effects (blockLimits (bytes (past-block c))) (bytes (past-block c)) (at-effects (past-block c)) ≡ S.Next (at-rows c)
+effects-next : (c : tie.After-known-told2) → sectionOf Effects (knownOfBlock (bytes (past-block c))) (bytes (past-block c)) (at-effects (past-block c)) ≡ S.Next (at-rows c)
 effects-next c = sym (effects-are (c .before .before .before)) ∙ c .before .effects .given .1
 
 rows-are : (c : tie.After-read-section3) → let d = c .before .before .before in let s = bytes (past-block d) in
-    c .read-section3 .result ≡ sectionOf Rows (limitsOf (settingsAt s (at-effects (past-block d)))) s (at-rows d)
+    c .read-section3 .result ≡ sectionOf Rows (knownOf (settingsAt s (at-effects (past-block d)))) s (at-rows d)
 rows-are c =
     let d = c .before .before .before in
-    _∙_ {b = sectionOf Rows (c .before .limits-of .result) (bytes (past-block d)) (at-rows d)}
+    _∙_ {b = sectionOf Rows (c .before .known-of .result) (bytes (past-block d)) (at-rows d)}
     (c .read-section3 .ensures)
-    (ap (λ (k : Limits). sectionOf Rows k (bytes (past-block d)) (at-rows d)) (c .before .limits-of .ensures ∙ ap limitsOf (c .before .before .settings-at .ensures)))
+    (ap (λ (k : Known). sectionOf Rows k (bytes (past-block d)) (at-rows d)) (c .before .known-of .ensures ∙ ap knownOf (c .before .before .settings-at .ensures)))
 
 rows-next : (c : tie.After-known-told3) → let d = past-block (past-effects c) in
-    sectionOf Rows (limitsOf (settingsAt (bytes d) (at-effects d))) (bytes d) (at-rows (past-effects c)) ≡ S.Next (at-end c)
+    sectionOf Rows (knownOf (settingsAt (bytes d) (at-effects d))) (bytes d) (at-rows (past-effects c)) ≡ S.Next (at-end c)
 rows-next c = sym (rows-are (c .before .before .before)) ∙ c .before .rows .given .1
 
 whole : (c : tie.After-known-told3) → let d = past-block (past-effects c) in
     reading (bytes d) ≡ afterRows (bytes d) (at-effects d) (at-rows (past-effects c)) (at-end c)
 whole c = read-rows _ _ (block-next (past-block (past-effects c))) _ (effects-next (past-effects c)) _ (rows-next c)
 
-effects-facts : (c : tie.After-known-told2) → let d = past-block c in Whole (testOf Effects (blockLimits (bytes d)) (bytes d)) 6 1 16 (bytes d) (at-effects d) (at-rows c)
-effects-facts c = effects-whole _ (blockLimits (bytes (past-block c))) _ _ (effects-next c)
+effects-facts : (c : tie.After-known-told2) → let d = past-block c in Whole (testOf Effects (knownOfBlock (bytes d)) (bytes d)) 6 1 16 (bytes d) (at-effects d) (at-rows c)
+effects-facts c = effects-whole _ (knownOfBlock (bytes (past-block c))) _ _ (effects-next c)
 
 -- ## The needs
 
@@ -71,8 +71,8 @@ returns : tie.Need-returns
 unfolding reading
 returns c = c .stopped .ensures ∙ from-refused _ _ _ _ _ _ (c .before .before .before .read-section .ensures) (c .before .enum-told .given .1)
 
-block-limits-requires : tie.Need-block-limits-requires
-block-limits-requires c κs = let k = block-room (bytes c) (at-effects c) (block-next c) in omega (arith, k .1)
+known-of-block-requires : tie.Need-known-of-block-requires
+known-of-block-requires c κs = let k = block-room (bytes c) (at-effects c) (block-next c) in omega (arith, k .1)
 
 read-section-requires-2 : tie.Need-read-section-requires-2
 read-section-requires-2 c κs = let k = block-room (bytes (c .before)) (at-effects (c .before)) (block-next (c .before)) in omega (arith, k .0, k .1)
@@ -121,7 +121,7 @@ read-spec =
     (λ c. search needs)
     (λ c κs. search needs)
     returns
-    block-limits-requires
+    known-of-block-requires
     read-section-requires-2
     (λ c. search needs)
     (λ c. search needs)

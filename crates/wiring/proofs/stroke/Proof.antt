@@ -8,7 +8,7 @@ use lib.Seq.{sets}
 use Rattle.effects.specs.Records.{bytes}
 use Rattle.rounds.specs.Steps.{Run}
 use Rattle.planes.specs.Board.{boardAt}
-use Rattle.settings.specs.Right.{limitsOf}
+use Rattle.settings.specs.Right.{knownOf}
 use Rattle.settings.proofs.Right.{count-few, period-some, period-most, hold-most}
 use Rattle.wiring.proofs.Held.{count-of, period-of, right-words, stroked-is, held-is}
 use Rattle.wiring.proofs.stroke.Statement.{statement}
@@ -29,7 +29,7 @@ stroke-requires c κs =
     let tripped = c .before .before .tripped-causes .ensures in
     let p = period-of (a .st) (a .x) (s .pre .1 .wiring) in (
       few s,
-      hold-most (limitsOf (a .st)) (a .row) (s .pre .2),
+      hold-most (knownOf (a .st)) (a .row) (s .pre .2),
       omega (arith, p, period-some (a .st) (s .pre .0)),
       omega (arith, p, period-most (a .st) (s .pre .0)),
       s .pre .3,

@@ -11,7 +11,7 @@ returns c = or-else-first _ _ _ (c .before .settings-number .ensures) (c .if1 .t
 
 returns-2 : tie.Need-returns-2
 unfolding rowPieceNumber
-returns-2 c = or-else-next _ _ _ _ (c .before .before .before .settings-number .ensures) (c .before .before .if1 .left) (rw (← c .before .limits-of .ensures) (c .row-number .ensures))
+returns-2 c = or-else-next _ _ _ _ (c .before .before .before .settings-number .ensures) (c .before .before .if1 .left) (rw (← c .before .known-of .ensures) (c .row-number .ensures))
 
 pub row-piece-number-spec : {M : Type 1} → statement M
 row-piece-number-spec =

@@ -1,4 +1,4 @@
--- `recording::quick::right_rows` meets its contract. The loop's invariant: by any limits that the masks are made of, the rows
+-- `recording::quick::right_rows` meets its contract. The loop's invariant: by anything known that the masks are made of, the rows
 -- before the place are right.
 use denote.Ref.{now}
 use mathlib.Core.Path.{_≡_, sym, _∙_}
@@ -7,7 +7,7 @@ use native.Mathlib.Omega.{arith}
 use lib.ListN.{length}
 use borrow.Author.Needs.{needs}
 use borrow.Author.Tests.{not-false, eqb-true}
-use Rattle.settings.specs.declared.Limits.{Limits}
+use Rattle.settings.specs.declared.Known.{Known}
 use Rattle.recording.specs.declared.Kind.the-variants.{Rows}
 use Rattle.recording.specs.Sections.{testOf}
 use Rattle.recording.specs.Barred.{barsOf, Skipped}
@@ -17,7 +17,7 @@ use Rattle.recording.proofs.quick.right_rows.Tie as tie
 
 abbrev Inv-loop : tie.InvT-loop
 Inv-loop s n at bars whole i₀ place₀ i place =
-    (i ≤ whole) × (whole ≤ n) × (at + 24 * whole ≤ length s) × (place ≡ at + 24 * i) × ((k : Limits) → bars ≡ barsOf k → Skipped (testOf Rows k s) 24 (length s) n at i)
+    (i ≤ whole) × (whole ≤ n) × (at + 24 * whole ≤ length s) × (place ≡ at + 24 * i) × ((k : Known) → bars ≡ barsOf k → Skipped (testOf Rows k s) 24 (length s) n at i)
 
 abbrev μ-loop : tie.MeasureT-loop
 μ-loop s n at bars whole i₀ place₀ i place = whole - i
