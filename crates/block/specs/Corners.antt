@@ -9,6 +9,7 @@ use Rattle.rules.specs.declared.EffectState.{EffectState}
 use Rattle.rules.specs.declared.EffectState.the-variants.{Tripped, WaitReset, Ready, WaitStart, Normal, Delayed}
 use Rattle.rules.specs.declared.Slot.{Slot}
 use Rattle.rules.specs.Rules.{same, noSlot}
+use Rattle.effects.specs.Records.{recordLength}
 use Rattle.settings.specs.declared.Settings.{Settings}
 use Rattle.settings.specs.declared.Words.{Words}
 use Rattle.settings.specs.Signals.{noEffect}
@@ -110,7 +111,7 @@ sameSlot a b = same (a .state) (b .state) && eqb (a .timer) (b .timer) && eqb (a
 
 -- the scan of a row, with room for one record: it is accepted, and the effect is then as the table says
 abbrev scanned : Corner → Scanned
-scanned c = scanOf (settingsOf c) (c .words) (stateBefore c) 12
+scanned c = scanOf (settingsOf c) (c .words) (stateBefore c) recordLength
 
 abbrev pub agrees : Corner → Bool
 agrees c = eqb (scanned c .number) 0 && sameSlot (getD (scanned c .state .slots) 0 noSlot) (c .after)

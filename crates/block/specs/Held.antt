@@ -4,6 +4,7 @@ use mathlib.Core.List.{List, [], _++_}
 use lib.ListN.{length}
 use Rattle.bits.specs.Words.{one}
 use Rattle.effects.specs.declared.Event.{Event}
+use Rattle.effects.specs.Records.{recordLength}
 use Rattle.effects.specs.Scan.{anyMoved, anyExercised}
 use Rattle.settings.specs.declared.Settings.{Settings}
 use Rattle.settings.specs.declared.Words.{Words}
@@ -50,7 +51,7 @@ start x = record { state = x; effect = 0; latent = 0; events = []; live = 0; exe
 
 -- the answer to a single scan that is lent just the room for its records
 abbrev pub single : Settings → Words → State → Scanned
-single st w x = scanOf st w x (12 * length (events st w x))
+single st w x = scanOf st w x (recordLength * length (events st w x))
 
 -- one single scan more. It is live if some effect's state after it differs from before, and it counts as exercised if any
 -- effect's active word is not 0
@@ -75,7 +76,7 @@ unfoldable pub run : Settings → Row → State → Stepped
 run st row x = stepped st (row .words) (row .hold) (start x)
 
 unfoldable pub heldNumber : Settings → Row → State → (room : ℕ) → ℕ
-heldNumber st row x room = orElse (inputNumber st x row) (roomNumber (12 * length (run st row x .events)) room)
+heldNumber st row x room = orElse (inputNumber st x row) (roomNumber (recordLength * length (run st row x .events)) room)
 
 abbrev pub refusedHeld : State → ℕ → Held
 refusedHeld x number =

@@ -4,7 +4,7 @@ use mathlib.Core.List.{List, _++_}
 use lib.Dec.{leb}
 use lib.ListN.{length, drop}
 use Rattle.effects.specs.declared.Event.{Event}
-use Rattle.effects.specs.Records.{bytes}
+use Rattle.effects.specs.Records.{recordLength, bytes}
 use Rattle.effects.specs.Scan.{steps, seqAfter, eventsFrom, effectWord, latentWord}
 use Rattle.settings.specs.declared.Settings.{Settings}
 use Rattle.settings.specs.declared.Words.{Words}
@@ -31,7 +31,7 @@ inputNumber st x row =
 
 -- the records at the front of a lent buffer; bytes past the last record stay as they were
 abbrev pub atFront : List Event → List ℕ → List ℕ
-atFront es out = bytes es ++ drop (12 * length es) out
+atFront es out = bytes es ++ drop (recordLength * length es) out
 
 -- ## One scan
 
@@ -53,7 +53,7 @@ unfoldable pub events : Settings → Words → State → List Event
 events st w x = eventsFrom (x .next) (x .done + 1) 1 (signals st w) (x .slots)
 
 unfoldable pub scanNumber : Settings → Words → State → (room : ℕ) → ℕ
-scanNumber st w x room = orElse (inputNumber st x (once w)) (roomNumber (12 * length (events st w x)) room)
+scanNumber st w x room = orElse (inputNumber st x (once w)) (roomNumber (recordLength * length (events st w x)) room)
 
 -- a refusal returns its number, place 0, the given state, and zeros
 abbrev pub refusedScan : State → ℕ → Scanned

@@ -8,6 +8,7 @@ use lib.Dec.{leb, ltb}
 use lib.ListN.{length}
 use Rattle.bits.specs.Lists.{allFrom}
 use Rattle.bits.specs.Words.{bitOf}
+use Rattle.effects.specs.Records.{recordLength}
 use Rattle.settings.specs.declared.Settings.{Settings}
 use Rattle.settings.specs.declared.Words.{Words}
 use Rattle.settings.specs.declared.Row.{Row}
@@ -85,12 +86,12 @@ roomCases needed room = 10 when ltb room needed ∷ []
 -- a held run: settings (2, 3), state (8), row (4, 5, 6), 9, and then 10: room below 12 bytes times the records due
 abbrev pub heldCases : Settings → Row → State → (room : ℕ) → List Case
 heldCases st row x room =
-    settingsCases st ++ stateCases st x ++ rowCases (knownOf st) row ++ scansCases x row ++ roomCases (12 * length (run st row x .events)) room
+    settingsCases st ++ stateCases st x ++ rowCases (knownOf st) row ++ scansCases x row ++ roomCases (recordLength * length (run st row x .events)) room
 
 -- a scan: the same, with a hold of 1
 abbrev pub scanCases : Settings → Words → State → (room : ℕ) → List Case
 scanCases st w x room =
-    settingsCases st ++ stateCases st x ++ rowCases (knownOf st) (once w) ++ scansCases x (once w) ++ roomCases (12 * length (events st w x)) room
+    settingsCases st ++ stateCases st x ++ rowCases (knownOf st) (once w) ++ scansCases x (once w) ++ roomCases (recordLength * length (events st w x)) room
 
 -- the opening piece: settings, a wrong row count being 4, and last 10: room below the piece
 abbrev pub openingCases : Settings → (rows room : ℕ) → List Case

@@ -7,7 +7,7 @@ use lib.Dec.{leb}
 use lib.ListN.{length}
 use lib.Seq.{sets}
 use Rattle.bits.specs.Numbers.{digits}
-use Rattle.effects.specs.Records.{bytes}
+use Rattle.effects.specs.Records.{recordLength, bytes}
 use Rattle.settings.specs.Refusals.{orElse, granted, roomNumber}
 use Rattle.recording.specs.declared.Answer.{Answer}
 use Rattle.recording.specs.Answers.{number, place, rowCount}
@@ -49,7 +49,7 @@ refusal place number = record { number = number; place = place; records = 0; row
 -- the reader's number or 9; else 10 if the records due or the totals do not fit
 abbrev pub replayNumber : List ℕ → (room totalsRoom : ℕ) → ℕ
 replayNumber s room totalsRoom =
-    orElse (replay s .number) (orElse (roomNumber (12 * length (replay s .replay .events)) room) (roomNumber 56 totalsRoom))
+    orElse (replay s .number) (orElse (roomNumber (recordLength * length (replay s .replay .events)) room) (roomNumber 56 totalsRoom))
 
 -- on 0 all records, and on any other number nothing
 abbrev pub recordsInto : List ℕ → (totalsRoom : ℕ) → List ℕ → List ℕ

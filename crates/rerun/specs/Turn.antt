@@ -6,7 +6,7 @@ use mathlib.Core.Path.{_≡_}
 use mathlib.Core.List.{List}
 use lib.ListN.{length}
 use lib.Seq.{sets}
-use Rattle.effects.specs.Records.{bytes}
+use Rattle.effects.specs.Records.{recordLength, bytes}
 use Rattle.settings.specs.declared.Settings.{Settings}
 use Rattle.planes.specs.Board.{boardAt, boardOf, markOf}
 use Rattle.block.specs.declared.Kept.{Kept}
@@ -84,11 +84,11 @@ turnInto s i buf = granted (firstRows s (i + 1) .number) (sets buf 0 (bytes (row
 
 -- the records of row i fit, if it runs
 abbrev pub Fits : List ℕ → (i room : ℕ) → Type 0
-Fits s i room = firstRows s (i + 1) .number ≡ 0 → 12 * length (rowRun s i .events) ≤ room
+Fits s i room = firstRows s (i + 1) .number ≡ 0 → recordLength * length (rowRun s i .events) ≤ room
 
 -- the room of all rows: that of their records where they are kept, one after the other, and else that of any one row
 abbrev pub roomOf : List ℕ → (keep : Bool) → ℕ
-roomOf s keep = cond keep (12 * length (replay s .replay .events)) 384
+roomOf s keep = cond keep (recordLength * length (replay s .replay .events)) 384
 
 -- ## Where the timers and first-outs are lent
 
