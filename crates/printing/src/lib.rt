@@ -78,7 +78,7 @@ fn status(good: bool, number: u8) -> u8
 fn flush(out: &[u8], at: usize) -> bool
     requires { ⌜ at ≤ length (now out) ⌝ }
 {
-    io::write_all(1, &out[..at])
+    io::write_all(1, &out[0..at])
 }
 
 // Whether all was written so far, and a place from which any piece fits.

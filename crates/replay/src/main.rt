@@ -43,7 +43,7 @@ fn replay(file: &mut [u8], out: &mut [u8]) -> u8
         return 2;
     }
     let size = input.size;
-    let status = printing::print(&file[..size], out);
+    let status = printing::print(&file[0..size], out);
     if status == 2 {
         os::fail(b"replay: standard output");
     }
