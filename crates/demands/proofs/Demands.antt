@@ -30,6 +30,7 @@ use Rattle.settings.specs.declared.Known.{Known}
 use Rattle.settings.specs.Right.{knownOf, settingsNumber, wordsNumber, rowNumber}
 use Rattle.settings.specs.Signals.{signals, signalsOf}
 use Rattle.settings.proofs.Right.{count-few}
+use Rattle.settings.proofs.Refusals.{granted-refused}
 use Rattle.block.specs.declared.State.{State}
 use Rattle.block.specs.declared.Scanned.{Scanned}
 use Rattle.block.specs.declared.Held.{Held}
@@ -67,7 +68,6 @@ use Rattle.walk.specs.Walks.{startOf, nextOf, movedOn}
 use Rattle.walk.proofs.Theorems as walk
 use Rattle.rerun.specs.declared.Replayed.{Replayed}
 use Rattle.rerun.specs.Replay.{Outcome, answered, started, refusedAt, replay, rowOf}
-use Rattle.rerun.proofs.Rows.{granted-refused}
 use Rattle.rerun.proofs.Theorems as rerun
 use Rattle.listing.specs.Printed.{hasRoom, written, placed}
 use Rattle.embed.specs.Crossing.{numbers, fitted, checked, checkNumber, checkInto, crossing, refusal as crossedRefusal, replayNumber, recordsInto, totalsOrRefusal, totalsInto}

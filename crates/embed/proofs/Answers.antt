@@ -10,7 +10,7 @@ use lib.ListN.{length}
 use lib.Seq.{sets}
 use Rattle.effects.specs.Records.{bytes}
 use Rattle.settings.specs.Refusals.{unless, orElse, roomNumber}
-use Rattle.settings.proofs.Refusals.{or-else-first, or-else-next, unless-none}
+use Rattle.settings.proofs.Refusals.{granted-none, granted-refused, or-else-first, or-else-next, unless-none}
 use Rattle.recording.specs.declared.Answer.the-variants as A
 use Rattle.recording.specs.Answers.{number, rowCount}
 use Rattle.recording.specs.Reader.{reading}
@@ -18,7 +18,6 @@ use Rattle.recording.proofs.Cases.{not-accepted}
 use Rattle.recording.proofs.Theorems.{accepted-case}
 use Rattle.rerun.specs.declared.Replayed.{Replayed}
 use Rattle.rerun.specs.Replay.{Outcome, replay, answered}
-use Rattle.rerun.proofs.Rows.{granted-none, granted-refused}
 use Rattle.rerun.proofs.Files.{refused-replay, all-the-rows, whole-so-far}
 use Rattle.embed.specs.Crossing.{numbers, fitted, crossing, refusal, replayNumber, recordsInto, totalsOrRefusal, totalsInto}
 use Rattle.embed.proofs.Stores.{length-numbers, stays}

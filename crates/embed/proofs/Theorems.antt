@@ -9,14 +9,14 @@ use lib.ListN.{length}
 use lib.Seq.{sets}
 use Rattle.effects.specs.Records.{bytes}
 use Rattle.settings.specs.Refusals.{orElse, roomNumber}
-use Rattle.settings.proofs.Refusals.{or-else-first, or-else-next, or-else-none}
+use Rattle.settings.proofs.Refusals.{granted-none, granted-refused, or-else-first, or-else-next, or-else-none}
 use Rattle.settings.proofs.Right.{count-few}
 use Rattle.recording.specs.Answers.{number, rowCount}
 use Rattle.recording.specs.Reader.{reading}
 use Rattle.recording.specs.Accepted.{Accepted}
 use Rattle.rerun.specs.declared.Replayed.{Replayed}
 use Rattle.rerun.specs.Replay.{Outcome, replay, answered}
-use Rattle.rerun.proofs.Rows.{first-alone, granted-none, granted-refused, granted-either}
+use Rattle.rerun.proofs.Rows.{first-alone, granted-either}
 use Rattle.rerun.proofs.Files.{settings-right}
 use Rattle.rerun.proofs.Theorems.{a-refused-file-is-not-run, two-records-an-effect-and-row}
 use Rattle.embed.specs.Crossing.{refusal, checkNumber, replayNumber, recordsInto, totalsOrRefusal}

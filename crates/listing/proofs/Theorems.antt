@@ -16,7 +16,7 @@ use Rattle.recording.specs.Accepted.{Accepted}
 use Rattle.rerun.specs.declared.Totals.{Totals}
 use Rattle.rerun.specs.Replay.{Outcome, whole, joined, refusedAt, replay, answered, firstRows, rowOf, rowRun}
 use Rattle.rerun.specs.Turn.{totalsOf}
-use Rattle.rerun.proofs.Rows.{granted-refused}
+use Rattle.settings.proofs.Refusals.{granted-refused}
 use Rattle.rerun.proofs.Files.{Before, by-rows, one-row-more, all-the-rows}
 use Rattle.rerun.proofs.Theorems.{whole-or-stopped}
 use Rattle.listing.specs.Text.{header, lines, refusalLine}

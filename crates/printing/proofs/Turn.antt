@@ -9,12 +9,12 @@ use borrow.Author.Tests.{leb-true, leb-false, not-true, not-false}
 use lib.ListN.{length, take, drop, length-append}
 use lib.Seq.{sets, sets-eq, length-sets, take-at, length-take-le}
 use Rattle.settings.specs.declared.Settings.{Settings}
+use Rattle.settings.proofs.Refusals.{granted-refused}
 use Rattle.recording.specs.Answers.{rowCount}
 use Rattle.recording.specs.Reader.{reading}
 use Rattle.rerun.specs.declared.Totals.{Totals}
 use Rattle.rerun.specs.Replay.{firstRows, rowRun}
 use Rattle.rerun.specs.Turn.{Going}
-use Rattle.rerun.proofs.Rows.{granted-refused}
 use Rattle.listing.specs.declared.Printed.{Printed}
 use Rattle.listing.specs.Room.{mostPiece}
 use Rattle.listing.specs.Text.{lines}

@@ -13,13 +13,13 @@ use Rattle.effects.specs.declared.Event.{Event}
 use Rattle.effects.specs.Records.{bytes}
 use Rattle.effects.proofs.Records.{length-bytes, bytes-append}
 use Rattle.settings.specs.declared.Settings.{Settings}
+use Rattle.settings.proofs.Refusals.{granted-none, granted-refused}
 use Rattle.recording.specs.Answers.{rowCount}
 use Rattle.recording.specs.Reader.{reading}
 use Rattle.rerun.specs.declared.Totals.{Totals}
 use Rattle.rerun.specs.declared.Turn.{Turn}
 use Rattle.rerun.specs.Replay.{Outcome, replay, firstRows, rowRun}
 use Rattle.rerun.specs.Turn.{Going, Fits, roomOf, turnOf, turnInto}
-use Rattle.rerun.proofs.Rows.{granted-none, granted-refused}
 use Rattle.rerun.proofs.Files.{no-rows, events-in-all}
 use Rattle.rerun.proofs.Turns as turns
 

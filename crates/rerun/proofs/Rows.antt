@@ -18,7 +18,7 @@ use Rattle.settings.specs.Limits.{mostScans}
 use Rattle.settings.specs.Right.{knownOf, settingsNumber, rowNumber}
 use Rattle.settings.specs.Signals.{signals}
 use Rattle.settings.specs.Refusals.{unless, orElse, granted}
-use Rattle.settings.proofs.Refusals.{unless-none}
+use Rattle.settings.proofs.Refusals.{granted-none, unless-none}
 use Rattle.settings.proofs.Right.{count-few}
 use Rattle.block.specs.State.{stateNumber}
 use Rattle.block.specs.Scan.{scansNumber}
@@ -31,14 +31,6 @@ use Rattle.rerun.specs.Replay.{Replay, Outcome, whole, afterRow, refused
 -- ## What is given by a number
 
 module _ {A : Type 0} (a : A) (f : ℕ → A) where
-  pub granted-none : (n : ℕ) → n ≡ 0 → granted n a f ≡ a
-  granted-none zero e = refl
-  granted-none (suc k) e = absurd (omega (arith, e))
-
-  pub granted-refused : (n : ℕ) → (n ≡ 0 → ⊥) → granted n a f ≡ f n
-  granted-refused zero h = absurd (h refl)
-  granted-refused (suc k) h = refl
-
   -- what holds in both cases
   pub granted-either : (P : A → Type 0) (n : ℕ) → (n ≡ 0 → P a) → ((k : ℕ) → P (f k)) → P (granted n a f)
   granted-either P zero g h = g refl

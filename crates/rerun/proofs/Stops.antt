@@ -9,7 +9,7 @@ use borrow.Author.Tests.{leb-true}
 use lib.ListN.{length}
 use Rattle.settings.specs.declared.Row.{Row}
 use Rattle.settings.specs.Limits.{mostScans}
-use Rattle.settings.proofs.Refusals.{unless-none}
+use Rattle.settings.proofs.Refusals.{granted-none, granted-refused, unless-none}
 use Rattle.block.specs.Scan.{scansNumber}
 use Rattle.recording.specs.declared.Answer.the-variants as A
 use Rattle.recording.specs.Answers.{number, rowCount, firstRow, rowWidth}
@@ -20,7 +20,6 @@ use Rattle.recording.proofs.Theorems.{row-in-the-file}
 use Rattle.rerun.specs.declared.Stop.{Stop}
 use Rattle.rerun.specs.Replay.{Replay, Outcome, whole, joined, refusedAt, replay, firstRows, rowOf, rowRun}
 use Rattle.rerun.specs.Turn.{stopOf}
-use Rattle.rerun.proofs.Rows.{granted-none, granted-refused}
 use Rattle.rerun.proofs.Files.{no-rows, one-row-more, ends-at-refusal, all-the-rows, whole-so-far, done-next}
 
 -- in an accepted file with rows of this width: none of the first i was refused, their scans are done, and the next stands here

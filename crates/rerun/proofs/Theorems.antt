@@ -15,6 +15,7 @@ use Rattle.effects.specs.declared.Event.{Event}
 use Rattle.settings.specs.Limits.{mostScans}
 use Rattle.settings.specs.Refusals.{unless, orElse, granted, roomNumber}
 use Rattle.settings.proofs.Right.{count-few}
+use Rattle.settings.proofs.Refusals.{granted-refused}
 use Rattle.block.specs.State.{stateNumber}
 use Rattle.block.specs.Scan.{scansNumber, inputNumber}
 use Rattle.block.specs.Held.{run, grantedHeld, refusedHeld, heldNumber, heldOf}
@@ -23,7 +24,7 @@ use Rattle.recording.specs.Reader.{reading}
 use Rattle.recording.specs.Steps.{rowPlace, rowsOf}
 use Rattle.recording.specs.Accepted.{Accepted}
 use Rattle.rerun.specs.Replay.{Outcome, whole, started, joined, refusedAt, replayRows, replay, firstRows, rowOf, rowRun, eventsOf, sumOfHolds}
-use Rattle.rerun.proofs.Rows.{first-alone, granted-refused}
+use Rattle.rerun.proofs.Rows.{first-alone}
 use Rattle.rerun.proofs.Files as files
 use Rattle.rerun.proofs.Files.{by-rows}
 

@@ -15,7 +15,7 @@ use Rattle.settings.specs.declared.Settings.{Settings}
 use Rattle.settings.specs.Limits.{mostScans}
 use Rattle.settings.specs.Refusals.{granted}
 use Rattle.settings.specs.Right.{knownOf, settingsNumber, rowNumber}
-use Rattle.settings.proofs.Refusals.{unless-none}
+use Rattle.settings.proofs.Refusals.{unless-none, granted-none, granted-refused}
 use Rattle.settings.proofs.Right.{count-few}
 use Rattle.planes.specs.Board.{boardAt, boardOf}
 use Rattle.planes.specs.Table.{tableOf, slotsOf}
@@ -42,7 +42,7 @@ use Rattle.rerun.specs.declared.Totals.{Totals}
 use Rattle.rerun.specs.declared.Turn.{Turn}
 use Rattle.rerun.specs.Replay.{Replay, Outcome, whole, joined, refusedAt, started, replay, answered, firstRows, rowOf, rowRun}
 use Rattle.rerun.specs.Turn.{Fits, tallyAfter, totalsWith, turnWith, tallyOf, answerBy, totalsAt, totalsOf, Going, turnOf, turnInto}
-use Rattle.rerun.proofs.Rows.{unless-refuses, granted-none, granted-refused, granted-either}
+use Rattle.rerun.proofs.Rows.{unless-refuses, granted-either}
 use Rattle.rerun.proofs.Files.{no-rows, one-row-more, ends-at-refusal, all-the-rows, whole-so-far, counted, settings-right, row-right, few-rows, sound, sound-next, scans-next, records-next}
 
 -- ## Numbers

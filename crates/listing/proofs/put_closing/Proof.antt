@@ -1,6 +1,6 @@
 -- `listing::put_closing` meets its contract: by the two ways of its test.
 use borrow.Author.Needs.{needs}
-use Rattle.rerun.proofs.Rows.{granted-refused}
+use Rattle.settings.proofs.Refusals.{granted-refused}
 use Rattle.listing.specs.Listing.{closing}
 use Rattle.listing.specs.Text.{lastLine, refusalLine}
 use Rattle.listing.proofs.put_closing.Statement.{statement}

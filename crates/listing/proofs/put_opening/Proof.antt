@@ -4,7 +4,7 @@ use Prim.Native.Nat.{ℕ}
 use borrow.Author.Needs.{needs}
 use Rattle.recording.specs.declared.Answer.{Answer}
 use Rattle.recording.specs.declared.Answer.the-variants.{Refused}
-use Rattle.rerun.proofs.Rows.{granted-refused}
+use Rattle.settings.proofs.Refusals.{granted-refused}
 use Rattle.listing.specs.Printed.{opening}
 use Rattle.listing.specs.Text.{header, refusalLine}
 use Rattle.listing.proofs.put_opening.Statement.{statement}

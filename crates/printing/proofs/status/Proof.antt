@@ -1,7 +1,7 @@
 -- `printing::status` meets its contract.
 use Prim.Native.Nat.{ℕ}
 use borrow.Author.Tests.{not-true, not-false}
-use Rattle.rerun.proofs.Rows.{granted-none, granted-refused}
+use Rattle.settings.proofs.Refusals.{granted-none, granted-refused}
 use Rattle.printing.proofs.status.Statement.{statement}
 use Rattle.printing.proofs.status.Tie as tie
 
