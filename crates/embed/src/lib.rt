@@ -1,5 +1,7 @@
 // The library that other languages link: a check and a whole replay of a recording, by the C ABI. Each takes bytes and lent
-// buffers, keeps nothing, and answers any bytes. What crosses is in specs/Crossing.
+// buffers, keeps nothing, and answers any bytes. What crosses is in specs/Crossing, and include/pohandira.h says it in C.
+// It rests on `rerun` and what that rests on. How the room is found out (a bound, or a pass that counts) may change without moving a
+// contract; the numbers that cross, their order and their 8 bytes may not.
 ghost use mathlib.Core.Path.{_≡_};
 ghost use mathlib.Core.List.{[], _∷_};
 ghost use Prim.Native.Nat.{_+_, _*_, _≤_, _<_};
