@@ -13,12 +13,12 @@ abbrev pub numAt : ℕ → List ℕ → ℕ → ℕ
 numAt zero s at = 0
 numAt (suc w) s at = getD s at 0 * 256 ^ w + numAt w s (at + 1)
 
--- the w bytes of v
+-- the w bytes of v, which is below 256 ^ w
 abbrev pub digits : ℕ → ℕ → List ℕ
 digits zero v = []
 digits (suc w) v = v / 256 ^ w ∷ digits w (v % 256 ^ w)
 
--- the number that the w bytes from `at` spell, the lowest first, and the w bytes of v in the other order
+-- (no entry point's contract cites these two) the number that the w bytes from `at` spell, the lowest first, and the w bytes of v in the other order
 abbrev pub lowAt : ℕ → List ℕ → ℕ → ℕ
 lowAt zero s at = 0
 lowAt (suc w) s at = getD s at 0 + 256 * lowAt w s (at + 1)

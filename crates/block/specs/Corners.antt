@@ -109,7 +109,7 @@ stateBefore c = record { done = 0; next = 0; slots = c .before ∷ replicate 15 
 abbrev sameSlot : Slot → Slot → Bool
 sameSlot a b = same (a .state) (b .state) && eqb (a .timer) (b .timer) && eqb (a .first) (b .first)
 
--- the scan of a row, with room for one record: it is accepted, and the effect is then as the table says
+-- the scan of a corner, with room for one record: it is accepted, and the effect is then as the table says
 abbrev scanned : Corner → Scanned
 scanned c = scanOf (settingsOf c) (c .words) (stateBefore c) recordLength
 

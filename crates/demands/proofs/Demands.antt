@@ -1,12 +1,12 @@
 -- What the user demanded, on one page. Who trusts the definitions in the specs/ of the crates need read nothing but this: the
--- theorems are about the definitions that the contracts of the entry points cite, and the first section says so of the contracts
--- themselves. That they allow no other answer is in `Unique`; docs/PROMISES.md has every requirement beside what says it.
+-- theorems are about the definitions that the contracts of the entry points cite, and about document 01's own (`Refused`, `Recording`,
+-- `byRounds`, `corners`); the first section says so of the contracts themselves. That they allow no other answer is in `Unique`; docs/PROMISES.md has every requirement beside what says it.
 -- `Bytes s` says that every number of s is below 256: what a slice of bytes holds.
 use mathlib.Core.Path.{_≡_, refl, sym, ap, _∙_}
 use mathlib.Core.Bool.{true, false}
 use mathlib.Core.List.{List, [], _∷_, _++_}
 use mathlib.Core.Logic.{_⊎_, ⊎-elim, _↔_}
-use Prim.Native.Nat.{ℕ, _+_, _*_, _^_, _≤_, _<_}
+use Prim.Native.Nat.{ℕ, suc, _+_, _*_, _^_, _≤_, _<_}
 use native.Mathlib.Numerals.{add-one}
 use native.Mathlib.Omega.{arith}
 use contract.Lifetimes.{Lfts}
@@ -54,7 +54,7 @@ use Rattle.recording.specs.declared.Reading.{Reading}
 use Rattle.recording.specs.declared.Step.{Step}
 use Rattle.recording.specs.Reader.{refusal, reading}
 use Rattle.recording.specs.Entries.{putRow}
-use Rattle.recording.specs.Answers.{number, place, rowCount, ended}
+use Rattle.recording.specs.Answers.{number, place, rowCount, ended, stepRow, nextPlace}
 use Rattle.writing.specs.Answers.{writtenNumber, writtenPlace, writtenLength}
 use Rattle.recording.specs.Steps.{stepAt, rowPlace, rowsOf}
 use Rattle.recording.specs.Encode.{encode, opening, Right}
@@ -64,7 +64,7 @@ use Rattle.recording.proofs.Theorems as recording
 use Rattle.writing.specs.declared.Written.{Written}
 use Rattle.writing.specs.Writer.{openingNumber, openingWritten, openingAfter, rowPieceNumber, rowWritten, rowAfter}
 use Rattle.walk.specs.declared.Walk.{Walk}
-use Rattle.walk.specs.Walks.{startOf, nextOf, movedOn}
+use Rattle.walk.specs.Walks.{startOf, nextOf, movedOn, given}
 use Rattle.walk.proofs.Theorems as walk
 use Rattle.rerun.specs.declared.Replayed.{Replayed}
 use Rattle.rerun.specs.Replay.{Outcome, answered, started, refusedAt, replay, rowOf}
@@ -104,15 +104,15 @@ pub row-step-answers : (κs : Lfts 1) (s : RefT (List ℕ)) (at : ℕ) → row-s
     × ((a : Step) (e : _) → row-step.Learnt κs (s, (at, tt)) a e → a ≡ stepAt (now s) at)
 row-step-answers κs s at = (tt, λ a e h. h)
 
-pub opening-answers : (κs : Lfts 1) (st : Settings) (rows : ℕ) (out : RefT (List ℕ)) → write-opening.Asked κs (st, (rows, (out, tt)))
+pub write-opening-answers : (κs : Lfts 1) (st : Settings) (rows : ℕ) (out : RefT (List ℕ)) → write-opening.Asked κs (st, (rows, (out, tt)))
     × ((a : Written) (e : _) → write-opening.Learnt κs (st, (rows, (out, tt))) a e
     → (a ≡ openingWritten st rows (length (now out))) × (now (e .1 .1 .0) ≡ openingAfter st rows (now out)))
-opening-answers κs st rows out = (tt, λ a e h. h)
+write-opening-answers κs st rows out = (tt, λ a e h. h)
 
-pub row-answers : (κs : Lfts 1) (st : Settings) (row : Row) (out : RefT (List ℕ)) → write-row.Asked κs (st, (row, (out, tt)))
+pub write-row-answers : (κs : Lfts 1) (st : Settings) (row : Row) (out : RefT (List ℕ)) → write-row.Asked κs (st, (row, (out, tt)))
     × ((a : Written) (e : _) → write-row.Learnt κs (st, (row, (out, tt))) a e
     → (a ≡ rowWritten st row (length (now out))) × (now (e .1 .1 .0) ≡ rowAfter st row (now out)))
-row-answers κs st row out = (tt, λ a e h. h)
+write-row-answers κs st row out = (tt, λ a e h. h)
 
 pub replay-answers : (κs : Lfts 1) (s : RefT (List ℕ)) → whole-file.Asked κs (s, tt)
     × ((a : Replayed) (e : _) → whole-file.Learnt κs (s, tt) a e → a ≡ answered (replay (now s)))
@@ -131,7 +131,8 @@ pub replay-crosses : (κs : Lfts 3) (s records totals : RefT (List ℕ)) → cro
     × (now (e .1 .1 .0) ≡ totalsInto (now s) (length (now records)) (now totals)))
 replay-crosses κs s records totals = (tt, λ a e h. (h .0, h .1 .0, h .1 .1))
 
--- ## Demand 1: bad input is refused by a fixed number, in order; a refusal gives back the state and touches no lent byte
+-- ## Demand 1: bad input is refused by a fixed number, in order; a refusal gives back the state and touches no lent byte (but for the
+-- ## static library's `answer` and `totals`, which carry the refusal itself)
 
 -- one scan (`State::scan`), of any settings, words, state and lent bytes
 pub scan-refuses-in-order : (st : Settings) (w : Words) (x : State) (out : List ℕ) → let a = scanOf st w x (length out) in
@@ -208,7 +209,7 @@ pub replay-refuses-in-order : (s : List ℕ) → let o = replay s in let r = rep
 replay-refuses-in-order s = (rerun.a-refused-file-is-not-run s, rerun.whole-or-stopped s)
 
 -- the library's check (`pohandira_check`): the reader's number, whatever the room, and last 10: room below 24 bytes. With that room
--- the answer begins with number, place and rows, which are 0 in a refused file, and without it no byte is touched
+-- the answer begins with number, place and rows (no rows in a refused file), and without it no byte is touched
 pub record CheckInOrder (s answer : List ℕ) : Type 0 where
   pub the-readers : (Accepted s → ⊥) → let a = reading s .answer in
       (checkNumber s (length answer) ≡ number a) × Refused s (number a) (place a) × (rowCount a ≡ 0)
@@ -319,6 +320,10 @@ pub record Demand2 : Type 0 where
   pub accepts-exactly : (s : List ℕ) → Bytes s → Accepted s ↔ Recording s
   -- and the answer is the settings and the rows that it is of
   pub reads-what-is-there : (st : Settings) (rows : List Row) → Right st rows → Answers (encode st rows) st rows
+  -- row by row: the step at each row's place gives it and the place of the next (`row_step`), and so do the steps of a walk (`start`, `next`)
+  pub gives-its-rows : (s : List ℕ) (i : ℕ) → i < rowCount (reading s .answer) → let x = stepAt s (rowPlace s i) in
+      (ended x ≡ false) × (stepRow x ≡ rowOf s i) × (nextPlace x ≡ rowPlace s (suc i))
+  pub walk-gives-its-rows : (s : RefT (List ℕ)) → given (rowCount (reading (now s) .answer)) (startOf s .walk) ≡ rowsOf (now s)
   -- writing what was read gives the same bytes, whatever the lent buffers held
   pub same-bytes-again : (lent : ℕ → List ℕ) → ((n : ℕ) → length (lent n) ≡ n) → (s : List ℕ) → Bytes s → Accepted s → writtenBack lent s ≡ s
   -- one scan of every accepted setting, state and row, with room for its records (a state has sixteen slots, as the array has)
@@ -333,6 +338,8 @@ pub demand-2 : Demand2
 demand-2 = record {
   accepts-exactly = λ s b. (λ h. let e = recording.accepted-is-encoding s b h in (reading s .settings, rowsOf s, e .0, e .1), λ r. rw (r .3) at (recording.encoding-is-accepted (r .0) (r .1) (r .2) .0));
   reads-what-is-there = recording.encoding-is-accepted;
+  gives-its-rows = recording.row-at-its-place;
+  walk-gives-its-rows = walk.walk-gives-all-rows;
   same-bytes-again = same-bytes;
   one-scan = by-the-rules;
   corner-table = corner-table;
@@ -393,8 +400,9 @@ demand-3 st x w hold out right state words some most scans fits =
           (rw add-one (one-more st k w (start x)), block.every-scan-is-accepted st row x right state ok scans k h _ (omega arith)),
     )
 
--- the stroke itself: rounds, at most as many as twice the effects and one, each a scan by the rules and then all scans before the next
--- live one or the end, come to those single scans
+-- a stroke by rounds, as document 01 means it: at most as many as twice the effects and one, each a scan by the rules and then all scans
+-- before the next live one or the end, come to those single scans. That the code goes so is the loop of `planes::stroke` and its falling
+-- number
 pub one-stroke-is-by-rounds : (st : Settings) (x : State) (w : Words) (hold : ℕ)
     → settingsNumber st ≡ 0 → stateNumber st x ≡ 0 → wordsNumber (knownOf st) w ≡ 0 → 1 ≤ hold → hold ≤ 1000000 → x .done + hold ≤ 1000000000
     → byRounds (2 * st .count + 1) (signals st w) hold (startRun (x .done) (x .next) (x .slots)) ≡ runOf (stepped st w hold (start x))

@@ -94,6 +94,8 @@ recording-row-step κs = record { nothing-asked = λ a. tt; unique = by-equation
 pub recording-row-in : (κs : Lfts 1) → OneAnswer (recording·row-in.Asked κs) (recording·row-in.Learnt κs) none
 recording-row-in κs = record { nothing-asked = λ a. tt; unique = by-equation (recording·row-in.Learnt κs) _ (λ a r e h. h) }
 
+-- ## The writer (`writing`)
+
 pub writing-write-opening : (κs : Lfts 1) → OneAnswer (writing·write-opening.Asked κs) (writing·write-opening.Learnt κs) (λ e. now (e .1 .1 .0))
 writing-write-opening κs = record { nothing-asked = λ a. tt; unique = by-equations (writing·write-opening.Learnt κs) (λ e. now (e .1 .1 .0)) _ _ (λ a r e h. h) }
 

@@ -16,7 +16,7 @@ use Rattle.writing.specs.Writer.{openingAfter, rowAfter}
 abbrev pub Recording : List ℕ → Type 0
 Recording s = (st : Settings) × (rows : List Row) × Right st rows × (encode st rows ≡ s)
 
--- the opening and then each row, as the writer leaves them in the buffers that it is lent, each with room for its piece
+-- the opening and then each row, as the writer leaves them in the buffers that it is lent, each just as long as its piece
 abbrev pub writtenBack : (lent : ℕ → List ℕ) → List ℕ → List ℕ
 writtenBack lent s =
     let st = reading s .settings in

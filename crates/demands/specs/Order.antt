@@ -1,5 +1,5 @@
 -- Refusals as a table: each number beside its case, in the order in which the cases are looked at. Document 01, "Refusal
--- numbers". The tests are those of the crates below; here stands their order alone.
+-- numbers". Most tests are those of the crates below, and limits are written out; what counts here is their order.
 use Prim.Native.Nat.{ℕ, _+_, _*_}
 use mathlib.Core.Path.{_≡_}
 use mathlib.Core.Bool.{Bool, cond, not, _&&_}

@@ -7,6 +7,7 @@ ghost use mathlib.Core.List.{[], _∷_};
 ghost use Prim.Native.Nat.{_+_, _*_, _≤_, _<_};
 ghost use lib.ListN.{length};
 ghost use lib.Seq.{sets};
+ghost use Rattle.effects.specs.Records.{recordLength};
 ghost use Rattle.settings.specs.Refusals.{orElse, roomNumber};
 ghost use Rattle.wiring.specs.Wiring.{Wired};
 ghost use Rattle.recording.specs.declared.Answer.the-variants.{Accepted};
@@ -107,7 +108,7 @@ fn records_number(
     room: usize,
 ) -> u8
     requires { ⌜ (reading (now s) .answer ≡ Accepted rows first width) × (st ≡ reading (now s) .settings) × Wired st x (now causes) (now times) ⌝ }
-    ensures { λ r. ⌜ r ≡ roomNumber (12 * length (replay (now (s .entry)) .replay .events)) room ⌝ }
+    ensures { λ r. ⌜ r ≡ roomNumber (recordLength * length (replay (now (s .entry)) .replay .events)) room ⌝ }
 {
     if 24 * x.count * (rows as usize) <= room {
         return 0;

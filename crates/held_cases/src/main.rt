@@ -1,5 +1,5 @@
 // Answers a stream of held cases: 245 bytes each on standard input, a line each on standard output. second/README.md
-// lays both out. It is a test program over `block`, `cases` and `streams`: all but the stream may change.
+// lays both out. It is a test program over `block`, `recording` (for words), `cases` and `streams`: all but the stream may change.
 ghost use mathlib.Core.Path.{_≡_};
 ghost use Prim.Native.Nat.{_≤_};
 ghost use lib.ListN.{length};

@@ -13,7 +13,7 @@ use Rattle.recording.specs.declared.Answer.{Answer}
 use Rattle.recording.specs.Answers.{number, place}
 use Rattle.rerun.specs.declared.Totals.{Totals}
 use Rattle.rerun.specs.Replay.{replay, firstRows, rowRun}
-use Rattle.rerun.specs.Turn.{totalsOf, tallyOf, answerBy}
+use Rattle.rerun.specs.Turn.{totalsOf}
 use Rattle.listing.specs.declared.Piece.{Piece}
 use Rattle.listing.specs.declared.Printed.{Printed}
 use Rattle.listing.specs.Room.{mostPiece}
@@ -32,7 +32,17 @@ rowLines s i = granted (firstRows s (i + 1) .number) (lines (rowRun s i .events)
 
 -- by the number of the row that came last, and the totals, whose place is that of the row
 abbrev pub closingBy : (number : ℕ) → Totals → List ℕ
-closingBy number t = closing (answerBy number (t .place) (tallyOf t))
+closingBy number t =
+    closing
+    (record {
+      number = number;
+      place = t .place;
+      records = t .records;
+      rows = t .rows;
+      scans = t .board .done;
+      live = t .live;
+      exercised = t .exercised;
+    })
 
 -- the lines of the first n rows, joined
 abbrev pub rowsLines : List ℕ → (n : ℕ) → List ℕ

@@ -7,7 +7,7 @@ ghost use Prim.Native.Nat.{_+_, _*_, _≤_};
 ghost use lib.ListN.{length};
 ghost use lib.Seq.{sets};
 ghost use Rattle.bits.specs.Decimal.{ascii, decimal};
-ghost use Rattle.effects.specs.Records.{eventsAt};
+ghost use Rattle.effects.specs.Records.{recordLength, eventsAt};
 ghost use Rattle.listing.specs.Pieces.{when, change, total};
 ghost use Rattle.listing.specs.Room.{mostPiece};
 ghost use Rattle.listing.specs.Text.{header, name, line, lines, lastLine, refusalLine};
@@ -94,7 +94,7 @@ fn put_line(out: &mut [u8], at: usize, e: Event) -> usize
 
 // The lines of the n records at the front of `records`.
 pub fn put_lines(out: &mut [u8], at: usize, records: &[u8], n: usize) -> usize
-    requires { ⌜ (n ≤ 32) × (12 * n ≤ length (now records)) × (at + mostPiece ≤ length (now out)) ⌝ }
+    requires { ⌜ (n ≤ 32) × (recordLength * n ≤ length (now records)) × (at + mostPiece ≤ length (now out)) ⌝ }
     ensures { λ r. ⌜ (r ≡ at + length (lines (eventsAt (now (records .entry)) n 0))) × (now (out .exit) ≡ sets (now (out .entry)) at (lines (eventsAt (now (records .entry)) n 0))) ⌝ }
     ensures { λ r. ⌜ r ≤ length (now (out .entry)) ⌝ }
 {

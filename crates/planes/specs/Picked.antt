@@ -1,4 +1,4 @@
--- Lists of what passes a test, counted as they are picked. No promise cites this page.
+-- Lists of what passes a test, counted as they are picked. No entry point's contract cites this page.
 use Prim.Native.Nat.{ℕ, zero, suc}
 use mathlib.Core.Bool.{Bool, cond}
 use mathlib.Core.List.{List, [], _∷_, _++_}

@@ -1,4 +1,4 @@
--- Reading and writing undo each other: an accepted file is the encoding of what was read, and an encoding is an opening
+-- Reading and encoding undo each other: an accepted file is the encoding of what was read, and an encoding is an opening
 -- piece and its rows.
 use mathlib.Core.Path.{_≡_, refl, _∙_}
 use mathlib.Core.List.{List, _++_, append-assoc, flatMap}

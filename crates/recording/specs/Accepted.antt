@@ -13,7 +13,7 @@ use Rattle.recording.specs.Steps.{rowsOf}
 abbrev pub Accepted : List ℕ → Type 0
 Accepted s = number (reading s .answer) ≡ 0
 
--- the answer is these settings and so many rows
+-- the answer is these settings and these rows, and where the first row stands and how long a row is
 abbrev pub Answers : List ℕ → Settings → List Row → Type 0
 Answers s st rows =
     Accepted s

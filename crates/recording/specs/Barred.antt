@@ -1,5 +1,6 @@
 -- The quick test of rows: the bits that no right row has, made once for all rows, and what it answers. A row is three numbers of eight
--- bytes: the hold and two words, four words, four words. Document 01, "Settings, row, state" and "Recordings".
+-- bytes: the hold and two words, four words, four words. Document 01, "Settings, row, state" and "Recordings". No entry point's contract
+-- cites this page.
 use Prim.Native.Nat.{ℕ, _+_, _*_, _-_, _^_, _≤_}
 use mathlib.Core.Path.{_≡_}
 use Rattle.bits.specs.Words.{bitOf}

@@ -8,6 +8,8 @@ use Rattle.settings.specs.declared.Effect.{Effect}
 use Rattle.settings.specs.declared.Row.{Row}
 use Rattle.settings.specs.declared.Settings.{Settings}
 use Rattle.settings.specs.Right.{knownOf, settingsNumber, rowNumber}
+use Rattle.recording.specs.declared.Kind.the-variants.{Rows}
+use Rattle.recording.specs.Sections.{leastOf, mostOf}
 use Rattle.recording.specs.Entries.{BlockEntry, putBlock, putEffect, putRow}
 
 abbrev pub blockOf : Settings → BlockEntry
@@ -37,6 +39,6 @@ All check (a ∷ xs) = (check a ≡ 0) × All check xs
 pub record Right (st : Settings) (rows : List Row) : Type 0 where
   pub settings : settingsNumber st ≡ 0
   pub slots : length (st .effects) ≡ 16
-  pub rows-least : 1 ≤ length rows
-  pub rows-most : length rows ≤ 2048
+  pub rows-least : leastOf Rows ≤ length rows
+  pub rows-most : length rows ≤ mostOf Rows
   pub each-row : All (rowNumber (knownOf st)) rows

@@ -14,7 +14,7 @@ use Rattle.recording.specs.declared.Section.the-variants as S
 use Rattle.recording.specs.declared.Answer.the-variants as A
 use Rattle.recording.specs.declared.Reading.{Reading}
 use Rattle.recording.specs.declared.Kind.the-variants.{Block, Effects, Rows}
-use Rattle.recording.specs.Entries.{effectAt, listOf}
+use Rattle.recording.specs.Entries.{blockAt, effectAt, listOf}
 use Rattle.recording.specs.Sections.{widthOf, sectionOf}
 
 -- ## Settings, and what is known of them
@@ -23,9 +23,9 @@ use Rattle.recording.specs.Sections.{widthOf, sectionOf}
 abbrev pub settingsAt : List ℕ → ℕ → Settings
 settingsAt s e =
     record {
-      causes = numAt 1 s 2;
-      options = numAt 1 s 3;
-      period = numAt 2 s 4;
+      causes = blockAt s 2 .causes;
+      options = blockAt s 2 .options;
+      period = blockAt s 2 .period;
       count = numAt 2 s e;
       effects = listOf (effectAt s) (widthOf Effects) (numAt 2 s e) (e + 2) ++ replicate (16 - numAt 2 s e) noEffect;
     }
@@ -35,7 +35,7 @@ abbrev pub nothingKnown : Known
 nothingKnown = record { causes = 0; count = 0; options = 0 }
 
 abbrev pub knownOfBlock : List ℕ → Known
-knownOfBlock s = record { causes = numAt 1 s 2; count = 0; options = numAt 1 s 3 }
+knownOfBlock s = record { causes = blockAt s 2 .causes; count = 0; options = blockAt s 2 .options }
 
 -- ## The reading
 

@@ -1,6 +1,6 @@
--- Why a file is refused, by which number and at which place, in words of its bytes and of the sections before
--- it that pass. Document 01, "Refusal numbers": the table, the order in a file, and the place: the file length for 1, the first byte of the count or entry for 2 to 6, the
--- first spare byte for 7.
+-- Why a file is refused, by which number and at which place, in words of its bytes and of the sections before it that pass.
+-- Document 01, "Refusal numbers": the table, the order in a file, and the place: the file length for 1, the first byte of the
+-- count or entry for 2 to 6, the first spare byte for 7.
 use Prim.Native.Nat.{ℕ, suc, _+_, _*_, _≤_, _<_}
 use mathlib.Core.Path.{_≡_}
 use mathlib.Core.Bool.{true, false}

@@ -54,7 +54,8 @@ whole r = record { number = 0; place = 0; replay = r }
 abbrev pub refusedAt : ℕ → Replay → ℕ → Outcome
 refusedAt at r n = record { number = n; place = at; replay = r }
 
--- the rows from `at` on, each `width` bytes: 9 at the first byte of the row whose scans cannot be counted
+-- the rows from `at` on, each `width` bytes: 9 at the first byte of the row whose scans cannot be counted. Settings, rows and state are
+-- right here, so that of a held run's numbers no other can come (`a-row-is-refused-by-9-alone`, proofs/Theorems)
 abbrev pub rowsFrom : Settings → (width at : ℕ) → List Row → Replay → Outcome
 rowsFrom st width at [] r = whole r
 rowsFrom st width at (row ∷ rows) r =
@@ -68,7 +69,8 @@ replayRows s rows = rowsFrom (reading s .settings) (rowWidth (reading s .answer)
 unfoldable pub replay : List ℕ → Outcome
 replay s = granted (number (reading s .answer)) (replayRows s (rowsOf s)) (refusedAt (place (reading s .answer)) started)
 
--- the answer to a whole file: what its replay comes to, without the events
+-- the answer to a whole file: what its replay comes to, without the events. On 9 the rows before it stand beside the number: ours,
+-- docs/DECISIONS.md
 abbrev pub answered : Outcome → Replayed
 answered o =
     record {

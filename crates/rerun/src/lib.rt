@@ -8,7 +8,7 @@ ghost use mathlib.Core.Bool.{cond, true};
 ghost use Prim.Native.Nat.{_+_, _*_, _≤_, _<_};
 ghost use lib.ListN.{length};
 ghost use lib.Seq.{sets};
-ghost use Rattle.effects.specs.Records.{bytes};
+ghost use Rattle.effects.specs.Records.{recordLength, bytes};
 ghost use Rattle.recording.specs.declared.Answer.the-variants.{Accepted};
 ghost use Rattle.recording.specs.Answers.{rowCount};
 ghost use Rattle.recording.specs.Reader.{reading};
@@ -269,14 +269,14 @@ fn not_run(number: u8, place: usize) -> Replayed
 
 // Where the records of the next row go: after those so far where they are kept, else over them.
 fn place_of(keep: bool, records: u32) -> usize
-    ensures { λ r. ⌜ r ≡ cond keep (12 * records) 0 ⌝ }
+    ensures { λ r. ⌜ r ≡ cond keep (recordLength * records) 0 ⌝ }
 {
     if keep { 12 * records as usize } else { 0 }
 }
 
 // A file that the reader accepted: its rows, up to one that is refused. Their records go to the front of `buf`, one after the
-// other, if they are to be kept; else each row's go over those of the row before. This is the one loop over the rows of a
-// replay, so that all below it is compiled into it.
+// other, if they are to be kept; else each row's go over those of the row before. This is the one loop that runs rows
+// without text, so that all below it is compiled into it.
 pub fn replay_rows(
     s: &[u8],
     st: Settings,

@@ -8,6 +8,10 @@ mostCauses = 16
 abbrev pub mostEffects : ℕ
 mostEffects = 16
 
+-- the scan period, in milliseconds
+abbrev pub mostPeriod : ℕ
+mostPeriod = 1000
+
 -- a delay, in milliseconds
 abbrev pub mostDelay : ℕ
 mostDelay = 3600000

@@ -11,14 +11,14 @@ use Rattle.settings.specs.declared.Settings.{Settings}
 use Rattle.settings.specs.declared.Words.{Words}
 use Rattle.settings.specs.declared.Row.{Row}
 use Rattle.settings.specs.declared.Known.{Known}
-use Rattle.settings.specs.Limits.{mostCauses, mostEffects, mostDelay, mostHold}
+use Rattle.settings.specs.Limits.{mostCauses, mostEffects, mostPeriod, mostDelay, mostHold}
 use Rattle.settings.specs.Refusals.{unless, orElse}
 
 -- ## Settings: 2, then 3
 
 -- cause count 1..16; options, bits 3 to 7 zero (as "Recordings" says of a file); scan period 1..1,000 ms
 abbrev pub blockOk : (causes options period : ℕ) → Bool
-blockOk causes options period = leb 1 causes && leb causes mostCauses && ltb options 8 && leb 1 period && leb period 1000
+blockOk causes options period = leb 1 causes && leb causes mostCauses && ltb options 8 && leb 1 period && leb period mostPeriod
 
 abbrev pub blockNumber : (causes options period : ℕ) → ℕ
 blockNumber causes options period = unless (blockOk causes options period) 2
@@ -77,7 +77,7 @@ apartNumber w = unless (apart w) 5
 abbrev pub several : Words → Bool
 several w = ltb 1 (ones (w .«force_trip») + ones (w .«force_normal»))
 
--- several effects may be forced if option bit 2 is set, permitted or not
+-- 6: several forced without option bit 2, whether or not forces are permitted
 abbrev pub severalNumber : Known → Words → ℕ
 severalNumber k w = unless (bitOf (k .options) 2 || not (several w)) 6
 

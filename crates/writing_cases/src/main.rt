@@ -1,6 +1,6 @@
 // Answers a stream of writing cases: 129 bytes each on standard input, a line each on standard output, the opening piece
 // and then the row piece, each in a buffer of its own. second/README.md lays both out. It is a test program over `writing`,
-// `cases` and `streams`: all but the stream may change.
+// `recording` (for words), `cases` and `streams`: all but the stream may change.
 ghost use Prim.Native.Nat.{_≤_};
 ghost use lib.ListN.{length};
 use settings::Row;
