@@ -4,7 +4,7 @@ use Prim.Native.Nat.{ℕ, _+_, _*_}
 use mathlib.Core.Path.{_≡_}
 use mathlib.Core.Bool.{Bool, cond, not, _&&_}
 use mathlib.Core.List.{List, [], _∷_, _++_}
-use lib.Dec.{leb, ltb}
+use lib.Dec.{ltb}
 use lib.ListN.{length}
 use Rattle.bits.specs.Lists.{allFrom}
 use Rattle.bits.specs.Words.{bitOf}
@@ -13,7 +13,7 @@ use Rattle.settings.specs.declared.Settings.{Settings}
 use Rattle.settings.specs.declared.Words.{Words}
 use Rattle.settings.specs.declared.Row.{Row}
 use Rattle.settings.specs.declared.Known.{Known}
-use Rattle.settings.specs.Limits.{mostHold, mostScans}
+use Rattle.settings.specs.Limits.{between, mostHold, mostScans}
 use Rattle.settings.specs.Right.{blockOk, countOk, slotOk, knownOf, wordsOk, apart, several}
 use Rattle.block.specs.declared.State.{State}
 use Rattle.block.specs.State.{stateOk}
@@ -63,7 +63,7 @@ wordsCases k w =
 
 -- 4: the hold wrong, before the words
 abbrev pub rowCases : Known → Row → List Case
-rowCases k row = 4 when not (leb 1 (row .hold) && leb (row .hold) mostHold) ∷ wordsCases k (row .words)
+rowCases k row = 4 when not (between 1 mostHold (row .hold)) ∷ wordsCases k (row .words)
 
 -- 4: row count wrong
 abbrev pub countCases : ℕ → List Case

@@ -1,12 +1,12 @@
 -- The sections of a file: a 16-bit count, then entries. Document 01, "Recordings" and the order under "Refusal numbers".
 use Prim.Native.Nat.{ℕ, zero, suc, _+_}
-use mathlib.Core.Bool.{Bool, cond, _&&_}
+use mathlib.Core.Bool.{Bool, cond}
 use mathlib.Core.List.{List}
 use lib.Dec.{leb}
 use lib.ListN.{length}
 use Rattle.bits.specs.Numbers.{numAt}
 use Rattle.settings.specs.declared.Known.{Known}
-use Rattle.settings.specs.Limits.{mostEffects}
+use Rattle.settings.specs.Limits.{between, mostEffects}
 use Rattle.settings.specs.Refusals.{granted}
 use Rattle.settings.specs.Right.{effectNumber, rowNumber}
 use Rattle.recording.specs.declared.Section.{Section}
@@ -26,7 +26,7 @@ entries test w len (suc n) at = cond (leb (at + w) len) (granted (test at) (entr
 unfoldable pub section : (test : ℕ → ℕ) (w least most number : ℕ) → List ℕ → (at : ℕ) → Section
 section test w least most number s at =
     cond (leb (at + 2) (length s))
-    (cond (leb least (numAt 2 s at) && leb (numAt 2 s at) most) (entries test w (length s) (numAt 2 s at) (at + 2)) (Refused number at))
+    (cond (between least most (numAt 2 s at)) (entries test w (length s) (numAt 2 s at) (at + 2)) (Refused number at))
     (Refused 1 (length s))
 
 -- ## The kinds of section
@@ -49,7 +49,7 @@ mostOf Effects = mostEffects
 mostOf Rows = 2048
 
 abbrev pub countOk : Kind → ℕ → Bool
-countOk kind n = leb (leastOf kind) n && leb n (mostOf kind)
+countOk kind n = between (leastOf kind) (mostOf kind) n
 
 -- the number that refuses a count
 abbrev pub numberOf : Kind → ℕ

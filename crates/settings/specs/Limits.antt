@@ -1,5 +1,11 @@
 -- The limits that document 01 sets under "Settings, row, state".
 use Prim.Native.Nat.{ℕ}
+use mathlib.Core.Bool.{Bool, _&&_}
+use lib.Dec.{leb}
+
+-- n is least..most
+abbrev pub between : (least most n : ℕ) → Bool
+between least most n = leb least n && leb n most
 
 -- causes and effects, at least one of each
 abbrev pub mostCauses : ℕ

@@ -11,7 +11,7 @@ use Rattle.settings.specs.declared.Settings.{Settings}
 use Rattle.settings.specs.declared.Words.{Words}
 use Rattle.settings.specs.declared.Row.{Row}
 use Rattle.settings.specs.declared.Known.{Known}
-use Rattle.settings.specs.Limits.{mostCauses, mostEffects, mostPeriod, mostDelay, mostHold}
+use Rattle.settings.specs.Limits.{between, mostCauses, mostEffects, mostPeriod, mostDelay, mostHold}
 use Rattle.settings.specs.Refusals.{unless, orElse}
 
 -- ## Settings: 2, then 3
@@ -32,7 +32,7 @@ effectNumber causes e = unless (effectOk causes e) 3
 
 -- effects 1..16
 abbrev pub countOk : ℕ → Bool
-countOk count = leb 1 count && leb count mostEffects
+countOk count = between 1 mostEffects count
 
 abbrev pub knownOf : Settings → Known
 knownOf st = record { causes = st .causes; count = st .count; options = st .options }
@@ -86,7 +86,7 @@ wordsNumber k w = orElse (fieldsNumber k w) (orElse (apartNumber w) (severalNumb
 
 -- a hold of 1..1,000,000 scans
 abbrev pub holdNumber : ℕ → ℕ
-holdNumber hold = unless (leb 1 hold && leb hold mostHold) 4
+holdNumber hold = unless (between 1 mostHold hold) 4
 
 unfoldable pub rowNumber : Known → Row → ℕ
 rowNumber k r = orElse (holdNumber (r .hold)) (wordsNumber k (r .words))
