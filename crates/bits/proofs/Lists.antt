@@ -1,16 +1,17 @@
--- Laws of lists that are made or tested by their index.
+-- Laws of lists that are made or tested by their index, and of lists joined from pieces.
 use mathlib.Core.Path.{_≡_, refl, ap, ap₂, sym, _∙_}
 use mathlib.Core.Bool.{Bool, true, false, not, _&&_, _||_, false≢true}
-use mathlib.Core.List.{List, [], _∷_, _++_, map, append-assoc}
+use mathlib.Core.List.{List, [], _∷_, _++_, map, flatMap, append-assoc, append-nil}
 use mathlib.Core.Logic.{⊎-elim}
-use Prim.Native.Nat.{ℕ, zero, suc, _+_, _<_, _≤_, suc-le-suc}
-use native.Mathlib.Nat.{add-zero, eq-or-lt-of-le, le-of-suc-le-suc, not-suc-le-zero}
+use Prim.Native.Nat.{ℕ, zero, suc, _+_, _*_, _<_, _≤_, suc-le-suc}
+use native.Mathlib.Nat.{add-zero, mul-add, mul-suc, mul-zero, eq-or-lt-of-le, le-of-suc-le-suc, not-suc-le-zero}
 use native.Mathlib.Numerals.{add-one}
 use native.Mathlib.Omega.{arith}
 use borrow.Author.Tests.{not-true, not-false}
 use lib.ListN.{length, take, drop, set, getD, replicate, length-append, length-map, drop-of-length-le, List·getD-append}
-use lib.Seq.{set-at, drop-cons, getD-at, take-at, take-suc, length-take-le}
+use lib.Seq.{set-at, sets, drop-cons, getD-at, take-suc, length-take-le}
 use Rattle.bits.specs.Lists.{tabulate, allFrom}
+use Rattle.bits.proofs.Numbers.{sets-append}
 
 -- ## Both tests
 
@@ -74,9 +75,6 @@ module _ {A : Type 0} where
   pub getD-filled : (f : ℕ → A) (n : ℕ) (l : List A) (i : ℕ) (d : A) → i < n → getD (tabulate f n ++ l) i d ≡ f i
   getD-filled f n l i d h = List·getD-append (tabulate f n) l d i (rw length-tabulate h) ∙ getD-tabulate f n i d h
 
-  pub take-filled : (f : ℕ → A) (n : ℕ) (l : List A) → take n (tabulate f n ++ l) ≡ tabulate f n
-  take-filled f n l = take-at (tabulate f n) l n (length-tabulate f n)
-
   -- one more element copied to the front
   pub copy-more : (s l : List A) (i : ℕ) (d : A) → i < length s → i < length l
       → set (take i s ++ drop i l) i (getD s i d) ≡ take (i + 1) s ++ drop (i + 1) l
@@ -135,3 +133,35 @@ module _ {A B : Type 0} (f : A → B) where
 -- an array as the machine holds it has as many elements
 pub length-mapped : (X Y : Type 0) (f : X → Y) (l : List X) (n : ℕ) → length (map f l) ≡ n → length l ≡ n
 length-mapped X Y f l n e = sym (length-map l f) ∙ e
+
+-- ## Joined from pieces
+
+module _ {A B : Type 0} (put : A → List B) where
+  pub flatMap-append : (xs ys : List A) → flatMap put (xs ++ ys) ≡ flatMap put xs ++ flatMap put ys
+  unfolding flatMap
+  flatMap-append [] ys = refl
+  flatMap-append (x ∷ xs) ys = ap (λ (l : List B). put x ++ l) (flatMap-append xs ys) ∙ sym (append-assoc (put x) (flatMap put xs) (flatMap put ys))
+
+  pub flatMap-snoc : (xs : List A) (x : A) → flatMap put (xs ++ (x ∷ [])) ≡ flatMap put xs ++ put x
+  unfolding flatMap
+  flatMap-snoc xs x = flatMap-append xs (x ∷ []) ∙ ap (λ (l : List B). flatMap put xs ++ l) (append-nil (put x))
+
+  -- after the last turn of a loop that stores them nothing is left
+  pub store-ends : (s s′ : List B) (at i : ℕ) (xs : List A) → length xs ≤ i → sets s at (flatMap put (drop i xs)) ≡ s′ → s ≡ s′
+  unfolding flatMap
+  store-ends s s′ at i xs h e = rw (drop-of-length-le xs h) at e
+
+  -- pieces of one length
+  module _ (w : ℕ) (wide : (a : A) → length (put a) ≡ w) where
+    pub length-flatMap : (xs : List A) → length (flatMap put xs) ≡ w * length xs
+    unfolding flatMap
+    length-flatMap [] = rw mul-zero
+    length-flatMap (x ∷ xs) = length-append (put x) (flatMap put xs) ∙ omega (arith, wide x, length-flatMap xs, mul-suc w (length xs))
+
+    -- one turn of such a loop: element i's piece is stored, and those of the rest are left
+    pub store-turn : (s : List B) (at i : ℕ) (xs : List A) (d : A) → i < length xs
+        → sets (sets s (at + w * i) (put (getD xs i d))) (at + w * (i + 1)) (flatMap put (drop (i + 1) xs)) ≡ sets s (at + w * i) (flatMap put (drop i xs))
+    unfolding flatMap
+    store-turn s at i xs d h =
+        let p : at + w * (i + 1) ≡ at + w * i + length (put (getD xs i d)) = rw (wide, mul-add w i 1) (omega arith) in
+        rw (p, drop-cons xs i d h, sets-append s (at + w * i) (put (getD xs i d)), add-one)

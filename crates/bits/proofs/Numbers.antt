@@ -149,11 +149,6 @@ pack-fields [] s at off b h = refl
 pack-fields (w ∷ ws) s at off b h =
     rw (digits-num w s (at + off) b (omega arith), pack-fields ws s at (off + w) b (omega arith), take-add w (total ws) (drop (at + off) s), drop-drop w (at + off) s, add-assoc at off w)
 
-pub length-pack : (ws vs : List ℕ) → Fit ws vs → length (pack ws vs) ≡ total ws
-length-pack [] vs f = refl
-length-pack (w ∷ ws) [] f = absurd f
-length-pack (w ∷ ws) (v ∷ vs) f = length-append (digits w v) (pack ws vs) ∙ ap₂ (λ (a b : ℕ). a + b) (length-digits w v) (length-pack ws vs (f .1))
-
 pub fields-spelled : (ws vs p q : List ℕ) (at off : ℕ) → at + off ≡ length p → Spelled ws vs → fieldsAt ws (p ++ (pack ws vs ++ q)) at off ≡ vs
 fields-spelled [] [] p q at off e f = refl
 fields-spelled [] (v ∷ vs) p q at off e f = absurd f

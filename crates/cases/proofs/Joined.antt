@@ -7,9 +7,9 @@ use native.Mathlib.Omega.{arith}
 use lib.ListN.{length, length-append}
 use lib.Seq.{sets}
 use Rattle.bits.specs.Numbers.{digits}
+use Rattle.bits.proofs.Lists.{length-flatMap}
 use Rattle.bits.proofs.Numbers.{sets-then}
 use Rattle.rules.specs.declared.Slot.{Slot}
-use Rattle.recording.proofs.Lists.{length-flatMap}
 use Rattle.cases.specs.Answers.{slotBytes, hexByte, pairBytes}
 
 -- a slot takes 7 bytes, an element like every other

@@ -1,6 +1,6 @@
 -- Document 01's session as it crosses, computed to its bytes.
 use mathlib.Core.Path.{_≡_, refl, sym, ap, _∙_}
-use mathlib.Core.List.{List, [], _∷_}
+use mathlib.Core.List.{List, [], _∷_, flatMap}
 use Prim.Native.Nat.{ℕ, _*_, _≤_}
 use native.Mathlib.Omega.{arith}
 use lib.ListN.{length}
@@ -23,11 +23,11 @@ unfolding encode
 records-spelled = refl
 
 totals-spelled : numbers (5 ∷ 2 ∷ 8 ∷ 3 ∷ 5 ∷ 0 ∷ 0 ∷ []) ≡ sessionTotals
-unfolding numbers
+unfolding flatMap
 totals-spelled = refl
 
 answer-spelled : numbers (checked (A.Accepted 2 22 24)) ≡ sessionAnswer
-unfolding numbers
+unfolding flatMap
 answer-spelled = refl
 
 pub the-session-is-checked : (answer : List ℕ) → 24 ≤ length answer → (checkNumber session (length answer) ≡ 0) × (checkInto session answer ≡ sets answer 0 sessionAnswer)

@@ -2,7 +2,7 @@
 -- 10 comes last. A refusal gives its number, its place and zeros, and no record. Records are as in "The rules of one scan".
 use Prim.Native.Nat.{ℕ, _*_}
 use mathlib.Core.Bool.{cond}
-use mathlib.Core.List.{List, [], _∷_, _++_}
+use mathlib.Core.List.{List, [], _∷_, flatMap}
 use lib.Dec.{leb}
 use lib.ListN.{length}
 use lib.Seq.{sets}
@@ -16,9 +16,8 @@ use Rattle.rerun.specs.declared.Replayed.{Replayed}
 use Rattle.rerun.specs.Replay.{replay, answered}
 
 -- every number that crosses is 8 bytes, big-endian
-unfoldable pub numbers : List ℕ → List ℕ
-numbers [] = []
-numbers (v ∷ vs) = digits 8 v ++ numbers vs
+abbrev pub numbers : List ℕ → List ℕ
+numbers vs = flatMap (digits 8) vs
 
 -- a piece at the front of the lent bytes, if it fits; else they stay as they were
 abbrev pub fitted : List ℕ → List ℕ → List ℕ

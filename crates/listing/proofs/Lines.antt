@@ -1,6 +1,6 @@
--- Laws of lines: their pieces, and lines joined.
-use mathlib.Core.Path.{_≡_, refl, sym, ap, _∙_}
-use mathlib.Core.List.{List, [], _∷_, _++_, append-assoc}
+-- Laws of lines: their pieces, and those that are left in a loop.
+use mathlib.Core.Path.{_≡_, sym, ap, _∙_}
+use mathlib.Core.List.{List, [], _++_, flatMap, append-assoc}
 use Prim.Native.Nat.{ℕ, suc, _+_, _-_, _*_, _<_}
 use native.Mathlib.Nat.{sub-zero}
 use native.Mathlib.Omega.{arith}
@@ -46,12 +46,6 @@ module _ (r s l x : ℕ) where
   pub length-last : length (lastLine r s l x) ≡ length rows + (length scans + (length live + length exercised))
   length-last = ap length last-pieces ∙ simp length-append
 
--- ## Lines joined
-
-pub lines-append : (es fs : List Event) → lines (es ++ fs) ≡ lines es ++ lines fs
-lines-append [] fs = refl
-lines-append (e ∷ es) fs = ap (λ (l : List ℕ). line e ++ l) (lines-append es fs) ∙ sym (append-assoc (line e) (lines es) (lines fs))
-
 -- ## A loop over n records: the lines that are left from record i on
 
 abbrev pub left : List ℕ → (n i : ℕ) → List ℕ
@@ -62,6 +56,7 @@ left-all s n = rw sub-zero
 
 module _ (s : List ℕ) (n i : ℕ) where
   pub left-turn : i < n → left s n i ≡ line (eventAt s (12 * i)) ++ left s n (i + 1)
+  unfolding flatMap
   left-turn h =
       let m : n - i ≡ suc (n - (i + 1)) = omega arith in
       let p : 12 * (i + 1) ≡ 12 * i + 12 = omega arith in
@@ -71,6 +66,7 @@ module _ (s : List ℕ) (n i : ℕ) where
   left-length h = ap length (left-turn h) ∙ length-append (line (eventAt s (12 * i))) (left s n (i + 1))
 
   pub left-none : i ≡ n → left s n i ≡ []
+  unfolding flatMap
   left-none h =
       let m : n - i ≡ 0 = omega arith in
       rw m

@@ -1,7 +1,7 @@
 -- A piece at a place of a lent buffer: what is answered where the buffer is full, and where it is not.
 use mathlib.Core.Path.{_≡_, refl, sym, ap, _∙_}
 use mathlib.Core.Bool.{Bool, true, false, not}
-use mathlib.Core.List.{List, []}
+use mathlib.Core.List.{List, [], flatMap}
 use Prim.Native.Nat.{ℕ, zero, suc, _+_, _-_, _*_, _≤_, _<_}
 use native.Mathlib.Omega.{arith}
 use borrow.Author.Tests.{not-true, not-false, leb-true, leb-false, le-leb, lt-leb}
@@ -67,6 +67,7 @@ module _ (out : List ℕ) (at : ℕ) (b : Bool) (is : b ≡ hasRoom (length out)
 
 read-back : (n : ℕ) (es : List Event) (space : List ℕ) → 12 * granted n (length es) (λ k. 0) ≤ length space
     → lines (eventsAt (granted n (sets space 0 (bytes es)) (λ k. space)) (granted n (length es) (λ k. 0)) 0) ≡ granted n (lines es) (λ k. [])
+unfolding flatMap
 read-back zero es space h =
     rw (sets-eq (bytes es) space 0 (omega (arith, length-bytes es)), events-of-bytes es [] (drop (0 + length (bytes es)) space) 0 refl)
 read-back (suc k) es space h = refl

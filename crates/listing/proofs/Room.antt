@@ -1,5 +1,5 @@
 -- How long lines are at most.
-use mathlib.Core.List.{List}
+use mathlib.Core.List.{List, flatMap}
 use Prim.Native.Nat.{ℕ, zero, suc, _+_, _*_, _^_, _≤_, _<_}
 use native.Mathlib.Omega.{arith}
 use lib.Dec.{lit≤}
@@ -38,6 +38,7 @@ unfolding eventAt
 record-at-most s b at = line-at-most (eventAt s at) (num-lt 2 s at b) (num-lt 4 s (at + 2) b) (num-lt 1 s (at + 6) b) (num-lt 2 s (at + 10) b)
 
 pub lines-at-most : (s : List ℕ) → Bytes s → (n at : ℕ) → length (lines (eventsAt s n at)) ≤ mostLine * n
+unfolding flatMap
 lines-at-most s b zero at = omega arith
 lines-at-most s b (suc n) at =
     omega (arith, length-append (line (eventAt s at)) (lines (eventsAt s n (at + 12))), record-at-most s b at, lines-at-most s b n (at + 12))

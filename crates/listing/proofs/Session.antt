@@ -1,6 +1,6 @@
 -- The listing of document 01's session is the text that stands there, computed to its bytes.
 use mathlib.Core.Path.{_≡_, refl, ap, _∙_}
-use mathlib.Core.List.{_++_}
+use mathlib.Core.List.{_++_, flatMap}
 use Prim.Native.Nat.{ℕ}
 use lib.ListN.{length}
 use Rattle.bits.specs.Decimal.{atMost, decimal}
@@ -14,7 +14,7 @@ use Rattle.listing.specs.Session.{sessionText}
 
 -- by its events and totals; nothing is refused, so that no place counts
 spelled : (p : ℕ) → header ++ lines sessionEvents ++ closing (record { number = 0; place = p; records = 5; rows = 2; scans = 8; live = 3; exercised = 5 }) ≡ sessionText
-unfolding header line name lastLine closing decimal atMost
+unfolding header line name lastLine closing decimal atMost flatMap
 spelled p = refl
 
 pub the-session-is-listed : listing session ≡ sessionText

@@ -2,11 +2,12 @@
 -- session, whole". `Loop` has the laws for a caller's loop: it goes on, ends and stops with the number and totals that the
 -- closing is made of.
 use mathlib.Core.Path.{_≡_, refl, sym, ap, ap₂, _∙_}
-use mathlib.Core.List.{List, [], _++_}
+use mathlib.Core.List.{List, [], _++_, flatMap}
 use mathlib.Core.Logic.{⊎-elim}
 use Prim.Native.Nat.{ℕ, _+_}
 use native.Mathlib.Numerals.{add-one}
 use native.Mathlib.Omega.{arith}
+use Rattle.bits.proofs.Lists.{flatMap-append}
 use Rattle.block.specs.Scan.{scansNumber}
 use Rattle.settings.specs.Refusals.{granted}
 use Rattle.recording.specs.Answers.{number, place, rowCount}
@@ -14,15 +15,14 @@ use Rattle.recording.specs.Reader.{reading}
 use Rattle.recording.specs.Steps.{rowPlace}
 use Rattle.recording.specs.Accepted.{Accepted}
 use Rattle.rerun.specs.declared.Totals.{Totals}
-use Rattle.rerun.specs.Replay.{Outcome, whole, joined, refusedAt, replay, answered, firstRows, rowOf, rowRun}
+use Rattle.rerun.specs.Replay.{Outcome, whole, started, joined, refusedAt, replay, answered, firstRows, rowOf, rowRun}
 use Rattle.rerun.specs.Turn.{totalsOf}
 use Rattle.settings.proofs.Refusals.{granted-refused}
 use Rattle.rerun.proofs.Files.{Before, by-rows, one-row-more, all-the-rows}
 use Rattle.rerun.proofs.Theorems.{whole-or-stopped}
-use Rattle.listing.specs.Text.{header, lines, refusalLine}
+use Rattle.listing.specs.Text.{header, line, lines, refusalLine}
 use Rattle.listing.specs.Listing.{closing, listing}
 use Rattle.listing.specs.Printed.{opening, closingBy, rowLines, rowsLines, Last}
-use Rattle.listing.proofs.Lines.{lines-append}
 
 -- a refused file: the opening is all
 pub a-refused-file-is-its-opening : (s : List ℕ) → (Accepted s → ⊥) → opening (reading s .answer) ≡ listing s
@@ -36,8 +36,13 @@ module _ (s : List ℕ) (accepted : Accepted s) where
   abbrev Joined : Outcome → Type 0
   Joined o = rowsLines s (o .replay .rows) ≡ lines (o .replay .events)
 
+  -- no row yet
+  starts : Joined (whole started)
+  unfolding flatMap
+  starts = refl
+
   -- one row more
-  runs : (i : ℕ) → Before s Joined refl i → scansNumber (firstRows s i .replay .state .done) (rowOf s i .hold) ≡ 0
+  runs : (i : ℕ) → Before s Joined starts i → scansNumber (firstRows s i .replay .state .done) (rowOf s i .hold) ≡ 0
       → Joined (whole (joined (firstRows s i .replay) (rowRun s i)))
   runs i b z =
       let r = firstRows s i .replay in
@@ -47,12 +52,12 @@ module _ (s : List ℕ) (accepted : Accepted s) where
       let last : rowLines s (r .rows) ≡ lines (rowRun s i .events) =
       ap (rowLines s) (b .2) ∙ ap (λ (n : ℕ). granted n (lines (rowRun s i .events)) (λ k. [])) none
       in
-      ap (rowsLines s) (add-one (r .rows)) ∙ ap₂ (λ (a b : List ℕ). a ++ b) (b .3) last ∙ sym (lines-append (r .events) (rowRun s i .events))
+      ap (rowsLines s) (add-one (r .rows)) ∙ ap₂ (λ (a b : List ℕ). a ++ b) (b .3) last ∙ sym (flatMap-append line (r .events) (rowRun s i .events))
 
   -- the lines of the rows, joined, are those of the records of the whole
   pub rows-joined : rowsLines s (replay s .replay .rows) ≡ lines (replay s .replay .events)
   rows-joined =
-      rw (all-the-rows s accepted) (by-rows s Joined refl runs (λ i b h. b .3) (rowCount (reading s .answer)) (omega arith))
+      rw (all-the-rows s accepted) (by-rows s Joined starts runs (λ i b h. b .3) (rowCount (reading s .answer)) (omega arith))
 
   -- the closing by the number and the totals of the whole is that of the replay
   pub closing-of-the-replay : closingBy (replay s .number) (totalsOf s (replay s .replay)) ≡ closing (answered (replay s))

@@ -1,7 +1,7 @@
 -- The lines of a listing, as bytes. Document 01, "One session, whole": fields with a space between; that LF ends every
 -- line, the last too, is ours.
 use Prim.Native.Nat.{ℕ}
-use mathlib.Core.List.{List, [], _∷_, _++_}
+use mathlib.Core.List.{List, [], _∷_, _++_, flatMap}
 use Rattle.bits.specs.Decimal.{ascii, decimal}
 use Rattle.rules.specs.declared.EffectState.{EffectState}
 use Rattle.rules.specs.declared.EffectState.the-variants.{Tripped, WaitReset, Ready, WaitStart, Normal, Delayed}
@@ -32,9 +32,9 @@ line e =
     lineOf
     (decimal (e .seq) ∷ decimal (e .scan) ∷ decimal (e .effect) ∷ name (e .from) ∷ name (e .to) ∷ decimal (e .first) ∷ [])
 
+-- the lines of event records, one after the other
 abbrev pub lines : List Event → List ℕ
-lines [] = []
-lines (e ∷ es) = line e ++ lines es
+lines es = flatMap line es
 
 -- the last line
 unfoldable pub lastLine : (rows scans live exercised : ℕ) → List ℕ

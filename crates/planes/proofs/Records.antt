@@ -1,7 +1,7 @@
 -- Records laid one after the other, for the set bits of a word.
 use mathlib.Core.Path.{_≡_, refl, ap, sym, _∙_, subst}
 use mathlib.Core.Bool.{Bool, true, false}
-use mathlib.Core.List.{List, [], _∷_, _++_, append-assoc, append-nil}
+use mathlib.Core.List.{List, [], _∷_, _++_, flatMap}
 use Prim.Native.Nat.{ℕ, zero, suc, _+_, _-_, _*_, _%_, _^_, _≤_, _<_}
 use native.Mathlib.Nat.{add-zero, mod-eq-of-lt}
 use native.Mathlib.Numerals.{add-one}
@@ -11,6 +11,7 @@ use lib.Count.{trailingZeros}
 use lib.ListN.{length, getD, length-append}
 use lib.Seq.{sets, length-sets}
 use Rattle.bits.specs.Words.{bitOf}
+use Rattle.bits.proofs.Lists.{flatMap-snoc}
 use Rattle.bits.proofs.Numbers.{sets-append}
 use Rattle.effects.specs.Records.{recordLength, recordOf}
 use Rattle.planes.specs.declared.Planes.{Planes}
@@ -21,9 +22,7 @@ use Rattle.planes.proofs.Bits.{Rests, Done, started, ended, below, befo
 use Rattle.planes.proofs.Picked.{picked-none, picked-yes, picked-no, picked-grows}
 
 pub joined-snoc : (ls : List (List ℕ)) (l : List ℕ) → joined (ls ++ (l ∷ [])) ≡ joined ls ++ l
-unfolding joined
-joined-snoc [] l = append-nil l
-joined-snoc (k ∷ ls) l = ap (λ (r : List ℕ). k ++ r) (joined-snoc ls l) ∙ sym (append-assoc k (joined ls) l)
+joined-snoc = flatMap-snoc (λ l. l)
 
 length-entry : (q c : ℕ) (was is : Planes) (firsts : List ℕ) (k i : ℕ) → length (entryAt q c was is firsts k i) ≡ recordLength
 unfolding entryAt
@@ -31,7 +30,7 @@ length-entry q c was is firsts k i = refl
 
 -- the length of records laid one after the other
 pub length-joined : (g : ℕ → ℕ → List ℕ) (t : ℕ → Bool) → ((k i : ℕ) → length (g k i) ≡ recordLength) → (n : ℕ) → length (joined (picked g t n)) ≡ recordLength * length (picked g t n)
-unfolding joined
+unfolding flatMap
 length-joined g t h zero = rw (picked-none g t)
 length-joined g t h (suc n) = rw (← add-one n) (go (t n) refl (length-joined g t h n))
   where
@@ -59,7 +58,7 @@ pub record Put (buf₀ : List ℕ) (at0 q0 number ch : ℕ) (was is : Planes) (f
 
 pub begun : (buf₀ : List ℕ) (at0 q0 number ch : ℕ) (was is : Planes) (firsts : List ℕ) → q0 < 65536 → ch < 65536
     → Put buf₀ at0 q0 number ch was is firsts buf₀ at0 q0 ch
-unfolding joined
+unfolding flatMap
 begun buf₀ at0 q0 number ch was is firsts h k =
     record {
       es = [];

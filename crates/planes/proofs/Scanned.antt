@@ -1,7 +1,7 @@
 -- The records of a scan by words are those of the slots.
 use mathlib.Core.Path.{_≡_, refl, ap, ap₂, sym, _∙_}
 use mathlib.Core.Bool.{Bool, true, false, cond}
-use mathlib.Core.List.{List, [], _∷_, _++_, append-nil, append-assoc}
+use mathlib.Core.List.{List, [], _∷_, _++_, flatMap, append-nil, append-assoc}
 use Prim.Native.Nat.{ℕ, zero, suc, _+_, _*_, _%_, _^_, _<_, _≤_}
 use native.Mathlib.Nat.{le-of-suc-le-suc, not-suc-le-zero, lt-of-lt-of-le, add-zero, add-suc, suc-add, mod-eq-of-lt}
 use native.Mathlib.Numerals.{add-one}
@@ -164,7 +164,7 @@ module _ (size : ℕ) (few : size ≤ 16) (s : ℕ → Signals) (xs : List Slot)
           ev = next-events ∙ ap (λ (b : Bool). events n ++ only b (event (seqAfter q (tabulate s n) xs) c (1 + n) (s n) (x n))) e ∙ append-nil (events n)
 
   upto : (n : ℕ) → n ≤ size → Same n
-  unfolding tabulate joined
+  unfolding tabulate flatMap
   upto zero h =
       let e = picked-none (entryAt q c was is firsts) (bitOf ch) in
       record { count = rw e; number = rw e (sym (ap (λ (k : ℕ). k % 2 ^ 16) (add-zero q) ∙ mod-eq-of-lt small)); laid = rw e }

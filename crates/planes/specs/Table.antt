@@ -2,7 +2,7 @@
 use mathlib.Core.Path.{_≡_}
 use Prim.Native.Nat.{ℕ, zero, suc, _+_, _-_, _*_, _/_, _%_, _^_, _<_, _≤_, min}
 use mathlib.Core.Bool.{Bool, true, false, cond, _&&_}
-use mathlib.Core.List.{List, [], _∷_, _++_}
+use mathlib.Core.List.{List, _++_, flatMap}
 use lib.Bits.{bitAnd}
 use lib.Dec.{leb, ltb, eqb}
 use lib.ListN.{drop, getD, length, replicate}
@@ -139,6 +139,5 @@ abbrev pub entriesTo : (q c ch : ℕ) (was is : Planes) (firsts : List ℕ) → 
 entriesTo q c ch was is firsts n = picked (entryAt q c was is firsts) (bitOf ch) n
 
 -- lists of bytes, one after the other
-unfoldable pub joined : List (List ℕ) → List ℕ
-joined [] = []
-joined (l ∷ ls) = l ++ joined ls
+abbrev pub joined : List (List ℕ) → List ℕ
+joined ls = flatMap (λ l. l) ls

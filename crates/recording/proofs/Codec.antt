@@ -7,10 +7,11 @@ use native.Mathlib.Omega.{arith}
 use lib.ListN.{length, take, drop, length-append}
 use lib.Seq.{take-add, drop-drop}
 use Rattle.bits.specs.Numbers.{Bytes, numAt, digits}
+use Rattle.bits.proofs.Lists.{length-flatMap}
 use Rattle.bits.proofs.Numbers.{length-digits, digits-num, num-digits}
 use Rattle.recording.specs.Entries.{listOf}
 use Rattle.recording.specs.Encode.{counted, All}
-use Rattle.recording.proofs.Lists.{length-listOf, length-flatMap}
+use Rattle.recording.proofs.Lists.{length-listOf}
 use Rattle.recording.proofs.Sections.{Passed, Whole}
 
 -- an entry is read at a place, written as w bytes, and checked: 0 for right

@@ -1,18 +1,15 @@
--- Laws of entries one after the other, read and written, and of an array that is filled from its start.
-use mathlib.Core.Path.{_≡_, refl, ap, _∙_}
-use mathlib.Core.List.{List, [], _∷_, _++_, append-assoc, flatMap}
-use Prim.Native.Nat.{ℕ, zero, suc, _+_, _-_, _*_, _≤_, _<_}
-use native.Mathlib.Nat.{add-zero, mul-add, mul-suc, mul-zero}
+-- Laws of entries read one after the other, and of an array that is filled from its start.
+use mathlib.Core.Path.{_≡_, refl, ap}
+use mathlib.Core.List.{List, [], _∷_, _++_, append-assoc}
+use Prim.Native.Nat.{ℕ, zero, suc, _+_, _-_, _*_, _<_}
+use native.Mathlib.Nat.{add-zero, mul-suc, mul-zero}
 use native.Mathlib.Numerals.{add-one}
 use native.Mathlib.Omega.{arith}
-use lib.ListN.{length, set, getD, drop, replicate, length-append, drop-of-length-le}
-use lib.Seq.{set-at, sets, drop-cons}
-use Rattle.bits.proofs.Numbers.{sets-append}
+use lib.ListN.{length, set, getD, replicate}
+use lib.Seq.{set-at}
 use Rattle.recording.specs.Entries.{listOf}
 
 module _ {A : Type 0} where
-  -- ## Read one after the other
-
   pub length-listOf : (get : ℕ → A) (w n at : ℕ) → length (listOf get w n at) ≡ n
   length-listOf get w zero at = refl
   length-listOf get w (suc n) at = ap suc (length-listOf get w n (at + w))
@@ -41,23 +38,3 @@ module _ {A : Type 0} where
       → set arr i v ≡ listOf get w (i + 1) at ++ replicate (n - (i + 1)) z
   fill-list get w at n i place z v arr ea ep ev h =
       rw (ea, ev, ep, listOf-snoc get w i at) (one-more (listOf get w i at) n i z (get (at + w * i)) (length-listOf get w i at) h)
-
-  -- ## Written one after the other
-
-  pub length-flatMap : (put : A → List ℕ) (w : ℕ) → ((a : A) → length (put a) ≡ w) → (xs : List A) → length (flatMap put xs) ≡ w * length xs
-  unfolding flatMap
-  length-flatMap put w f [] = rw mul-zero
-  length-flatMap put w f (x ∷ xs) = length-append (put x) (flatMap put xs) ∙ omega (arith, f x, length-flatMap put w f xs, mul-suc w (length xs))
-
-  -- one turn of a loop that stores equally many bytes for each element: element i's are stored, and those of the rest are left
-  pub store-turn : (put : A → List ℕ) (w : ℕ) → ((a : A) → length (put a) ≡ w) → (s : List ℕ) (at i : ℕ) (xs : List A) (d : A) → i < length xs
-      → sets (sets s (at + w * i) (put (getD xs i d))) (at + w * (i + 1)) (flatMap put (drop (i + 1) xs)) ≡ sets s (at + w * i) (flatMap put (drop i xs))
-  unfolding flatMap
-  store-turn put w wide s at i xs d h =
-      let p : at + w * (i + 1) ≡ at + w * i + length (put (getD xs i d)) = rw (wide, mul-add w i 1) (omega arith) in
-      rw (p, drop-cons xs i d h, sets-append s (at + w * i) (put (getD xs i d)), add-one)
-
-  -- after the last turn nothing is left
-  pub store-ends : (put : A → List ℕ) (s s′ : List ℕ) (at i : ℕ) (xs : List A) → length xs ≤ i → sets s at (flatMap put (drop i xs)) ≡ s′ → s ≡ s′
-  unfolding flatMap
-  store-ends put s s′ at i xs h e = rw (drop-of-length-le xs h) at e

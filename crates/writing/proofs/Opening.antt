@@ -8,6 +8,7 @@ use lib.ListN.{length, length-append}
 use lib.Seq.{sets, length-take-le}
 use Rattle.bits.specs.Numbers.{digits}
 use Rattle.bits.specs.Layout.{pack}
+use Rattle.bits.proofs.Lists.{length-flatMap}
 use Rattle.bits.proofs.Numbers.{sets-then}
 use Rattle.settings.specs.declared.Effect.{Effect}
 use Rattle.settings.specs.declared.Row.{Row}
@@ -21,7 +22,6 @@ use Rattle.recording.specs.Encode.{effectsOf, opening}
 use Rattle.writing.specs.Writer.{openingNumber}
 use Rattle.recording.specs.declared.Kind.the-variants.{Rows}
 use Rattle.recording.specs.Sections.{numberOf, countOk as rowsOk}
-use Rattle.recording.proofs.Lists.{length-flatMap}
 
 pub opening-count : (st : Settings) (rows : ℕ) → openingNumber st rows ≡ 0 → st .count ≤ 16
 unfolding openingNumber

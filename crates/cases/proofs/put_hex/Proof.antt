@@ -8,7 +8,7 @@ use denote.Ref.{now}
 use lib.ListN.{length, drop}
 use lib.Seq.{sets, length-sets}
 use borrow.Author.Needs.{needs}
-use Rattle.recording.proofs.Lists.{store-turn, store-ends}
+use Rattle.bits.proofs.Lists.{store-turn, store-ends}
 use Rattle.cases.specs.Answers.{hexByte}
 use Rattle.cases.proofs.put_hex.Statement.{statement}
 use Rattle.cases.proofs.put_hex.Tie as tie

@@ -7,8 +7,8 @@ use native.Mathlib.Omega.{arith}
 use lib.ListN.{length, drop}
 use lib.Seq.{sets, length-sets}
 use borrow.Author.Needs.{needs}
+use Rattle.bits.proofs.Lists.{length-flatMap, store-turn, store-ends}
 use Rattle.rules.specs.Rules.{noSlot}
-use Rattle.recording.proofs.Lists.{length-flatMap, store-turn, store-ends}
 use Rattle.cases.specs.Answers.{slotBytes}
 use Rattle.cases.proofs.Joined.{length-slot}
 use Rattle.cases.proofs.put_slots.Statement.{statement}
