@@ -24,8 +24,8 @@ use Rattle.recording.proofs.Cases.{not-accepted}
 use Rattle.recording.proofs.Theorems.{accepted-case, accepted-is-right}
 use Rattle.recording.proofs.Trips.{length-rowsOf}
 use Rattle.rerun.specs.Replay.{Outcome, whole, started, joined, refusedAt, rowsFrom, replayRows, replay, firstRows, rowOf, rowRun, sumOfHolds}
-use Rattle.rerun.proofs.Rows.{Sound, unless-refuses, past, then-the-others, refusal-ends, none-refused-whole, events-stay, rows-counted, records-few, done-after, sound-after, within-scans, sound-rows, done-is-holds, all-take, all-at}
-use Rattle.settings.proofs.Refusals.{granted-none, granted-refused}
+use Rattle.rerun.proofs.Rows.{Sound, then-the-others, refusal-ends, none-refused-whole, events-stay, rows-counted, records-few, done-after, sound-after, within-scans, sound-rows, done-is-holds, all-take, all-at}
+use Rattle.settings.proofs.Refusals.{granted-none, granted-refused, unless-refused, limit-passed}
 
 module _ (s : List ℕ) where
   abbrev st : Settings
@@ -144,10 +144,10 @@ module _ (s : List ℕ) where
   stopped i b h =
       let r = firstRows s i .replay in
       inr (
-        unless-refuses (leb (r .state .done + rowOf s i .hold) mostScans) 9 h,
+        unless-refused (leb (r .state .done + rowOf s i .hold) mostScans) 9 h,
         ap (rowPlace s) (sym (b .2)),
         omega (arith, b .0, b .2),
-        rw (b .2) (past (r .state .done + rowOf s i .hold) mostScans h),
+        rw (b .2) (limit-passed (r .state .done + rowOf s i .hold) mostScans 9 h),
       )
 
   ended : (o : Outcome) → (o .number ≡ 0 → o .replay .rows ≡ rowCount (reading s .answer)) → Ended o

@@ -7,8 +7,6 @@ use Prim.Native.Nat.{ℕ, zero, suc, _+_, _*_, _≤_, _<_}
 use native.Mathlib.Nat.{add-zero, mul-suc, mul-zero}
 use native.Mathlib.Numerals.{add-one}
 use native.Mathlib.Omega.{arith}
-use borrow.Author.Tests.{leb-true, leb-false}
-use lib.Dec.{leb}
 use lib.ListN.{length, getD, take, length-append}
 use Rattle.bits.specs.Words.{one}
 use Rattle.effects.specs.Scan.{anyExercised}
@@ -17,8 +15,8 @@ use Rattle.settings.specs.declared.Row.{Row}
 use Rattle.settings.specs.Limits.{mostScans}
 use Rattle.settings.specs.Right.{knownOf, settingsNumber, rowNumber}
 use Rattle.settings.specs.Signals.{signals}
-use Rattle.settings.specs.Refusals.{unless, orElse, granted}
-use Rattle.settings.proofs.Refusals.{granted-none, unless-none}
+use Rattle.settings.specs.Refusals.{granted}
+use Rattle.settings.proofs.Refusals.{granted-none, granted-either, granted-alike, limit-kept}
 use Rattle.settings.proofs.Right.{count-few}
 use Rattle.block.specs.State.{stateNumber}
 use Rattle.block.specs.Scan.{scansNumber}
@@ -27,33 +25,6 @@ use Rattle.block.proofs.Runs.{due-few}
 use Rattle.block.proofs.Theorems.{right-input-is-accepted, a-held-run-keeps-right, a-held-run-keeps-its-slots, live-at-most-twice-the-effects, exercised-is-the-hold-or-nothing, scans-done-grow-by-the-hold}
 use Rattle.recording.specs.Encode.{All}
 use Rattle.rerun.specs.Replay.{Replay, Outcome, whole, afterRow, refusedAt, rowsFrom, sumOfHolds}
-
--- ## What is given by a number
-
-module _ {A : Type 0} (a : A) (f : ℕ → A) where
-  -- what holds in both cases
-  pub granted-either : (P : A → Type 0) (n : ℕ) → (n ≡ 0 → P a) → ((k : ℕ) → P (f k)) → P (granted n a f)
-  granted-either P zero g h = g refl
-  granted-either P (suc k) g h = h (suc k)
-
-  granted-alike : (n : ℕ) (b : A) → (n ≡ 0 → b ≡ a) → granted n b f ≡ granted n a f
-  granted-alike zero b h = h refl
-  granted-alike (suc k) b h = refl
-
-pub unless-refuses : (ok : Bool) (n : ℕ) → (unless ok n ≡ 0 → ⊥) → unless ok n ≡ n
-unless-refuses true n h = absurd (h refl)
-unless-refuses false n h = refl
-
-pub first-alone : (n m : ℕ) → (n ≡ 0 → m ≡ 0) → orElse n m ≡ n
-first-alone zero m h = h refl
-first-alone (suc n) m h = refl
-
-pub past : (a most : ℕ) → (unless (leb a most) 9 ≡ 0 → ⊥) → most < a
-past a most h = go (leb a most) refl
-  where
-    go : (b : Bool) → leb a most ≡ b → most < a
-    go true e = absurd (h (rw e))
-    go false e = leb-false a most e
 
 -- an outcome without refusal: neither the row's nor one after it
 none-refused : (n at : ℕ) (r : Replay) (o : Outcome) → granted n o (refusedAt at r) .number ≡ 0 → (n ≡ 0) × (o .number ≡ 0)
@@ -118,7 +89,7 @@ pub record Sound (st : Settings) (r : Replay) : Type 0 where
 module _ (st : Settings) (right : settingsNumber st ≡ 0) where
   module _ (row : Row) (right-row : rowNumber (knownOf st) row ≡ 0) (r : Replay) (sound : Sound st r) (z : scansNumber (r .state .done) (row .hold) ≡ 0) where
     scans : r .state .done + row .hold ≤ mostScans
-    scans = leb-true (r .state .done + row .hold) mostScans (unless-none _ 8 z)
+    scans = limit-kept (r .state .done + row .hold) mostScans 8 z
 
     pub done-after : run st row (r .state) .state .done ≡ r .state .done + row .hold
     done-after = scans-done-grow-by-the-hold st row (r .state) right (sound .state) right-row scans

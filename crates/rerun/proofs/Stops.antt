@@ -5,11 +5,10 @@ use Prim.Native.Nat.{ℕ, _+_, _≤_, _<_}
 use native.Mathlib.Nat.{mul-suc, mul-zero}
 use native.Mathlib.Numerals.{add-one}
 use native.Mathlib.Omega.{arith}
-use borrow.Author.Tests.{leb-true}
 use lib.ListN.{length}
 use Rattle.settings.specs.declared.Row.{Row}
 use Rattle.settings.specs.Limits.{mostScans}
-use Rattle.settings.proofs.Refusals.{granted-none, granted-refused, unless-none}
+use Rattle.settings.proofs.Refusals.{granted-none, granted-refused, limit-kept}
 use Rattle.block.specs.Scan.{scansNumber}
 use Rattle.recording.specs.declared.Answer.the-variants as A
 use Rattle.recording.specs.Answers.{number, rowCount, firstRow, rowWidth}
@@ -76,7 +75,7 @@ module _ (s : List ℕ) (width done place i : ℕ) (g : Reached s width done pla
       -- a row that runs
       module _ (z : v ≡ 0) where
         pub few-scans : done + row .hold ≤ mostScans
-        few-scans = leb-true (done + row .hold) mostScans (unless-none _ 8 (sym number-is ∙ z))
+        few-scans = limit-kept (done + row .hold) mostScans 8 (sym number-is ∙ z)
 
         pub goes-on : Reached s width (done + row .hold) (place + width) (i + 1)
         goes-on =

@@ -1,11 +1,10 @@
 -- Turns: what the code carries from row to row is what the definitions say, and a caller's loop can begin, go on, stop and end.
 use mathlib.Core.Path.{_≡_, refl, sym, ap, _∙_}
 use mathlib.Core.List.{List, _++_}
-use Prim.Native.Nat.{ℕ, zero, suc, _+_, _*_, _≤_, _<_}
+use Prim.Native.Nat.{ℕ, _+_, _*_, _≤_, _<_}
 use native.Mathlib.Nat.{mul-suc, mul-zero, mul-le-mul}
 use native.Mathlib.Numerals.{add-one}
 use native.Mathlib.Omega.{arith}
-use borrow.Author.Tests.{leb-true}
 use lib.Dec.{leb}
 use lib.ListN.{length, length-append}
 use lib.Seq.{sets}
@@ -15,7 +14,7 @@ use Rattle.settings.specs.declared.Settings.{Settings}
 use Rattle.settings.specs.Limits.{mostScans}
 use Rattle.settings.specs.Refusals.{granted}
 use Rattle.settings.specs.Right.{knownOf, settingsNumber, rowNumber}
-use Rattle.settings.proofs.Refusals.{unless-none, granted-none, granted-refused}
+use Rattle.settings.proofs.Refusals.{granted-none, granted-refused, granted-either, granted-number, unless-refused, limit-kept}
 use Rattle.settings.proofs.Right.{count-few}
 use Rattle.planes.specs.Board.{boardAt, boardOf}
 use Rattle.planes.specs.Table.{tableOf, slotsOf}
@@ -42,14 +41,7 @@ use Rattle.rerun.specs.declared.Totals.{Totals}
 use Rattle.rerun.specs.declared.Turn.{Turn}
 use Rattle.rerun.specs.Replay.{Replay, Outcome, whole, joined, refusedAt, started, replay, answered, firstRows, rowOf, rowRun}
 use Rattle.rerun.specs.Turn.{Fits, tallyAfter, totalsWith, turnWith, tallyOf, answerBy, totalsAt, totalsOf, Going, turnOf, turnInto}
-use Rattle.rerun.proofs.Rows.{unless-refuses, granted-either}
 use Rattle.rerun.proofs.Files.{no-rows, one-row-more, ends-at-refusal, all-the-rows, whole-so-far, counted, settings-right, row-right, few-rows, sound, sound-next, scans-next, records-next}
-
--- ## Numbers
-
-granted-number : (n at : ℕ) (r r′ : Replay) → granted n (whole r) (refusedAt at r′) .number ≡ n
-granted-number zero at r r′ = refl
-granted-number (suc n) at r r′ = refl
 
 -- ## The beginning: what the reader answers
 
@@ -168,7 +160,9 @@ module _ (s : List ℕ) (st : Settings) (width : ℕ) (t : Totals) (g : Going s 
     next-granted z = next-is ∙ granted-none (whole (joined so-far (rowRun s (t .rows)))) (refusedAt (rowPlace s (t .rows)) so-far) next-number z
 
     number-next : firstRows s (t .rows + 1) .number ≡ next-number
-    number-next = ap (λ (o : Outcome). o .number) next-is ∙ granted-number next-number (rowPlace s (t .rows)) (joined so-far (rowRun s (t .rows))) so-far
+    number-next =
+        ap (λ (o : Outcome). o .number) next-is
+        ∙ granted-number (whole (joined so-far (rowRun s (t .rows)))) (refusedAt (rowPlace s (t .rows)) so-far) (λ o. o .number) next-number (λ z. refl) (λ k. refl)
 
     -- where it runs, its records fit in 384 bytes, two an effect
     pub fits-any : Fits s (t .rows) 384
@@ -217,7 +211,7 @@ module _ (s : List ℕ) (st : Settings) (width : ℕ) (t : Totals) (g : Going s 
       -- a refusal is 9, at the row's first byte, and the replay is what the rows before have given
       module _ (h : u .number ≡ 0 → ⊥) where
         pub by-nine : u .number ≡ 9
-        by-nine = from-number ∙ unless-refuses (leb (so-far .state .done + rowOf s (t .rows) .hold) mostScans) 9 (λ z. h (from-number ∙ z))
+        by-nine = from-number ∙ unless-refused (leb (so-far .state .done + rowOf s (t .rows) .hold) mostScans) 9 (λ z. h (from-number ∙ z))
 
         pub stops : replay s ≡ refusedAt (u .totals .place) so-far 9
         stops =
@@ -264,7 +258,7 @@ module _ (s : List ℕ) (st : Settings) (width : ℕ) (t : Totals) (g : Going s 
       -- a row that runs
       module _ (z : v ≡ 0) where
         scans : t .board .done + row .hold ≤ mostScans
-        scans = leb-true (t .board .done + row .hold) mostScans (unless-none _ 8 (sym number-is ∙ z))
+        scans = limit-kept (t .board .done + row .hold) mostScans 8 (sym number-is ∙ z)
 
         right-settings : settingsNumber st ≡ 0
         right-settings = rw (g .settings) (settings-right s (g .accepted))
