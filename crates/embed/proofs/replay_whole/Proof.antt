@@ -1,5 +1,5 @@
 -- `embed::replay_whole` meets its contract: 10 where the totals or the records do not fit, else all of both.
-use mathlib.Core.Path.{_≡_, refl, sym, ap, _∙_}
+use mathlib.Core.Path.{_≡_, refl, sym, _∙_}
 use Prim.Native.Nat.{_*_}
 use denote.Ref.{now}
 use lib.Dec.{leb}
