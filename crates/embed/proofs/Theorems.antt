@@ -12,12 +12,11 @@ use lib.Seq.{sets}
 use Rattle.effects.specs.Records.{bytes}
 use Rattle.settings.specs.Refusals.{unless, orElse, roomNumber}
 use Rattle.settings.proofs.Refusals.{granted-refused, granted-either, granted-number, room-enough, room-short, or-else-alone, or-else-first, or-else-next, or-else-none}
-use Rattle.settings.proofs.Right.{count-few}
 use Rattle.recording.specs.Answers.{number, rowCount}
 use Rattle.recording.specs.Reader.{reading}
 use Rattle.recording.specs.Accepted.{Accepted}
 use Rattle.rerun.specs.Replay.{Outcome, replay, answered}
-use Rattle.rerun.proofs.Files.{settings-right, whole-so-far}
+use Rattle.rerun.proofs.Files.{most-effects, whole-so-far}
 use Rattle.rerun.proofs.Theorems.{a-refused-file-is-not-run, a-replay-is-all-its-rows, two-records-an-effect-and-row}
 use Rattle.embed.specs.Crossing.{refusal, checkNumber, replayNumber, recordsInto, totalsOrRefusal}
 
@@ -88,7 +87,7 @@ module _ (s : List ℕ) (room totalsRoom : ℕ) where
       let n = reading s .settings .count in
       let rows = rowCount (reading s .answer) in
       with-room (λ z.
-      let few : 2 * n ≤ 32 = omega (arith, count-few (reading s .settings) (settings-right s (whole-is-accepted s z))) in
+      let few : 2 * n ≤ 32 = omega (arith, most-effects s (whole-is-accepted s z)) in
       let most : 2 * n * rows ≤ 32 * rows = mul-le-mul-right rows few in
       omega (arith, two-records-an-effect-and-row s (whole-is-accepted s z), most, h))
 

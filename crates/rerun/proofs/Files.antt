@@ -13,6 +13,7 @@ use Rattle.settings.specs.declared.Settings.{Settings}
 use Rattle.settings.specs.Limits.{mostScans}
 use Rattle.settings.specs.Refusals.{granted}
 use Rattle.settings.specs.Right.{knownOf, settingsNumber, rowNumber}
+use Rattle.settings.proofs.Right.{count-few}
 use Rattle.block.specs.Scan.{scansNumber}
 use Rattle.block.proofs.Theorems.{a-fresh-state-is-right}
 use Rattle.recording.specs.declared.Answer.the-variants as A
@@ -25,7 +26,7 @@ use Rattle.recording.proofs.Theorems.{accepted-case, accepted-is-right}
 use Rattle.recording.proofs.Trips.{length-rowsOf}
 use Rattle.rerun.specs.Replay.{Outcome, whole, started, joined, refusedAt, rowsFrom, replayRows, replay, firstRows, rowOf, rowRun, sumOfHolds}
 use Rattle.rerun.proofs.Rows.{Sound, then-the-others, refusal-ends, none-refused-whole, events-stay, rows-counted, records-few, done-after, sound-after, within-scans, sound-rows, done-is-holds, all-take, all-at}
-use Rattle.settings.proofs.Refusals.{granted-none, granted-refused, unless-refused, limit-passed}
+use Rattle.settings.proofs.Refusals.{granted-none, granted-refused, granted-number, unless-refused, limit-passed}
 
 module _ (s : List ℕ) where
   abbrev st : Settings
@@ -96,6 +97,35 @@ module _ (s : List ℕ) where
       in
       rw all (events-stay st (rowWidth (reading s .answer)) (drop i (rowsOf s)) _ (firstRows s i .replay))
 
+  -- ## One row more, by its number
+
+  abbrev pub numberAt : ℕ → ℕ
+  numberAt i = scansNumber (firstRows s i .replay .state .done) (rowOf s i .hold)
+
+  module _ (i : ℕ) (l : i < rowCount (reading s .answer)) (none : firstRows s i .number ≡ 0) where
+    abbrev ran : Outcome
+    ran = whole (joined (firstRows s i .replay) (rowRun s i))
+
+    abbrev stopped-at : ℕ → Outcome
+    stopped-at = refusedAt (rowPlace s i) (firstRows s i .replay)
+
+    pub next-number : firstRows s (i + 1) .number ≡ numberAt i
+    next-number = ap (λ (o : Outcome). o .number) (one-row-more i l none) ∙ granted-number ran stopped-at (λ o. o .number) (numberAt i) (λ z. refl) (λ n. refl)
+
+    pub next-runs : numberAt i ≡ 0 → firstRows s (i + 1) ≡ ran
+    next-runs z = one-row-more i l none ∙ granted-none ran stopped-at (numberAt i) z
+
+    -- its events are joined to those before
+    pub events-join : firstRows s (i + 1) .number ≡ 0 → firstRows s (i + 1) .replay .events ≡ firstRows s i .replay .events ++ rowRun s i .events
+    events-join z = ap (λ (o : Outcome). o .replay .events) (next-runs (sym next-number ∙ z))
+
+    pub next-refused : (numberAt i ≡ 0 → ⊥) → firstRows s (i + 1) ≡ stopped-at (numberAt i)
+    next-refused h = one-row-more i l none ∙ granted-refused ran stopped-at (numberAt i) h
+
+    -- and that ends the replay
+    pub stops-there : number (reading s .answer) ≡ 0 → (numberAt i ≡ 0 → ⊥) → replay s ≡ stopped-at (numberAt i)
+    stops-there a h = ends-at-refusal a (i + 1) (λ z. h (sym next-number ∙ z)) ∙ next-refused h
+
   -- after a refused row nothing changes
   stays-refused : (i : ℕ) → (firstRows s i .number ≡ 0 → ⊥) → firstRows s (i + 1) ≡ firstRows s i
   unfolding firstRows
@@ -108,24 +138,16 @@ module _ (s : List ℕ) where
     abbrev pub Before : ℕ → Type 0
     Before i = (i < rowCount (reading s .answer)) × (firstRows s i .number ≡ 0) × (firstRows s i .replay .rows ≡ i) × P (firstRows s i)
 
-    abbrev numberOf : ℕ → ℕ
-    numberOf i = scansNumber (firstRows s i .replay .state .done) (rowOf s i .hold)
-
-    module _ (runs : (i : ℕ) → Before i → numberOf i ≡ 0 → P (whole (joined (firstRows s i .replay) (rowRun s i))))
-        (refuses : (i : ℕ) → Before i → (numberOf i ≡ 0 → ⊥) → P (refusedAt (rowPlace s i) (firstRows s i .replay) (numberOf i))) where
-      one-more : (i : ℕ) → Before i → (n : ℕ) → numberOf i ≡ n → P (granted (numberOf i) (whole (joined (firstRows s i .replay) (rowRun s i))) (refusedAt (rowPlace s i) (firstRows s i .replay)))
-      one-more i b zero e = rw (granted-none (whole (joined (firstRows s i .replay) (rowRun s i))) (refusedAt (rowPlace s i) (firstRows s i .replay)) (numberOf i) e) (runs i b e)
-      one-more i b (suc n) e =
-          let h : numberOf i ≡ 0 → ⊥ = λ z. omega (arith, e, z) in
-          rw (granted-refused (whole (joined (firstRows s i .replay) (rowRun s i))) (refusedAt (rowPlace s i) (firstRows s i .replay)) (numberOf i) h) (refuses i b h)
-
-      next-row : (i : ℕ) → i < rowCount (reading s .answer) → (n : ℕ) → firstRows s i .number ≡ n → P (firstRows s i) → P (firstRows s (i + 1))
-      next-row i l zero e p = rw (one-row-more i l e) (one-more i (l, e, counted i (omega arith) e, p) (numberOf i) refl)
-      next-row i l (suc n) e p = rw (stays-refused i (λ z. omega (arith, e, z))) p
+    module _ (runs : (i : ℕ) → Before i → numberAt i ≡ 0 → P (whole (joined (firstRows s i .replay) (rowRun s i))))
+        (refuses : (i : ℕ) → Before i → (numberAt i ≡ 0 → ⊥) → P (refusedAt (rowPlace s i) (firstRows s i .replay) (numberAt i))) where
+      next-row : (i : ℕ) → i < rowCount (reading s .answer) → P (firstRows s i) → (n : ℕ) → firstRows s i .number ≡ n → (m : ℕ) → numberAt i ≡ m → P (firstRows s (i + 1))
+      next-row i l p zero e zero z = rw (next-runs i l e z) (runs i (l, e, counted i (omega arith) e, p) z)
+      next-row i l p zero e (suc m) f = let h : numberAt i ≡ 0 → ⊥ = λ z. omega (arith, f, z) in rw (next-refused i l e h) (refuses i (l, e, counted i (omega arith) e, p) h)
+      next-row i l p (suc n) e m f = rw (stays-refused i (λ z. omega (arith, e, z))) p
 
       pub by-rows : (i : ℕ) → i ≤ rowCount (reading s .answer) → P (firstRows s i)
       by-rows zero l = rw no-rows at-start
-      by-rows (suc i) l = rw (← add-one i) (next-row i (omega arith) (firstRows s i .number) refl (by-rows i (omega arith)))
+      by-rows (suc i) l = rw (← add-one i) (next-row i (omega arith) (by-rows i (omega arith)) (firstRows s i .number) refl (numberAt i) refl)
 
   -- ## How it ends
 
@@ -139,8 +161,7 @@ module _ (s : List ℕ) where
   abbrev Ended : Outcome → Type 0
   Ended o = ((o .number ≡ 0) × (o .place ≡ 0)) ⊎ Stopped o
 
-  stopped : (i : ℕ) → Before Ended (inl (refl, refl)) i → (scansNumber (firstRows s i .replay .state .done) (rowOf s i .hold) ≡ 0 → ⊥)
-      → Ended (refusedAt (rowPlace s i) (firstRows s i .replay) (scansNumber (firstRows s i .replay .state .done) (rowOf s i .hold)))
+  stopped : (i : ℕ) → Before Ended (inl (refl, refl)) i → (numberAt i ≡ 0 → ⊥) → Ended (refusedAt (rowPlace s i) (firstRows s i .replay) (numberAt i))
   stopped i b h =
       let r = firstRows s i .replay in
       inr (
@@ -170,6 +191,9 @@ module _ (s : List ℕ) where
     pub settings-right : settingsNumber st ≡ 0
     settings-right = right .settings
 
+    pub most-effects : st .count ≤ 16
+    most-effects = count-few st settings-right
+
     pub row-right : (i : ℕ) → i < rowCount (reading s .answer) → rowNumber (knownOf st) (rowOf s i) ≡ 0
     row-right i l = all-at (rowNumber (knownOf st)) i (rowsOf s) noRow (omega (arith, length-rowsOf s)) (right .each-row)
 
@@ -192,7 +216,7 @@ module _ (s : List ℕ) where
         (λ z. done-is-holds st (right .settings) (rowWidth (reading s .answer)) (firstRow (reading s .answer)) (rowsOf s) (right .each-row) started started-sound z ∙ zero-add _)
 
     -- and so is the one that row i leaves, where its scans can be counted
-    module _ (i : ℕ) (l : i < rowCount (reading s .answer)) (z : scansNumber (firstRows s i .replay .state .done) (rowOf s i .hold) ≡ 0) where
+    module _ (i : ℕ) (l : i < rowCount (reading s .answer)) (z : numberAt i ≡ 0) where
       pub sound-next : Sound st (joined (firstRows s i .replay) (rowRun s i))
       unfolding rowRun
       sound-next = sound-after st settings-right (rowOf s i) (row-right i l) (firstRows s i .replay) (sound i) z

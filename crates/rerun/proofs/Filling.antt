@@ -1,5 +1,5 @@
 -- The records of the rows so far stand at the front of a lent buffer, and those of one row more follow them.
-use mathlib.Core.Path.{_≡_, refl, sym, ap, _∙_}
+use mathlib.Core.Path.{_≡_, sym, ap, _∙_}
 use mathlib.Core.Bool.{Bool, true, false, cond}
 use mathlib.Core.List.{List, [], _++_, append-assoc, append-nil}
 use Prim.Native.Nat.{ℕ, _+_, _*_, _-_, _≤_, _<_}
@@ -20,7 +20,7 @@ use Rattle.rerun.specs.declared.Totals.{Totals}
 use Rattle.rerun.specs.declared.Turn.{Turn}
 use Rattle.rerun.specs.Replay.{Outcome, replay, firstRows, rowRun}
 use Rattle.rerun.specs.Turn.{Going, Fits, roomOf, turnOf, turnInto}
-use Rattle.rerun.proofs.Files.{no-rows, events-in-all}
+use Rattle.rerun.proofs.Files.{no-rows, counted, events-in-all, events-join}
 use Rattle.rerun.proofs.Turns as turns
 
 -- ## A part of a buffer, from a place to the end
@@ -63,32 +63,20 @@ module _ (s : List ℕ) (st : Settings) (width : ℕ) (t : Totals) (g : Going s 
     abbrev events : List Event
     events = rowRun s (t .rows) .events
 
-    one : turnOf s (t .rows) .totals .rows ≡ t .rows + 1
-    one = turns.one-row s st width t g more (turnOf s (t .rows)) refl none
-
-    joined : firstRows s (t .rows + 1) .replay .events ≡ firstRows s (t .rows) .replay .events ++ events
-    joined = ap (λ (i : ℕ). firstRows s i .replay .events) (sym one) ∙ turns.events-join s st width t g more (turnOf s (t .rows)) refl none
-
     -- the bytes of one row more, by where it ran
     pub row-stored : (buf : List ℕ) → turnInto s (t .rows) buf ≡ sets buf 0 (bytes events)
     row-stored buf = granted-none (sets buf 0 (bytes events)) (λ k. buf) (firstRows s (t .rows + 1) .number) none
 
-    -- the loop goes on
-    module _ (u : Totals) (is : u ≡ turnOf s (t .rows) .totals) where
-      pub goes-on : Going s st width u
-      goes-on = rw is (turns.goes-on s st width t g more (turnOf s (t .rows)) refl none)
-
-      pub one-row : u .rows ≡ t .rows + 1
-      one-row = ap (λ (v : Totals). v .rows) is ∙ one
-
-      pub grows : (out₀ out out′ : List ℕ) → out ≡ filled s (t .rows) out₀ → out′ ≡ sets out (12 * t .records) (bytes events) → out′ ≡ filled s (u .rows) out₀
-      grows out₀ out out′ e f =
-          let so-far = firstRows s (t .rows) .replay .events in
-          let at : 12 * t .records ≡ 0 + length (bytes so-far) = omega (arith, turns.records-so-far s st width t g, length-bytes so-far) in
-          f
-          ∙ (λ j. sets (e j) (at j) (bytes events))
-          ∙ sym (sets-append out₀ 0 (bytes so-far) (bytes events))
-          ∙ ap (sets out₀ 0) (sym (bytes-append so-far events) ∙ ap bytes (sym joined) ∙ ap (λ (i : ℕ). bytes (firstRows s i .replay .events)) (sym one-row))
+    -- they follow those so far
+    pub grows : (u : Totals) → u ≡ turnOf s (t .rows) .totals → (out₀ out out′ : List ℕ) → out ≡ filled s (t .rows) out₀ → out′ ≡ sets out (12 * t .records) (bytes events) → out′ ≡ filled s (u .rows) out₀
+    grows u is out₀ out out′ e f =
+        let so-far = firstRows s (t .rows) .replay .events in
+        let at : 12 * t .records ≡ 0 + length (bytes so-far) = omega (arith, turns.records-so-far s st width t g, length-bytes so-far) in
+        let one : u .rows ≡ t .rows + 1 = ap (λ (v : Totals). v .rows) is ∙ counted s (t .rows + 1) (omega (arith, more)) none in
+        f
+        ∙ (λ j. sets (e j) (at j) (bytes events))
+        ∙ sym (sets-append out₀ 0 (bytes so-far) (bytes events))
+        ∙ ap (sets out₀ 0) (sym (bytes-append so-far events) ∙ ap bytes (sym (events-join s (t .rows) more (g .none-refused) none)) ∙ ap (λ (i : ℕ). bytes (firstRows s i .replay .events)) (sym one))
 
   -- a refused row stores nothing, and the records so far are all
   module _ (more : t .rows < rowCount (reading s .answer)) (u : Turn) (is : u ≡ turnOf s (t .rows)) (h : u .number ≡ 0 → ⊥) where
@@ -116,7 +104,7 @@ module _ (s : List ℕ) (st : Settings) (width : ℕ) (t : Totals) (g : Going s 
           h,
           turns.records-so-far s st width t g,
           events-in-all s (g .accepted) (t .rows + 1) none,
-          ap length (joined more none),
+          ap length (events-join s (t .rows) more (g .none-refused) none),
           length-append events-so-far events,
         )
     next-fits false room h none = omega (arith, h, turns.fits-any s st width t g more none)

@@ -12,7 +12,6 @@ use lib.ListN.{length}
 use Rattle.effects.specs.declared.Event.{Event}
 use Rattle.settings.specs.Limits.{mostScans}
 use Rattle.settings.specs.Refusals.{orElse, granted, roomNumber}
-use Rattle.settings.proofs.Right.{count-few}
 use Rattle.settings.proofs.Refusals.{granted-refused, room-enough, or-else-alone}
 use Rattle.block.specs.State.{stateNumber}
 use Rattle.block.specs.Scan.{scansNumber, inputNumber}
@@ -77,7 +76,7 @@ module _ (s : List ℕ) (accepted : Accepted s) where
       let due = 12 * length (run st (rowOf s i) x .events) in
       let state = files.sound s accepted i .state in
       let input : inputNumber st x (rowOf s i) ≡ n = rw (files.settings-right s accepted, state, files.row-right s accepted i l) in
-      let room : n ≡ 0 → roomNumber due 384 ≡ 0 = λ z. room-enough due 384 (omega (arith, files.records-next s accepted i l z, count-few st (files.settings-right s accepted))) in
+      let room : n ≡ 0 → roomNumber due 384 ≡ 0 = λ z. room-enough due 384 (omega (arith, files.records-next s accepted i l z, files.most-effects s accepted)) in
       (state, ap (λ (k : ℕ). granted k (grantedHeld st (rowOf s i) x) (refusedHeld x)) (ap (λ (k : ℕ). orElse k (roomNumber due 384)) input ∙ or-else-alone n (roomNumber due 384) room))
 
   -- an accepted file is replayed whole, or stops at the row whose scans cannot be counted
