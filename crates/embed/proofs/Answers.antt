@@ -8,13 +8,10 @@ use lib.Seq.{sets}
 use Rattle.effects.specs.Records.{bytes}
 use Rattle.settings.proofs.Refusals.{granted-none, granted-refused}
 use Rattle.recording.specs.declared.Answer.the-variants as A
-use Rattle.recording.specs.Answers.{number}
 use Rattle.recording.specs.Reader.{reading}
-use Rattle.recording.proofs.Cases.{not-accepted}
-use Rattle.recording.proofs.Theorems.{accepted-case}
 use Rattle.rerun.specs.declared.Replayed.{Replayed}
 use Rattle.rerun.specs.Replay.{Outcome, replay, answered}
-use Rattle.rerun.proofs.Files.{refused-replay}
+use Rattle.rerun.proofs.Files.{refusal-number, refused-replay}
 use Rattle.embed.specs.Crossing.{numbers, fitted, crossing, refusal, replayNumber, recordsInto, totalsOrRefusal, totalsInto}
 use Rattle.embed.proofs.Stores.{length-numbers, stays}
 use Rattle.embed.proofs.Theorems.{ten-is-last, ten-for-the-totals}
@@ -43,7 +40,7 @@ module _ (s records totals : List ℕ) where
   pub refused-file : (r m p : ℕ) (totals′ : List ℕ) → reading s .answer ≡ A.Refused m p → r ≡ m → totals′ ≡ fitted (numbers (crossing (refusal p m))) totals → Answered r records totals′
   refused-file r m p totals′ e same f =
       let is = refused-replay s m p e in
-      let not-0 : m ≡ 0 → ⊥ = λ z. not-accepted m p _ _ _ (sym e ∙ accepted-case s (ap number e ∙ z)) in
+      let not-0 = refusal-number s m p e in
       let same-number : replay s .number ≡ m = ap (λ (o : Outcome). o .number) is in
       refused r m p totals′ same (sym (ten-is-last s (length records) (length totals) (λ z. not-0 (sym same-number ∙ z)) ∙ same-number)) not-0 (sym (ap (λ (o : Outcome). o .place) is)) f
 

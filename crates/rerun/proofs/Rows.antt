@@ -26,21 +26,24 @@ use Rattle.block.proofs.Theorems.{right-input-is-accepted, a-held-run-keeps-rig
 use Rattle.recording.specs.Encode.{All}
 use Rattle.rerun.specs.Replay.{Replay, Outcome, whole, afterRow, refusedAt, rowsFrom, sumOfHolds}
 
--- an outcome without refusal: neither the row's nor one after it
-none-refused : (n at : ℕ) (r : Replay) (o : Outcome) → granted n o (refusedAt at r) .number ≡ 0 → (n ≡ 0) × (o .number ≡ 0)
-none-refused zero at r o h = (refl, h)
-none-refused (suc k) at r o h = absurd (omega (arith, h))
-
 -- ## Rows and those after them
 
 module _ (st : Settings) (w : ℕ) where
+  -- nothing is refused: neither the first row nor one after it
+  none-refused : (x : Row) (xs : List Row) (at : ℕ) (r : Replay) → rowsFrom st w at (x ∷ xs) r .number ≡ 0
+      → (scansNumber (r .state .done) (x .hold) ≡ 0) × (rowsFrom st w (at + w) xs (afterRow st x r) .number ≡ 0)
+  none-refused x xs at r = of (scansNumber (r .state .done) (x .hold)) (rowsFrom st w (at + w) xs (afterRow st x r))
+    where
+      of : (n : ℕ) (o : Outcome) → granted n o (refusedAt at r) .number ≡ 0 → (n ≡ 0) × (o .number ≡ 0)
+      of zero o h = (refl, h)
+      of (suc k) o h = absurd (omega (arith, h))
+
   -- rows that are all replayed are followed by the others, from what they have given
   pub then-the-others : (xs ys : List Row) (at : ℕ) (r : Replay) → rowsFrom st w at xs r .number ≡ 0
       → rowsFrom st w at (xs ++ ys) r ≡ rowsFrom st w (at + w * length xs) ys (rowsFrom st w at xs r .replay)
   then-the-others [] ys at r h = rw (mul-zero, add-zero)
   then-the-others (x ∷ xs) ys at r h =
-      let n = scansNumber (r .state .done) (x .hold) in
-      let p = none-refused n at r (rowsFrom st w (at + w) xs (afterRow st x r)) h in
+      let p = none-refused x xs at r h in
       let place : at + w + w * length xs ≡ at + w * suc (length xs) = omega (arith, mul-suc w (length xs)) in
       rw (p .0, ← place) (then-the-others xs ys (at + w) (afterRow st x r) (p .1))
 
@@ -57,8 +60,7 @@ module _ (st : Settings) (w : ℕ) where
   pub none-refused-whole : (xs : List Row) (at : ℕ) (r : Replay) → rowsFrom st w at xs r .number ≡ 0 → rowsFrom st w at xs r ≡ whole (rowsFrom st w at xs r .replay)
   none-refused-whole [] at r h = refl
   none-refused-whole (x ∷ xs) at r h =
-      let n = scansNumber (r .state .done) (x .hold) in
-      let p = none-refused n at r (rowsFrom st w (at + w) xs (afterRow st x r)) h in
+      let p = none-refused x xs at r h in
       rw (p .0) (none-refused-whole xs (at + w) (afterRow st x r) (p .1))
 
   -- events stay, and grow
@@ -73,8 +75,7 @@ module _ (st : Settings) (w : ℕ) where
   pub rows-counted : (xs : List Row) (at : ℕ) (r : Replay) → rowsFrom st w at xs r .number ≡ 0 → rowsFrom st w at xs r .replay .rows ≡ r .rows + length xs
   rows-counted [] at r h = omega arith
   rows-counted (x ∷ xs) at r h =
-      let n = scansNumber (r .state .done) (x .hold) in
-      let p = none-refused n at r (rowsFrom st w (at + w) xs (afterRow st x r)) h in
+      let p = none-refused x xs at r h in
       rw (p .0) (omega (arith, rows-counted xs (at + w) (afterRow st x r) (p .1)))
 
 -- ## What stays so
@@ -139,8 +140,7 @@ module _ (st : Settings) (right : settingsNumber st ≡ 0) where
       → rowsFrom st w at xs r .replay .state .done ≡ r .state .done + sumOfHolds xs
   done-is-holds w at [] all r sound h = omega arith
   done-is-holds w at (x ∷ xs) all r sound h =
-      let n = scansNumber (r .state .done) (x .hold) in
-      let p = none-refused n at r (rowsFrom st w (at + w) xs (afterRow st x r)) h in
+      let p = none-refused st w x xs at r h in
       let e = done-is-holds w (at + w) xs (all .1) (afterRow st x r) (sound-after x (all .0) r sound (p .0)) (p .1) in
       rw (p .0) (omega (arith, e, done-after x (all .0) r sound (p .0)))
 
