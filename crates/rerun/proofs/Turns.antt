@@ -12,10 +12,9 @@ use Rattle.effects.specs.Records.{bytes}
 use Rattle.settings.specs.declared.Row.{Row}
 use Rattle.settings.specs.declared.Settings.{Settings}
 use Rattle.settings.specs.Limits.{mostScans}
-use Rattle.settings.specs.Refusals.{granted}
 use Rattle.settings.specs.Right.{knownOf, settingsNumber, rowNumber}
 use Rattle.settings.proofs.Refusals.{granted-refused, granted-either, unless-refused, limit-kept}
-use Rattle.planes.specs.Board.{boardAt, boardOf}
+use Rattle.planes.specs.Board.{boardOf}
 use Rattle.planes.specs.Table.{tableOf, slotsOf}
 use Rattle.wiring.specs.declared.Wiring.{Wiring}
 use Rattle.wiring.specs.Wiring.{wiringOf}
@@ -24,8 +23,7 @@ use Rattle.block.specs.declared.State.{State}
 use Rattle.block.specs.State.{stateNumber}
 use Rattle.block.specs.Scan.{inputNumber, scansNumber}
 use Rattle.block.specs.Held.{Stepped, run}
-use Rattle.block.specs.declared.Kept.{Kept}
-use Rattle.block.specs.Run.{KeptWords, startOf, reachedBy, keptAt, keptOf}
+use Rattle.block.specs.Run.{KeptWords, startOf, reachedBy, keptOf}
 use Rattle.block.proofs.Boards.{shows}
 use Rattle.block.proofs.Theorems.{right-input-is-accepted}
 use Rattle.recording.specs.declared.Answer.{Answer}
@@ -35,11 +33,10 @@ use Rattle.recording.specs.Entries.{rowAt}
 use Rattle.recording.specs.Reader.{reading}
 use Rattle.recording.specs.Steps.{rowPlace}
 use Rattle.recording.proofs.Theorems.{first-row-after-the-opening, row-in-the-file}
-use Rattle.rerun.specs.declared.Tally.{Tally}
 use Rattle.rerun.specs.declared.Totals.{Totals}
 use Rattle.rerun.specs.declared.Turn.{Turn}
 use Rattle.rerun.specs.Replay.{Replay, Outcome, whole, joined, refusedAt, started, replay, answered, firstRows, rowOf, rowRun}
-use Rattle.rerun.specs.Turn.{Fits, tallyAfter, totalsWith, turnWith, tallyOf, answerBy, totalsAt, totalsOf, Going, turnOf, turnInto}
+use Rattle.rerun.specs.Turn.{Fits, tallyOf, answerBy, totalsAt, totalsOf, Going, turnOf, turnInto}
 use Rattle.rerun.proofs.Files.{no-rows, all-the-rows, whole-so-far, counted, numberAt, next-number, next-runs, next-refused, stops-there, settings-right, most-effects, row-right, few-rows, sound, sound-next, scans-next, records-next}
 
 -- ## The beginning: what the reader answers
@@ -142,9 +139,6 @@ module _ (s : List ℕ) (st : Settings) (width : ℕ) (t : Totals) (g : Going s 
     pub row-there : t .place + 24 ≤ length s
     row-there = rw place-is (row-in-the-file s (t .rows) more .0)
 
-    pub row-read : rowAt s (t .place) ≡ rowOf s (t .rows)
-    row-read = rw place-is (row-in-the-file s (t .rows) more .1)
-
     number-next : firstRows s (t .rows + 1) .number ≡ numberAt s (t .rows)
     number-next = next-number s (t .rows) more (g .none-refused)
 
@@ -206,7 +200,7 @@ module _ (s : List ℕ) (st : Settings) (width : ℕ) (t : Totals) (g : Going s 
 
     module _ (row : Row) (is : row ≡ rowAt s (t .place)) (v : ℕ) (number-is : v ≡ scansNumber (t .board .done) (row .hold)) where
       row-is : row ≡ rowOf s (t .rows)
-      row-is = is ∙ row-read
+      row-is = is ∙ rw place-is (row-in-the-file s (t .rows) more .1)
 
       same-number : v ≡ numberAt s (t .rows)
       same-number = number-is ∙ (λ j. scansNumber (board-is j .done) (row-is j .hold))
@@ -277,19 +271,8 @@ module _ (s : List ℕ) (st : Settings) (width : ℕ) (t : Totals) (g : Going s 
                 omega (arith, x, kept .exercised, most),
               )
 
-          pub granted-turn : (u : Totals) → u ≡ totalsAfter t width ran → (buf buf′ : List ℕ) → buf′ ≡ sets buf 0 (bytes (run st row shown .events))
-              → (_≡_ {A = Turn} (record { number = 0; records = ran .records; totals = u }) (turnOf s (t .rows))) × (buf′ ≡ turnInto s (t .rows) buf)
-          granted-turn u e buf buf′ f =
-              let et = e ∙ (λ j. totalsAfter (g .totals j) (g .wide j) (ran-row j)) ∙ after-is (rowRun s (t .rows)) in
+          pub granted-turn : (buf buf′ : List ℕ) → buf′ ≡ sets buf 0 (bytes (run st row shown .events))
+              → (_≡_ {A = Turn} (record { number = 0; records = ran .records; totals = totalsAfter t width ran }) (turnOf s (t .rows))) × (buf′ ≡ turnInto s (t .rows) buf)
+          granted-turn buf buf′ f =
+              let et = (λ j. totalsAfter (g .totals j) (g .wide j) (ran-row j)) ∙ after-is (rowRun s (t .rows)) in
               rw granted-is ((λ j. record { number = 0; records = ran-row j .records; totals = et j }), f ∙ ap (λ (q : Stepped). sets buf 0 (bytes (q .events))) run-is)
-
--- ## Where the timers and first-outs are lent
-
--- a row that runs, as the code gives it
-pub granted-went : (s : List ℕ) (st : Settings) (width : ℕ) (t : Tally) (timers firsts : List ℕ) (g : Going s st width (totalsWith t timers firsts)) (more : t .rows < rowCount (reading s .answer))
-    (row : Row) (is : row ≡ rowAt s (t .place)) (v : ℕ) (number-is : v ≡ scansNumber (t .mark .done) (row .hold)) (z : v ≡ 0)
-    (ran : Kept) (timers′ firsts′ : List ℕ) → keptAt ran timers′ firsts′ ≡ keptOf (st .count) (run st row (reachedBy (st .count) (boardAt (t .mark) timers firsts)))
-    → (u : Tally) → u ≡ tallyAfter t width ran → (buf buf′ : List ℕ) → buf′ ≡ sets buf 0 (bytes (run st row (reachedBy (st .count) (boardAt (t .mark) timers firsts)) .events))
-    → (turnWith (record { number = 0; records = ran .records; tally = u }) timers′ firsts′ ≡ turnOf s (t .rows)) × (buf′ ≡ turnInto s (t .rows) buf)
-granted-went s st width t timers firsts g more row is v number-is z ran timers′ firsts′ ran-is u e buf buf′ f =
-    granted-turn s st width (totalsWith t timers firsts) g more row is v number-is z (keptAt ran timers′ firsts′) ran-is (totalsWith u timers′ firsts′) (ap (λ (q : Tally). totalsWith q timers′ firsts′) e) buf buf′ f
