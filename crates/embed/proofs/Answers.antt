@@ -1,73 +1,20 @@
--- Which number is given, and what the lent buffers then hold.
+-- What a replay answers, and what the lent buffers then hold.
 use mathlib.Core.Path.{_≡_, refl, sym, ap, _∙_}
-use mathlib.Core.Bool.{Bool, true, false}
 use mathlib.Core.List.{List}
-use Prim.Native.Nat.{ℕ, _*_, _≤_, _<_}
+use Prim.Native.Nat.{ℕ, _<_}
 use native.Mathlib.Omega.{arith}
-use borrow.Author.Tests.{leb-true, le-leb, lt-leb}
-use lib.Dec.{leb}
 use lib.ListN.{length}
 use lib.Seq.{sets}
 use Rattle.effects.specs.Records.{bytes}
-use Rattle.settings.specs.Refusals.{unless, orElse, roomNumber}
-use Rattle.settings.proofs.Refusals.{granted-none, granted-refused, or-else-first, or-else-next, unless-none}
+use Rattle.settings.proofs.Refusals.{granted-none, granted-refused}
 use Rattle.recording.specs.declared.Answer.the-variants as A
-use Rattle.recording.specs.Answers.{number, rowCount}
 use Rattle.recording.specs.Reader.{reading}
-use Rattle.recording.proofs.Cases.{not-accepted}
-use Rattle.recording.proofs.Theorems.{accepted-case}
 use Rattle.rerun.specs.declared.Replayed.{Replayed}
 use Rattle.rerun.specs.Replay.{Outcome, replay, answered}
-use Rattle.rerun.proofs.Files.{refused-replay, all-the-rows, whole-so-far}
+use Rattle.rerun.proofs.Files.{refusal-number, refused-replay}
 use Rattle.embed.specs.Crossing.{numbers, fitted, crossing, refusal, replayNumber, recordsInto, totalsOrRefusal, totalsInto}
 use Rattle.embed.proofs.Stores.{length-numbers, stays}
-
--- ## 10 or nothing
-
-ten-either-way : (b : Bool) → orElse (unless b 10) 10 ≡ 10
-ten-either-way true = refl
-ten-either-way false = refl
-
-pub piece-fits : (size room : ℕ) → size ≤ room → roomNumber size room ≡ 0
-piece-fits size room h = ap (λ (b : Bool). unless b 10) (le-leb size room h)
-
-pub piece-too-long : (size room : ℕ) → room < size → roomNumber size room ≡ 10
-piece-too-long size room h = ap (λ (b : Bool). unless b 10) (lt-leb size room h)
-
-pub records-fit : (due room : ℕ) → roomNumber due room ≡ 0 → due ≤ room
-records-fit due room z = leb-true due room (unless-none _ 9 z)
-
--- ## A replay's number
-
--- a replay that nothing refuses has no place
-pub place-of-whole : (s : List ℕ) → number (reading s .answer) ≡ 0 → replay s .number ≡ 0 → replay s .place ≡ 0
-place-of-whole s a z =
-    let all = all-the-rows s a in
-    ap (λ (o : Outcome). o .place) (all ∙ whole-so-far s (rowCount (reading s .answer)) (ap (λ (o : Outcome). o .number) (sym all) ∙ z))
-
-module _ (s : List ℕ) (room totalsRoom : ℕ) where
-  -- the reader's, or 9
-  pub stopped-number : (replay s .number ≡ 0 → ⊥) → replayNumber s room totalsRoom ≡ replay s .number
-  stopped-number h = sym (or-else-first (replay s .number) _ (replay s .number) refl h)
-
-  module _ (whole : replay s .number ≡ 0) where
-    abbrev due : ℕ
-    due = 12 * length (replay s .replay .events)
-
-    pub by-room : replayNumber s room totalsRoom ≡ orElse (roomNumber due room) (roomNumber 56 totalsRoom)
-    by-room = sym (or-else-next (replay s .number) _ (replay s .number) _ refl whole refl)
-
-    -- 10 for the totals, or for the records
-    pub totals-do-not-fit : totalsRoom < 56 → replayNumber s room totalsRoom ≡ 10
-    totals-do-not-fit h = by-room ∙ ap (orElse (roomNumber due room)) (piece-too-long 56 totalsRoom h) ∙ ten-either-way (leb due room)
-
-    pub records-do-not-fit : (roomNumber due room ≡ 0 → ⊥) → replayNumber s room totalsRoom ≡ roomNumber due room
-    records-do-not-fit h = by-room ∙ sym (or-else-first (roomNumber due room) _ (roomNumber due room) refl h)
-
-    pub all-fits : roomNumber due room ≡ 0 → 56 ≤ totalsRoom → replayNumber s room totalsRoom ≡ 0
-    all-fits z h = by-room ∙ sym (or-else-next (roomNumber due room) (roomNumber 56 totalsRoom) (roomNumber due room) 0 refl z (sym (piece-fits 56 totalsRoom h)))
-
--- ## What the buffers hold
+use Rattle.embed.proofs.Theorems.{ten-is-last, ten-for-the-totals}
 
 module _ (s records totals : List ℕ) where
   abbrev n : ℕ
@@ -93,14 +40,14 @@ module _ (s records totals : List ℕ) where
   pub refused-file : (r m p : ℕ) (totals′ : List ℕ) → reading s .answer ≡ A.Refused m p → r ≡ m → totals′ ≡ fitted (numbers (crossing (refusal p m))) totals → Answered r records totals′
   refused-file r m p totals′ e same f =
       let is = refused-replay s m p e in
-      let not-0 : m ≡ 0 → ⊥ = λ z. not-accepted m p _ _ _ (sym e ∙ accepted-case s (ap number e ∙ z)) in
+      let not-0 = refusal-number s m p e in
       let same-number : replay s .number ≡ m = ap (λ (o : Outcome). o .number) is in
-      refused r m p totals′ same (sym (stopped-number s (length records) (length totals) (λ z. not-0 (sym same-number ∙ z)) ∙ same-number)) not-0 (sym (ap (λ (o : Outcome). o .place) is)) f
+      refused r m p totals′ same (sym (ten-is-last s (length records) (length totals) (λ z. not-0 (sym same-number ∙ z)) ∙ same-number)) not-0 (sym (ap (λ (o : Outcome). o .place) is)) f
 
   -- where the totals do not fit nothing is written
   pub too-little-room : replay s .number ≡ 0 → length totals < 56 → Answered 10 records totals
   too-little-room z h =
-      refused 10 10 (replay s .place) totals refl (sym (totals-do-not-fit s (length records) (length totals) z h)) (λ e. omega (arith, e)) refl
+      refused 10 10 (replay s .place) totals refl (sym (ten-for-the-totals s (length records) (length totals) z h)) (λ e. omega (arith, e)) refl
       (stays (numbers (crossing (refusal (replay s .place) 10))) totals (omega (arith, h, length-numbers (crossing (refusal (replay s .place) 10)))))
 
   -- no refusal: all records, and the totals

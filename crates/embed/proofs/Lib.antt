@@ -1,4 +1,4 @@
 pub mod Stores
-pub mod Answers
 pub mod Theorems
+pub mod Answers
 pub mod Session

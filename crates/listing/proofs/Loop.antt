@@ -58,8 +58,4 @@ module _ (s : List ℕ) (st : Settings) (width : ℕ) (t : Totals) (g : Going s 
 
       -- and leaves the totals as they were
       pub kept : (p .number ≡ 0 → ⊥) → p .totals ≡ t
-      kept h =
-          let refused : turn .number ≡ 0 → ⊥ = λ z. h (with-room .0 ∙ z) in
-          stops h .1
-          ∙ ap (λ (o : Outcome). totalsOf s (o .replay)) (turns.stops s st width t g more turn refl refused)
-          ∙ sym (g .totals)
+      kept h = with-room .1 ∙ turns.unchanged s st width t g more turn refl (λ z. h (with-room .0 ∙ z))

@@ -4,21 +4,19 @@
 use mathlib.Core.Path.{_≡_, refl, sym, ap, ap₂, _∙_}
 use mathlib.Core.List.{List, [], _++_, flatMap}
 use mathlib.Core.Logic.{⊎-elim}
-use Prim.Native.Nat.{ℕ, _+_}
+use Prim.Native.Nat.{ℕ}
 use native.Mathlib.Numerals.{add-one}
 use native.Mathlib.Omega.{arith}
 use Rattle.bits.proofs.Lists.{flatMap-append}
-use Rattle.block.specs.Scan.{scansNumber}
 use Rattle.settings.specs.Refusals.{granted}
 use Rattle.recording.specs.Answers.{number, place, rowCount}
 use Rattle.recording.specs.Reader.{reading}
-use Rattle.recording.specs.Steps.{rowPlace}
 use Rattle.recording.specs.Accepted.{Accepted}
 use Rattle.rerun.specs.declared.Totals.{Totals}
-use Rattle.rerun.specs.Replay.{Outcome, whole, started, joined, refusedAt, replay, answered, firstRows, rowOf, rowRun}
+use Rattle.rerun.specs.Replay.{Outcome, whole, started, joined, replay, answered, firstRows, rowRun}
 use Rattle.rerun.specs.Turn.{totalsOf}
 use Rattle.settings.proofs.Refusals.{granted-refused}
-use Rattle.rerun.proofs.Files.{Before, by-rows, one-row-more, all-the-rows}
+use Rattle.rerun.proofs.Files.{Before, by-rows, all-the-rows, numberAt, next-number}
 use Rattle.rerun.proofs.Theorems.{whole-or-stopped}
 use Rattle.listing.specs.Text.{header, line, lines, refusalLine}
 use Rattle.listing.specs.Listing.{closing, listing}
@@ -42,13 +40,10 @@ module _ (s : List ℕ) (accepted : Accepted s) where
   starts = refl
 
   -- one row more
-  runs : (i : ℕ) → Before s Joined starts i → scansNumber (firstRows s i .replay .state .done) (rowOf s i .hold) ≡ 0
-      → Joined (whole (joined (firstRows s i .replay) (rowRun s i)))
+  runs : (i : ℕ) → Before s Joined starts i → numberAt s i ≡ 0 → Joined (whole (joined (firstRows s i .replay) (rowRun s i)))
   runs i b z =
       let r = firstRows s i .replay in
-      let none : firstRows s (i + 1) .number ≡ 0 =
-      ap (λ (o : Outcome). o .number) (one-row-more s i (b .0) (b .1)) ∙ ap (λ (n : ℕ). granted n (whole (joined r (rowRun s i))) (refusedAt (rowPlace s i) r) .number) z
-      in
+      let none = next-number s i (b .0) (b .1) ∙ z in
       let last : rowLines s (r .rows) ≡ lines (rowRun s i .events) =
       ap (rowLines s) (b .2) ∙ ap (λ (n : ℕ). granted n (lines (rowRun s i .events)) (λ k. [])) none
       in

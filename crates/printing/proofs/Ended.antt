@@ -1,16 +1,13 @@
 -- How a replay ends, by its number.
-use mathlib.Core.Path.{_≡_, sym, ap, _∙_}
+use mathlib.Core.Path.{_≡_, ap, _∙_}
 use mathlib.Core.Bool.{Bool, true, false}
 use mathlib.Core.List.{List}
 use mathlib.Core.Logic.{inl, inr}
 use Prim.Native.Nat.{ℕ}
 use Rattle.recording.specs.declared.Answer.the-variants.{Refused}
-use Rattle.recording.specs.Answers.{number}
 use Rattle.recording.specs.Reader.{reading}
-use Rattle.recording.proofs.Cases.{not-accepted}
-use Rattle.recording.proofs.Trips.{accepted-case}
 use Rattle.rerun.specs.Replay.{Outcome, replay}
-use Rattle.rerun.proofs.Theorems.{a-refused-file-is-not-run}
+use Rattle.rerun.proofs.Files.{refused-replay}
 use Rattle.printing.specs.Status.{status, Told}
 
 pub told : (good : Bool) (number r : ℕ) → r ≡ status good number → Told number r
@@ -23,5 +20,4 @@ told-of n m r e (inr h) = inr (h ∙ ap (status true) e)
 
 -- a refused file has the reader's number
 pub number-of-refused : (s : List ℕ) (n p : ℕ) → reading s .answer ≡ Refused n p → replay s .number ≡ n
-number-of-refused s n p e =
-    ap (λ (o : Outcome). o .number) (a-refused-file-is-not-run s (λ h. not-accepted n p _ _ _ (sym e ∙ accepted-case s h))) ∙ ap number e
+number-of-refused s n p e = ap (λ (o : Outcome). o .number) (refused-replay s n p e)

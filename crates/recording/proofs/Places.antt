@@ -21,6 +21,7 @@ use Rattle.recording.proofs.Lists.{getD-listOf}
 use Rattle.bits.proofs.Lists.{and-left, and-right}
 use Rattle.recording.proofs.Between.{rows-whole}
 use Rattle.recording.proofs.Refusals.{said-or-accepted}
+use Rattle.recording.proofs.Steps.{refusal-ended}
 
 -- ## Places, by arithmetic
 
@@ -92,5 +93,5 @@ module _ (s : List ℕ) where
   pub ended-elsewhere : (at : ℕ) → Elsewhere at (reading s)
   ended-elsewhere at =
       said-or-accepted s (Elsewhere at)
-      (λ n p c none. refl)
+      (λ n p c none. sym (refusal-ended s at n p))
       (λ e r t none. rw (place-no (r + 2) (numAt 2 s r) (length s) at (rows-end e r t) none))

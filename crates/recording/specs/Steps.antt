@@ -5,13 +5,13 @@ use mathlib.Core.List.{List}
 use lib.Dec.{leb, ltb, eqb}
 use lib.ListN.{length}
 use Rattle.settings.specs.declared.Row.{Row}
+use Rattle.settings.specs.Refusals.{granted}
 use Rattle.recording.specs.declared.Answer.{Answer}
-use Rattle.recording.specs.declared.Answer.the-variants as A
 use Rattle.recording.specs.declared.Kind.the-variants.{Rows}
 use Rattle.recording.specs.declared.Step.{Step}
 use Rattle.recording.specs.declared.Step.the-variants as T
 use Rattle.recording.specs.Entries.{rowAt, listOf}
-use Rattle.recording.specs.Answers.{rowCount, firstRow, rowWidth}
+use Rattle.recording.specs.Answers.{number, rowCount, firstRow, rowWidth}
 use Rattle.recording.specs.Sections.{widthOf}
 use Rattle.recording.specs.Reader.{reading}
 
@@ -23,9 +23,10 @@ rowIn s at width = cond (eqb width (widthOf Rows) && leb (at + width) (length s)
 abbrev pub isPlace : (first width end at : ℕ) → Bool
 isPlace first width end at = leb first at && ltb at end && eqb ((at - first) % width) 0
 
+-- in bytes that the reader answers so, at any place: ended where it refuses them, or the place is no row's
 abbrev pub stepIn : Answer → List ℕ → ℕ → Step
-stepIn (A.Accepted rows first width) s at = cond (isPlace first width (length s) at) (rowIn s at width) T.Ended
-stepIn (A.Refused number place) s at = T.Ended
+stepIn a s at =
+    granted (number a) (cond (isPlace (firstRow a) (rowWidth a) (length s) at) (rowIn s at (rowWidth a)) T.Ended) (λ n. T.Ended)
 
 -- in any bytes, at any place
 unfoldable pub stepAt : List ℕ → ℕ → Step

@@ -13,6 +13,7 @@ use Rattle.settings.specs.declared.Settings.{Settings}
 use Rattle.settings.specs.Limits.{mostScans}
 use Rattle.settings.specs.Refusals.{granted}
 use Rattle.settings.specs.Right.{knownOf, settingsNumber, rowNumber}
+use Rattle.settings.proofs.Right.{count-few}
 use Rattle.block.specs.Scan.{scansNumber}
 use Rattle.block.proofs.Theorems.{a-fresh-state-is-right}
 use Rattle.recording.specs.declared.Answer.the-variants as A
@@ -24,22 +25,31 @@ use Rattle.recording.proofs.Cases.{not-accepted}
 use Rattle.recording.proofs.Theorems.{accepted-case, accepted-is-right}
 use Rattle.recording.proofs.Trips.{length-rowsOf}
 use Rattle.rerun.specs.Replay.{Outcome, whole, started, joined, refusedAt, rowsFrom, replayRows, replay, firstRows, rowOf, rowRun, sumOfHolds}
-use Rattle.rerun.proofs.Rows.{Sound, unless-refuses, past, then-the-others, refusal-ends, none-refused-whole, events-stay, rows-counted, records-few, done-after, sound-after, within-scans, sound-rows, done-is-holds, all-take, all-at}
-use Rattle.settings.proofs.Refusals.{granted-none, granted-refused}
+use Rattle.rerun.proofs.Rows.{Sound, then-the-others, refusal-ends, none-refused-whole, events-stay, rows-counted, records-few, done-after, sound-after, within-scans, sound-rows, done-is-holds, all-take, all-at}
+use Rattle.settings.proofs.Refusals.{granted-none, granted-refused, granted-number, unless-refused, limit-passed}
 
 module _ (s : List ℕ) where
   abbrev st : Settings
   st = reading s .settings
 
+  abbrev count : ℕ
+  count = rowCount (reading s .answer)
+
+  abbrev first : ℕ
+  first = firstRow (reading s .answer)
+
+  abbrev width : ℕ
+  width = rowWidth (reading s .answer)
+
   pub no-rows : firstRows s 0 ≡ whole started
   unfolding firstRows
   no-rows = refl
 
-  length-first : (i : ℕ) → i ≤ rowCount (reading s .answer) → length (take i (rowsOf s)) ≡ i
+  length-first : (i : ℕ) → i ≤ count → length (take i (rowsOf s)) ≡ i
   length-first i l = length-take-le i (rowsOf s) (omega (arith, length-rowsOf s))
 
   -- one row more
-  pub one-row-more : (i : ℕ) → i < rowCount (reading s .answer) → firstRows s i .number ≡ 0
+  pub one-row-more : (i : ℕ) → i < count → firstRows s i .number ≡ 0
       → let r = firstRows s i .replay in
       firstRows s (i + 1) ≡ granted (scansNumber (r .state .done) (rowOf s i .hold)) (whole (joined r (rowRun s i))) (refusedAt (rowPlace s i) r)
   unfolding firstRows rowRun
@@ -47,7 +57,7 @@ module _ (s : List ℕ) where
       let front = take i (rowsOf s) in
       let more : take (i + 1) (rowsOf s) ≡ front ++ (rowOf s i ∷ []) = rw add-one (take-suc (rowsOf s) i noRow (omega (arith, length-rowsOf s))) in
       ap (replayRows s) more
-      ∙ then-the-others st (rowWidth (reading s .answer)) front (rowOf s i ∷ []) (firstRow (reading s .answer)) started z
+      ∙ then-the-others st width front (rowOf s i ∷ []) first started z
       ∙ rw (length-first i (omega arith))
 
   -- the replay of an accepted file is that of its rows
@@ -55,11 +65,15 @@ module _ (s : List ℕ) where
   unfolding replay
   accepted-replay a = granted-none (replayRows s (rowsOf s)) (refusedAt (place (reading s .answer)) started) (number (reading s .answer)) a
 
+  -- a refusal's number is not 0
+  pub refusal-number : (n p : ℕ) → reading s .answer ≡ A.Refused n p → n ≡ 0 → ⊥
+  refusal-number n p e z = not-accepted n p _ _ _ (sym e ∙ accepted-case s (ap number e ∙ z))
+
   -- that of a refused file has run nothing
   pub refused-replay : (n p : ℕ) → reading s .answer ≡ A.Refused n p → replay s ≡ refusedAt p started n
   unfolding replay
   refused-replay n p e =
-      granted-refused (replayRows s (rowsOf s)) (refusedAt (place (reading s .answer)) started) (number (reading s .answer)) (λ z. not-accepted n p _ _ _ (sym e ∙ accepted-case s z))
+      granted-refused (replayRows s (rowsOf s)) (refusedAt (place (reading s .answer)) started) (number (reading s .answer)) (λ z. refusal-number n p e (sym (ap number e) ∙ z))
       ∙ (λ j. refusedAt (place (e j)) started (number (e j)))
 
   -- a refused row ends it
@@ -68,64 +82,85 @@ module _ (s : List ℕ) where
   ends-at-refusal a i h =
       accepted-replay a
       ∙ ap (replayRows s) (sym (take-append-drop i (rowsOf s)))
-      ∙ refusal-ends st (rowWidth (reading s .answer)) (take i (rowsOf s)) (drop i (rowsOf s)) (firstRow (reading s .answer)) started h
+      ∙ refusal-ends st width (take i (rowsOf s)) (drop i (rowsOf s)) first started h
 
-  pub all-the-rows : number (reading s .answer) ≡ 0 → replay s ≡ firstRows s (rowCount (reading s .answer))
+  pub all-the-rows : number (reading s .answer) ≡ 0 → replay s ≡ firstRows s count
   unfolding firstRows
   all-the-rows a =
       accepted-replay a
-      ∙ ap (replayRows s) (sym (take-all (rowCount (reading s .answer)) (rowsOf s) (omega (arith, length-rowsOf s))))
+      ∙ ap (replayRows s) (sym (take-all count (rowsOf s) (omega (arith, length-rowsOf s))))
 
-  pub counted : (i : ℕ) → i ≤ rowCount (reading s .answer) → firstRows s i .number ≡ 0 → firstRows s i .replay .rows ≡ i
+  pub counted : (i : ℕ) → i ≤ count → firstRows s i .number ≡ 0 → firstRows s i .replay .rows ≡ i
   unfolding firstRows
   counted i l z =
-      rows-counted st (rowWidth (reading s .answer)) (take i (rowsOf s)) (firstRow (reading s .answer)) started z ∙ omega (arith, length-first i l)
+      rows-counted st width (take i (rowsOf s)) first started z ∙ omega (arith, length-first i l)
 
   pub whole-so-far : (i : ℕ) → firstRows s i .number ≡ 0 → firstRows s i ≡ whole (firstRows s i .replay)
   unfolding firstRows
-  whole-so-far i z = none-refused-whole st (rowWidth (reading s .answer)) (take i (rowsOf s)) (firstRow (reading s .answer)) started z
+  whole-so-far i z = none-refused-whole st width (take i (rowsOf s)) first started z
 
   -- the replay has the events of first rows that none refused
   pub events-in-all : number (reading s .answer) ≡ 0 → (i : ℕ) → firstRows s i .number ≡ 0 → length (firstRows s i .replay .events) ≤ length (replay s .replay .events)
   unfolding firstRows
   events-in-all a i z =
-      let all : replay s ≡ rowsFrom st (rowWidth (reading s .answer)) (firstRow (reading s .answer) + rowWidth (reading s .answer) * length (take i (rowsOf s))) (drop i (rowsOf s)) (firstRows s i .replay) =
+      let all : replay s ≡ rowsFrom st width (first + width * length (take i (rowsOf s))) (drop i (rowsOf s)) (firstRows s i .replay) =
       accepted-replay a
       ∙ ap (replayRows s) (sym (take-append-drop i (rowsOf s)))
-      ∙ then-the-others st (rowWidth (reading s .answer)) (take i (rowsOf s)) (drop i (rowsOf s)) (firstRow (reading s .answer)) started z
+      ∙ then-the-others st width (take i (rowsOf s)) (drop i (rowsOf s)) first started z
       in
-      rw all (events-stay st (rowWidth (reading s .answer)) (drop i (rowsOf s)) _ (firstRows s i .replay))
+      rw all (events-stay st width (drop i (rowsOf s)) _ (firstRows s i .replay))
+
+  -- ## One row more, by its number
+
+  abbrev pub numberAt : ℕ → ℕ
+  numberAt i = scansNumber (firstRows s i .replay .state .done) (rowOf s i .hold)
+
+  module _ (i : ℕ) (l : i < count) (none : firstRows s i .number ≡ 0) where
+    abbrev ran : Outcome
+    ran = whole (joined (firstRows s i .replay) (rowRun s i))
+
+    abbrev stopped-at : ℕ → Outcome
+    stopped-at = refusedAt (rowPlace s i) (firstRows s i .replay)
+
+    pub next-number : firstRows s (i + 1) .number ≡ numberAt i
+    next-number = ap (λ (o : Outcome). o .number) (one-row-more i l none) ∙ granted-number ran stopped-at (λ o. o .number) (numberAt i) (λ z. refl) (λ n. refl)
+
+    pub next-runs : numberAt i ≡ 0 → firstRows s (i + 1) ≡ ran
+    next-runs z = one-row-more i l none ∙ granted-none ran stopped-at (numberAt i) z
+
+    -- its events are joined to those before
+    pub events-join : firstRows s (i + 1) .number ≡ 0 → firstRows s (i + 1) .replay .events ≡ firstRows s i .replay .events ++ rowRun s i .events
+    events-join z = ap (λ (o : Outcome). o .replay .events) (next-runs (sym next-number ∙ z))
+
+    pub next-refused : (numberAt i ≡ 0 → ⊥) → firstRows s (i + 1) ≡ stopped-at (numberAt i)
+    next-refused h = one-row-more i l none ∙ granted-refused ran stopped-at (numberAt i) h
+
+    -- and that ends the replay
+    pub stops-there : number (reading s .answer) ≡ 0 → (numberAt i ≡ 0 → ⊥) → replay s ≡ stopped-at (numberAt i)
+    stops-there a h = ends-at-refusal a (i + 1) (λ z. h (sym next-number ∙ z)) ∙ next-refused h
 
   -- after a refused row nothing changes
   stays-refused : (i : ℕ) → (firstRows s i .number ≡ 0 → ⊥) → firstRows s (i + 1) ≡ firstRows s i
   unfolding firstRows
   stays-refused i h =
       ap (replayRows s) (take-add i 1 (rowsOf s))
-      ∙ refusal-ends st (rowWidth (reading s .answer)) (take i (rowsOf s)) (take 1 (drop i (rowsOf s))) (firstRow (reading s .answer)) started h
+      ∙ refusal-ends st width (take i (rowsOf s)) (take 1 (drop i (rowsOf s))) first started h
 
   -- what holds at the start, and then after each row that runs and at the row that is refused, holds of any first rows
   module _ (P : Outcome → Type 0) (at-start : P (whole started)) where
     abbrev pub Before : ℕ → Type 0
-    Before i = (i < rowCount (reading s .answer)) × (firstRows s i .number ≡ 0) × (firstRows s i .replay .rows ≡ i) × P (firstRows s i)
+    Before i = (i < count) × (firstRows s i .number ≡ 0) × (firstRows s i .replay .rows ≡ i) × P (firstRows s i)
 
-    abbrev numberOf : ℕ → ℕ
-    numberOf i = scansNumber (firstRows s i .replay .state .done) (rowOf s i .hold)
+    module _ (runs : (i : ℕ) → Before i → numberAt i ≡ 0 → P (whole (joined (firstRows s i .replay) (rowRun s i))))
+        (refuses : (i : ℕ) → Before i → (numberAt i ≡ 0 → ⊥) → P (refusedAt (rowPlace s i) (firstRows s i .replay) (numberAt i))) where
+      next-row : (i : ℕ) → i < count → P (firstRows s i) → (n : ℕ) → firstRows s i .number ≡ n → (m : ℕ) → numberAt i ≡ m → P (firstRows s (i + 1))
+      next-row i l p zero e zero z = rw (next-runs i l e z) (runs i (l, e, counted i (omega arith) e, p) z)
+      next-row i l p zero e (suc m) f = let h : numberAt i ≡ 0 → ⊥ = λ z. omega (arith, f, z) in rw (next-refused i l e h) (refuses i (l, e, counted i (omega arith) e, p) h)
+      next-row i l p (suc n) e m f = rw (stays-refused i (λ z. omega (arith, e, z))) p
 
-    module _ (runs : (i : ℕ) → Before i → numberOf i ≡ 0 → P (whole (joined (firstRows s i .replay) (rowRun s i))))
-        (refuses : (i : ℕ) → Before i → (numberOf i ≡ 0 → ⊥) → P (refusedAt (rowPlace s i) (firstRows s i .replay) (numberOf i))) where
-      one-more : (i : ℕ) → Before i → (n : ℕ) → numberOf i ≡ n → P (granted (numberOf i) (whole (joined (firstRows s i .replay) (rowRun s i))) (refusedAt (rowPlace s i) (firstRows s i .replay)))
-      one-more i b zero e = rw (granted-none (whole (joined (firstRows s i .replay) (rowRun s i))) (refusedAt (rowPlace s i) (firstRows s i .replay)) (numberOf i) e) (runs i b e)
-      one-more i b (suc n) e =
-          let h : numberOf i ≡ 0 → ⊥ = λ z. omega (arith, e, z) in
-          rw (granted-refused (whole (joined (firstRows s i .replay) (rowRun s i))) (refusedAt (rowPlace s i) (firstRows s i .replay)) (numberOf i) h) (refuses i b h)
-
-      next-row : (i : ℕ) → i < rowCount (reading s .answer) → (n : ℕ) → firstRows s i .number ≡ n → P (firstRows s i) → P (firstRows s (i + 1))
-      next-row i l zero e p = rw (one-row-more i l e) (one-more i (l, e, counted i (omega arith) e, p) (numberOf i) refl)
-      next-row i l (suc n) e p = rw (stays-refused i (λ z. omega (arith, e, z))) p
-
-      pub by-rows : (i : ℕ) → i ≤ rowCount (reading s .answer) → P (firstRows s i)
+      pub by-rows : (i : ℕ) → i ≤ count → P (firstRows s i)
       by-rows zero l = rw no-rows at-start
-      by-rows (suc i) l = rw (← add-one i) (next-row i (omega arith) (firstRows s i .number) refl (by-rows i (omega arith)))
+      by-rows (suc i) l = rw (← add-one i) (next-row i (omega arith) (by-rows i (omega arith)) (firstRows s i .number) refl (numberAt i) refl)
 
   -- ## How it ends
 
@@ -133,33 +168,31 @@ module _ (s : List ℕ) where
   Stopped o =
       (o .number ≡ 9)
       × (o .place ≡ rowPlace s (o .replay .rows))
-      × (o .replay .rows < rowCount (reading s .answer))
+      × (o .replay .rows < count)
       × (mostScans < o .replay .state .done + rowOf s (o .replay .rows) .hold)
 
   abbrev Ended : Outcome → Type 0
   Ended o = ((o .number ≡ 0) × (o .place ≡ 0)) ⊎ Stopped o
 
-  stopped : (i : ℕ) → Before Ended (inl (refl, refl)) i → (scansNumber (firstRows s i .replay .state .done) (rowOf s i .hold) ≡ 0 → ⊥)
-      → Ended (refusedAt (rowPlace s i) (firstRows s i .replay) (scansNumber (firstRows s i .replay .state .done) (rowOf s i .hold)))
+  stopped : (i : ℕ) → Before Ended (inl (refl, refl)) i → (numberAt i ≡ 0 → ⊥) → Ended (refusedAt (rowPlace s i) (firstRows s i .replay) (numberAt i))
   stopped i b h =
       let r = firstRows s i .replay in
       inr (
-        unless-refuses (leb (r .state .done + rowOf s i .hold) mostScans) 9 h,
+        unless-refused (leb (r .state .done + rowOf s i .hold) mostScans) 9 h,
         ap (rowPlace s) (sym (b .2)),
         omega (arith, b .0, b .2),
-        rw (b .2) (past (r .state .done + rowOf s i .hold) mostScans h),
+        rw (b .2) (limit-passed (r .state .done + rowOf s i .hold) mostScans 9 h),
       )
 
-  ended : (o : Outcome) → (o .number ≡ 0 → o .replay .rows ≡ rowCount (reading s .answer)) → Ended o
-      → ((o .number ≡ 0) × (o .place ≡ 0) × (o .replay .rows ≡ rowCount (reading s .answer))) ⊎ Stopped o
+  ended : (o : Outcome) → (o .number ≡ 0 → o .replay .rows ≡ count) → Ended o
+      → ((o .number ≡ 0) × (o .place ≡ 0) × (o .replay .rows ≡ count)) ⊎ Stopped o
   ended o f (inl h) = inl (h .0, h .1, f (h .0))
   ended o f (inr h) = inr h
 
   pub how-it-ends : number (reading s .answer) ≡ 0
-      → ((replay s .number ≡ 0) × (replay s .place ≡ 0) × (replay s .replay .rows ≡ rowCount (reading s .answer))) ⊎ Stopped (replay s)
+      → ((replay s .number ≡ 0) × (replay s .place ≡ 0) × (replay s .replay .rows ≡ count)) ⊎ Stopped (replay s)
   how-it-ends a =
-      let all = rowCount (reading s .answer) in
-      rw (all-the-rows a) (ended (firstRows s all) (counted all (omega arith)) (by-rows Ended (inl (refl, refl)) (λ i b z. inl (refl, refl)) stopped all (omega arith)))
+      rw (all-the-rows a) (ended (firstRows s count) (counted count (omega arith)) (by-rows Ended (inl (refl, refl)) (λ i b z. inl (refl, refl)) stopped count (omega arith)))
 
   -- ## What is known of an accepted file
 
@@ -170,10 +203,13 @@ module _ (s : List ℕ) where
     pub settings-right : settingsNumber st ≡ 0
     settings-right = right .settings
 
-    pub row-right : (i : ℕ) → i < rowCount (reading s .answer) → rowNumber (knownOf st) (rowOf s i) ≡ 0
+    pub most-effects : st .count ≤ 16
+    most-effects = count-few st settings-right
+
+    pub row-right : (i : ℕ) → i < count → rowNumber (knownOf st) (rowOf s i) ≡ 0
     row-right i l = all-at (rowNumber (knownOf st)) i (rowsOf s) noRow (omega (arith, length-rowsOf s)) (right .each-row)
 
-    pub few-rows : rowCount (reading s .answer) ≤ 2048
+    pub few-rows : count ≤ 2048
     few-rows = omega (arith, length-rowsOf s, right .rows-most)
 
     started-sound : Sound st started
@@ -183,16 +219,16 @@ module _ (s : List ℕ) where
     pub sound : (i : ℕ) → Sound st (firstRows s i .replay)
     unfolding firstRows
     sound i =
-        sound-rows st (right .settings) (rowWidth (reading s .answer)) (firstRow (reading s .answer)) (take i (rowsOf s))
+        sound-rows st (right .settings) width first (take i (rowsOf s))
         (all-take (rowNumber (knownOf st)) i (rowsOf s) (right .each-row)) started started-sound
 
     pub scans-done : replay s .number ≡ 0 → replay s .replay .state .done ≡ sumOfHolds (rowsOf s)
     scans-done =
         rw (accepted-replay a)
-        (λ z. done-is-holds st (right .settings) (rowWidth (reading s .answer)) (firstRow (reading s .answer)) (rowsOf s) (right .each-row) started started-sound z ∙ zero-add _)
+        (λ z. done-is-holds st (right .settings) width first (rowsOf s) (right .each-row) started started-sound z ∙ zero-add _)
 
     -- and so is the one that row i leaves, where its scans can be counted
-    module _ (i : ℕ) (l : i < rowCount (reading s .answer)) (z : scansNumber (firstRows s i .replay .state .done) (rowOf s i .hold) ≡ 0) where
+    module _ (i : ℕ) (l : i < count) (z : numberAt i ≡ 0) where
       pub sound-next : Sound st (joined (firstRows s i .replay) (rowRun s i))
       unfolding rowRun
       sound-next = sound-after st settings-right (rowOf s i) (row-right i l) (firstRows s i .replay) (sound i) z

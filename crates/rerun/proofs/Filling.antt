@@ -1,5 +1,5 @@
 -- The records of the rows so far stand at the front of a lent buffer, and those of one row more follow them.
-use mathlib.Core.Path.{_≡_, refl, sym, ap, _∙_}
+use mathlib.Core.Path.{_≡_, sym, ap, _∙_}
 use mathlib.Core.Bool.{Bool, true, false, cond}
 use mathlib.Core.List.{List, [], _++_, append-assoc, append-nil}
 use Prim.Native.Nat.{ℕ, _+_, _*_, _-_, _≤_, _<_}
@@ -20,7 +20,7 @@ use Rattle.rerun.specs.declared.Totals.{Totals}
 use Rattle.rerun.specs.declared.Turn.{Turn}
 use Rattle.rerun.specs.Replay.{Outcome, replay, firstRows, rowRun}
 use Rattle.rerun.specs.Turn.{Going, Fits, roomOf, turnOf, turnInto}
-use Rattle.rerun.proofs.Files.{no-rows, events-in-all}
+use Rattle.rerun.proofs.Files.{no-rows, counted, events-in-all, events-join}
 use Rattle.rerun.proofs.Turns as turns
 
 -- ## A part of a buffer, from a place to the end
@@ -59,64 +59,44 @@ module _ (s : List ℕ) (st : Settings) (width : ℕ) (t : Totals) (g : Going s 
   pub all-filled : t .rows ≡ rowCount (reading s .answer) → (out : List ℕ) → filled s (t .rows) out ≡ sets out 0 (bytes (replay s .replay .events))
   all-filled e out = ap (λ (o : Outcome). sets out 0 (bytes (o .replay .events))) (sym (turns.ends s st width t g e))
 
-  module _ (more : t .rows < rowCount (reading s .answer)) (none : firstRows s (t .rows + 1) .number ≡ 0) where
+  module _ (more : t .rows < rowCount (reading s .answer)) where
+    abbrev so-far : List Event
+    so-far = firstRows s (t .rows) .replay .events
+
     abbrev events : List Event
     events = rowRun s (t .rows) .events
 
-    one : turnOf s (t .rows) .totals .rows ≡ t .rows + 1
-    one = turns.one-row s st width t g more (turnOf s (t .rows)) refl none
+    -- a row that runs stores its records, behind those so far
+    module _ (none : firstRows s (t .rows + 1) .number ≡ 0) where
+      joined : firstRows s (t .rows + 1) .replay .events ≡ so-far ++ events
+      joined = events-join s (t .rows) more (g .none-refused) none
 
-    joined : firstRows s (t .rows + 1) .replay .events ≡ firstRows s (t .rows) .replay .events ++ events
-    joined = ap (λ (i : ℕ). firstRows s i .replay .events) (sym one) ∙ turns.events-join s st width t g more (turnOf s (t .rows)) refl none
+      pub row-stored : (buf : List ℕ) → turnInto s (t .rows) buf ≡ sets buf 0 (bytes events)
+      row-stored buf = granted-none (sets buf 0 (bytes events)) (λ k. buf) (firstRows s (t .rows + 1) .number) none
 
-    -- the bytes of one row more, by where it ran
-    pub row-stored : (buf : List ℕ) → turnInto s (t .rows) buf ≡ sets buf 0 (bytes events)
-    row-stored buf = granted-none (sets buf 0 (bytes events)) (λ k. buf) (firstRows s (t .rows + 1) .number) none
-
-    -- the loop goes on
-    module _ (u : Totals) (is : u ≡ turnOf s (t .rows) .totals) where
-      pub goes-on : Going s st width u
-      goes-on = rw is (turns.goes-on s st width t g more (turnOf s (t .rows)) refl none)
-
-      pub one-row : u .rows ≡ t .rows + 1
-      one-row = ap (λ (v : Totals). v .rows) is ∙ one
-
-      pub grows : (out₀ out out′ : List ℕ) → out ≡ filled s (t .rows) out₀ → out′ ≡ sets out (12 * t .records) (bytes events) → out′ ≡ filled s (u .rows) out₀
-      grows out₀ out out′ e f =
-          let so-far = firstRows s (t .rows) .replay .events in
+      pub grows : (u : Totals) → u ≡ turnOf s (t .rows) .totals → (out₀ out out′ : List ℕ) → out ≡ filled s (t .rows) out₀ → out′ ≡ sets out (12 * t .records) (bytes events) → out′ ≡ filled s (u .rows) out₀
+      grows u is out₀ out out′ e f =
           let at : 12 * t .records ≡ 0 + length (bytes so-far) = omega (arith, turns.records-so-far s st width t g, length-bytes so-far) in
+          let one : u .rows ≡ t .rows + 1 = ap (λ (v : Totals). v .rows) is ∙ counted s (t .rows + 1) (omega (arith, more)) none in
           f
           ∙ (λ j. sets (e j) (at j) (bytes events))
           ∙ sym (sets-append out₀ 0 (bytes so-far) (bytes events))
-          ∙ ap (sets out₀ 0) (sym (bytes-append so-far events) ∙ ap bytes (sym joined) ∙ ap (λ (i : ℕ). bytes (firstRows s i .replay .events)) (sym one-row))
+          ∙ ap (sets out₀ 0) (sym (bytes-append so-far events) ∙ ap bytes (sym joined) ∙ ap (λ (i : ℕ). bytes (firstRows s i .replay .events)) (sym one))
 
-  -- a refused row stores nothing, and the records so far are all
-  module _ (more : t .rows < rowCount (reading s .answer)) (u : Turn) (is : u ≡ turnOf s (t .rows)) (h : u .number ≡ 0 → ⊥) where
-    pub refused-stored : (buf : List ℕ) → turnInto s (t .rows) buf ≡ sets buf 0 []
-    refused-stored buf =
-        granted-refused (sets buf 0 (bytes (rowRun s (t .rows) .events))) (λ k. buf) (firstRows s (t .rows + 1) .number) (λ z. h (ap (λ (v : Turn). v .number) is ∙ z))
+    -- a refused row stores nothing, and the records so far are all
+    module _ (u : Turn) (is : u ≡ turnOf s (t .rows)) (h : u .number ≡ 0 → ⊥) where
+      pub refused-stored : (buf : List ℕ) → turnInto s (t .rows) buf ≡ sets buf 0 []
+      refused-stored buf = granted-refused (sets buf 0 (bytes events)) (λ k. buf) (firstRows s (t .rows + 1) .number) (λ z. h (ap (λ (v : Turn). v .number) is ∙ z))
 
-    pub stopped-filled : (out : List ℕ) → filled s (t .rows) out ≡ sets out 0 (bytes (replay s .replay .events))
-    stopped-filled out = ap (λ (o : Outcome). sets out 0 (bytes (o .replay .events))) (sym (turns.stops s st width t g more u is h))
+      pub stopped-filled : (out : List ℕ) → filled s (t .rows) out ≡ sets out 0 (bytes (replay s .replay .events))
+      stopped-filled out = ap (λ (o : Outcome). sets out 0 (bytes (o .replay .events))) (sym (turns.stops s st width t g more u is h))
 
-  -- where the next row's records go, there is room for them, whether they are kept or not
-  module _ (more : t .rows < rowCount (reading s .answer)) where
-    abbrev events-so-far : List Event
-    events-so-far = firstRows s (t .rows) .replay .events
-
+    -- where the next row's records go, there is room for them, whether they are kept or not
     pub place-within : (keep : Bool) (room : ℕ) → roomOf s keep ≤ room → cond keep (12 * t .records) 0 ≤ room
     place-within true room h = omega (arith, h, turns.records-so-far s st width t g, events-in-all s (g .accepted) (t .rows) (g .none-refused))
     place-within false room h = omega arith
 
     pub next-fits : (keep : Bool) (room : ℕ) → roomOf s keep ≤ room → Fits s (t .rows) (room - cond keep (12 * t .records) 0)
     next-fits true room h none =
-        let events = rowRun s (t .rows) .events in
-        omega (
-          arith,
-          h,
-          turns.records-so-far s st width t g,
-          events-in-all s (g .accepted) (t .rows + 1) none,
-          ap length (joined more none),
-          length-append events-so-far events,
-        )
+        omega (arith, h, turns.records-so-far s st width t g, events-in-all s (g .accepted) (t .rows + 1) none, ap length (joined none), length-append so-far events)
     next-fits false room h none = omega (arith, h, turns.fits-any s st width t g more none)

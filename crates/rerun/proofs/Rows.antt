@@ -7,8 +7,6 @@ use Prim.Native.Nat.{ℕ, zero, suc, _+_, _*_, _≤_, _<_}
 use native.Mathlib.Nat.{add-zero, mul-suc, mul-zero}
 use native.Mathlib.Numerals.{add-one}
 use native.Mathlib.Omega.{arith}
-use borrow.Author.Tests.{leb-true, leb-false}
-use lib.Dec.{leb}
 use lib.ListN.{length, getD, take, length-append}
 use Rattle.bits.specs.Words.{one}
 use Rattle.effects.specs.Scan.{anyExercised}
@@ -17,8 +15,8 @@ use Rattle.settings.specs.declared.Row.{Row}
 use Rattle.settings.specs.Limits.{mostScans}
 use Rattle.settings.specs.Right.{knownOf, settingsNumber, rowNumber}
 use Rattle.settings.specs.Signals.{signals}
-use Rattle.settings.specs.Refusals.{unless, orElse, granted}
-use Rattle.settings.proofs.Refusals.{granted-none, unless-none}
+use Rattle.settings.specs.Refusals.{granted}
+use Rattle.settings.proofs.Refusals.{granted-none, granted-either, granted-alike, limit-kept}
 use Rattle.settings.proofs.Right.{count-few}
 use Rattle.block.specs.State.{stateNumber}
 use Rattle.block.specs.Scan.{scansNumber}
@@ -28,48 +26,24 @@ use Rattle.block.proofs.Theorems.{right-input-is-accepted, a-held-run-keeps-rig
 use Rattle.recording.specs.Encode.{All}
 use Rattle.rerun.specs.Replay.{Replay, Outcome, whole, afterRow, refusedAt, rowsFrom, sumOfHolds}
 
--- ## What is given by a number
-
-module _ {A : Type 0} (a : A) (f : ℕ → A) where
-  -- what holds in both cases
-  pub granted-either : (P : A → Type 0) (n : ℕ) → (n ≡ 0 → P a) → ((k : ℕ) → P (f k)) → P (granted n a f)
-  granted-either P zero g h = g refl
-  granted-either P (suc k) g h = h (suc k)
-
-  granted-alike : (n : ℕ) (b : A) → (n ≡ 0 → b ≡ a) → granted n b f ≡ granted n a f
-  granted-alike zero b h = h refl
-  granted-alike (suc k) b h = refl
-
-pub unless-refuses : (ok : Bool) (n : ℕ) → (unless ok n ≡ 0 → ⊥) → unless ok n ≡ n
-unless-refuses true n h = absurd (h refl)
-unless-refuses false n h = refl
-
-pub first-alone : (n m : ℕ) → (n ≡ 0 → m ≡ 0) → orElse n m ≡ n
-first-alone zero m h = h refl
-first-alone (suc n) m h = refl
-
-pub past : (a most : ℕ) → (unless (leb a most) 9 ≡ 0 → ⊥) → most < a
-past a most h = go (leb a most) refl
-  where
-    go : (b : Bool) → leb a most ≡ b → most < a
-    go true e = absurd (h (rw e))
-    go false e = leb-false a most e
-
--- an outcome without refusal: neither the row's nor one after it
-none-refused : (n at : ℕ) (r : Replay) (o : Outcome) → granted n o (refusedAt at r) .number ≡ 0 → (n ≡ 0) × (o .number ≡ 0)
-none-refused zero at r o h = (refl, h)
-none-refused (suc k) at r o h = absurd (omega (arith, h))
-
 -- ## Rows and those after them
 
 module _ (st : Settings) (w : ℕ) where
+  -- nothing is refused: neither the first row nor one after it
+  none-refused : (x : Row) (xs : List Row) (at : ℕ) (r : Replay) → rowsFrom st w at (x ∷ xs) r .number ≡ 0
+      → (scansNumber (r .state .done) (x .hold) ≡ 0) × (rowsFrom st w (at + w) xs (afterRow st x r) .number ≡ 0)
+  none-refused x xs at r = of (scansNumber (r .state .done) (x .hold)) (rowsFrom st w (at + w) xs (afterRow st x r))
+    where
+      of : (n : ℕ) (o : Outcome) → granted n o (refusedAt at r) .number ≡ 0 → (n ≡ 0) × (o .number ≡ 0)
+      of zero o h = (refl, h)
+      of (suc k) o h = absurd (omega (arith, h))
+
   -- rows that are all replayed are followed by the others, from what they have given
   pub then-the-others : (xs ys : List Row) (at : ℕ) (r : Replay) → rowsFrom st w at xs r .number ≡ 0
       → rowsFrom st w at (xs ++ ys) r ≡ rowsFrom st w (at + w * length xs) ys (rowsFrom st w at xs r .replay)
   then-the-others [] ys at r h = rw (mul-zero, add-zero)
   then-the-others (x ∷ xs) ys at r h =
-      let n = scansNumber (r .state .done) (x .hold) in
-      let p = none-refused n at r (rowsFrom st w (at + w) xs (afterRow st x r)) h in
+      let p = none-refused x xs at r h in
       let place : at + w + w * length xs ≡ at + w * suc (length xs) = omega (arith, mul-suc w (length xs)) in
       rw (p .0, ← place) (then-the-others xs ys (at + w) (afterRow st x r) (p .1))
 
@@ -86,8 +60,7 @@ module _ (st : Settings) (w : ℕ) where
   pub none-refused-whole : (xs : List Row) (at : ℕ) (r : Replay) → rowsFrom st w at xs r .number ≡ 0 → rowsFrom st w at xs r ≡ whole (rowsFrom st w at xs r .replay)
   none-refused-whole [] at r h = refl
   none-refused-whole (x ∷ xs) at r h =
-      let n = scansNumber (r .state .done) (x .hold) in
-      let p = none-refused n at r (rowsFrom st w (at + w) xs (afterRow st x r)) h in
+      let p = none-refused x xs at r h in
       rw (p .0) (none-refused-whole xs (at + w) (afterRow st x r) (p .1))
 
   -- events stay, and grow
@@ -102,8 +75,7 @@ module _ (st : Settings) (w : ℕ) where
   pub rows-counted : (xs : List Row) (at : ℕ) (r : Replay) → rowsFrom st w at xs r .number ≡ 0 → rowsFrom st w at xs r .replay .rows ≡ r .rows + length xs
   rows-counted [] at r h = omega arith
   rows-counted (x ∷ xs) at r h =
-      let n = scansNumber (r .state .done) (x .hold) in
-      let p = none-refused n at r (rowsFrom st w (at + w) xs (afterRow st x r)) h in
+      let p = none-refused x xs at r h in
       rw (p .0) (omega (arith, rows-counted xs (at + w) (afterRow st x r) (p .1)))
 
 -- ## What stays so
@@ -118,7 +90,7 @@ pub record Sound (st : Settings) (r : Replay) : Type 0 where
 module _ (st : Settings) (right : settingsNumber st ≡ 0) where
   module _ (row : Row) (right-row : rowNumber (knownOf st) row ≡ 0) (r : Replay) (sound : Sound st r) (z : scansNumber (r .state .done) (row .hold) ≡ 0) where
     scans : r .state .done + row .hold ≤ mostScans
-    scans = leb-true (r .state .done + row .hold) mostScans (unless-none _ 8 z)
+    scans = limit-kept (r .state .done + row .hold) mostScans 8 z
 
     pub done-after : run st row (r .state) .state .done ≡ r .state .done + row .hold
     done-after = scans-done-grow-by-the-hold st row (r .state) right (sound .state) right-row scans
@@ -168,8 +140,7 @@ module _ (st : Settings) (right : settingsNumber st ≡ 0) where
       → rowsFrom st w at xs r .replay .state .done ≡ r .state .done + sumOfHolds xs
   done-is-holds w at [] all r sound h = omega arith
   done-is-holds w at (x ∷ xs) all r sound h =
-      let n = scansNumber (r .state .done) (x .hold) in
-      let p = none-refused n at r (rowsFrom st w (at + w) xs (afterRow st x r)) h in
+      let p = none-refused st w x xs at r h in
       let e = done-is-holds w (at + w) xs (all .1) (afterRow st x r) (sound-after x (all .0) r sound (p .0)) (p .1) in
       rw (p .0) (omega (arith, e, done-after x (all .0) r sound (p .0)))
 

@@ -5,11 +5,10 @@ use Prim.Native.Nat.{ℕ, _+_, _≤_, _<_}
 use native.Mathlib.Nat.{mul-suc, mul-zero}
 use native.Mathlib.Numerals.{add-one}
 use native.Mathlib.Omega.{arith}
-use borrow.Author.Tests.{leb-true}
 use lib.ListN.{length}
 use Rattle.settings.specs.declared.Row.{Row}
 use Rattle.settings.specs.Limits.{mostScans}
-use Rattle.settings.proofs.Refusals.{granted-none, granted-refused, unless-none}
+use Rattle.settings.proofs.Refusals.{limit-kept}
 use Rattle.block.specs.Scan.{scansNumber}
 use Rattle.recording.specs.declared.Answer.the-variants as A
 use Rattle.recording.specs.Answers.{number, rowCount, firstRow, rowWidth}
@@ -18,9 +17,9 @@ use Rattle.recording.specs.Reader.{reading}
 use Rattle.recording.specs.Steps.{rowPlace}
 use Rattle.recording.proofs.Theorems.{row-in-the-file}
 use Rattle.rerun.specs.declared.Stop.{Stop}
-use Rattle.rerun.specs.Replay.{Replay, Outcome, whole, joined, refusedAt, replay, firstRows, rowOf, rowRun}
+use Rattle.rerun.specs.Replay.{Outcome, replay, firstRows, rowOf}
 use Rattle.rerun.specs.Turn.{stopOf}
-use Rattle.rerun.proofs.Files.{no-rows, one-row-more, ends-at-refusal, all-the-rows, whole-so-far, done-next}
+use Rattle.rerun.proofs.Files.{no-rows, all-the-rows, whole-so-far, numberAt, next-runs, stops-there, done-next}
 
 -- in an accepted file with rows of this width: none of the first i was refused, their scans are done, and the next stands here
 pub record Reached (s : List ℕ) (width done place i : ℕ) : Type 0 where
@@ -56,33 +55,23 @@ module _ (s : List ℕ) (width done place i : ℕ) (g : Reached s width done pla
       row-is : row ≡ rowOf s i
       row-is = is ∙ rw (g .here) (row-in-the-file s i more .1)
 
-      abbrev so-far : Replay
-      so-far = firstRows s i .replay
-
-      same-number : scansNumber (so-far .state .done) (rowOf s i .hold) ≡ v
+      same-number : numberAt s i ≡ v
       same-number = (λ j. scansNumber (g .scans j) (sym row-is j .hold)) ∙ sym number-is
 
       -- a refused row
       pub stops : (v ≡ 0 → ⊥) → _≡_ {A = Stop} (record { number = v; place = place }) (stopOf (replay s))
       stops h =
-          let next : firstRows s (i + 1) ≡ refusedAt (rowPlace s i) so-far v =
-          one-row-more s i more (g .none-refused)
-          ∙ granted-refused (whole (joined so-far (rowRun s i))) (refusedAt (rowPlace s i) so-far) _ (λ z. h (sym same-number ∙ z))
-          ∙ ap (refusedAt (rowPlace s i) so-far) same-number
-          in
-          let last = ends-at-refusal s (g .accepted) (i + 1) (λ z. h (sym (ap (λ (o : Outcome). o .number) next) ∙ z)) in
-          (λ j. record { number = v; place = g .here j }) ∙ sym (ap stopOf (last ∙ next))
+          (λ j. record { number = sym same-number j; place = g .here j })
+          ∙ sym (ap stopOf (stops-there s i more (g .none-refused) (g .accepted) (λ z. h (sym same-number ∙ z))))
 
       -- a row that runs
       module _ (z : v ≡ 0) where
         pub few-scans : done + row .hold ≤ mostScans
-        few-scans = leb-true (done + row .hold) mostScans (unless-none _ 8 (sym number-is ∙ z))
+        few-scans = limit-kept (done + row .hold) mostScans 8 (sym number-is ∙ z)
 
         pub goes-on : Reached s width (done + row .hold) (place + width) (i + 1)
         goes-on =
-            let next : firstRows s (i + 1) ≡ whole (joined so-far (rowRun s i)) =
-            one-row-more s i more (g .none-refused) ∙ granted-none (whole (joined so-far (rowRun s i))) (refusedAt (rowPlace s i) so-far) _ (same-number ∙ z)
-            in
+            let next = next-runs s i more (g .none-refused) (same-number ∙ z) in
             record {
               accepted = g .accepted;
               wide = g .wide;

@@ -2,20 +2,17 @@
 -- what the bytes s come to; `firstRows s i` and `rowRun s i` are what the code gives row by row (`Turns` has the laws for a
 -- caller's loop: it begins, goes on, stops and ends).
 use mathlib.Core.Path.{_≡_, refl, ap, _∙_}
-use mathlib.Core.Bool.{Bool}
 use mathlib.Core.List.{List, _++_}
 use mathlib.Core.Logic.{_⊎_}
 use Prim.Native.Nat.{ℕ, _+_, _*_, _≤_, _<_}
 use native.Mathlib.Nat.{mul-le-mul-left}
 use native.Mathlib.Numerals.{add-one}
 use native.Mathlib.Omega.{arith}
-use borrow.Author.Tests.{le-leb}
 use lib.ListN.{length}
 use Rattle.effects.specs.declared.Event.{Event}
 use Rattle.settings.specs.Limits.{mostScans}
-use Rattle.settings.specs.Refusals.{unless, orElse, granted, roomNumber}
-use Rattle.settings.proofs.Right.{count-few}
-use Rattle.settings.proofs.Refusals.{granted-refused}
+use Rattle.settings.specs.Refusals.{orElse, granted, roomNumber}
+use Rattle.settings.proofs.Refusals.{granted-refused, room-enough, or-else-alone}
 use Rattle.block.specs.State.{stateNumber}
 use Rattle.block.specs.Scan.{scansNumber, inputNumber}
 use Rattle.block.specs.Held.{run, grantedHeld, refusedHeld, heldNumber, heldOf}
@@ -24,7 +21,6 @@ use Rattle.recording.specs.Reader.{reading}
 use Rattle.recording.specs.Steps.{rowPlace, rowsOf}
 use Rattle.recording.specs.Accepted.{Accepted}
 use Rattle.rerun.specs.Replay.{Outcome, whole, started, joined, refusedAt, replayRows, replay, firstRows, rowOf, rowRun, eventsOf, sumOfHolds}
-use Rattle.rerun.proofs.Rows.{first-alone}
 use Rattle.rerun.proofs.Files as files
 use Rattle.rerun.proofs.Files.{by-rows}
 
@@ -80,8 +76,8 @@ module _ (s : List ℕ) (accepted : Accepted s) where
       let due = 12 * length (run st (rowOf s i) x .events) in
       let state = files.sound s accepted i .state in
       let input : inputNumber st x (rowOf s i) ≡ n = rw (files.settings-right s accepted, state, files.row-right s accepted i l) in
-      let room : n ≡ 0 → roomNumber due 384 ≡ 0 = λ z. ap (λ (b : Bool). unless b 10) (le-leb due 384 (omega (arith, files.records-next s accepted i l z, count-few st (files.settings-right s accepted)))) in
-      (state, ap (λ (k : ℕ). granted k (grantedHeld st (rowOf s i) x) (refusedHeld x)) (ap (λ (k : ℕ). orElse k (roomNumber due 384)) input ∙ first-alone n (roomNumber due 384) room))
+      let room : n ≡ 0 → roomNumber due 384 ≡ 0 = λ z. room-enough due 384 (omega (arith, files.records-next s accepted i l z, files.most-effects s accepted)) in
+      (state, ap (λ (k : ℕ). granted k (grantedHeld st (rowOf s i) x) (refusedHeld x)) (ap (λ (k : ℕ). orElse k (roomNumber due 384)) input ∙ or-else-alone n (roomNumber due 384) room))
 
   -- an accepted file is replayed whole, or stops at the row whose scans cannot be counted
   pub whole-or-stopped : let o = replay s in let r = replay s .replay in

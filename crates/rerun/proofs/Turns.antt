@@ -1,11 +1,10 @@
 -- Turns: what the code carries from row to row is what the definitions say, and a caller's loop can begin, go on, stop and end.
-use mathlib.Core.Path.{_≡_, refl, sym, ap, _∙_}
+use mathlib.Core.Path.{_≡_, sym, ap, _∙_}
 use mathlib.Core.List.{List, _++_}
-use Prim.Native.Nat.{ℕ, zero, suc, _+_, _*_, _≤_, _<_}
+use Prim.Native.Nat.{ℕ, _+_, _*_, _≤_, _<_}
 use native.Mathlib.Nat.{mul-suc, mul-zero, mul-le-mul}
 use native.Mathlib.Numerals.{add-one}
 use native.Mathlib.Omega.{arith}
-use borrow.Author.Tests.{leb-true}
 use lib.Dec.{leb}
 use lib.ListN.{length, length-append}
 use lib.Seq.{sets}
@@ -13,11 +12,9 @@ use Rattle.effects.specs.Records.{bytes}
 use Rattle.settings.specs.declared.Row.{Row}
 use Rattle.settings.specs.declared.Settings.{Settings}
 use Rattle.settings.specs.Limits.{mostScans}
-use Rattle.settings.specs.Refusals.{granted}
 use Rattle.settings.specs.Right.{knownOf, settingsNumber, rowNumber}
-use Rattle.settings.proofs.Refusals.{unless-none, granted-none, granted-refused}
-use Rattle.settings.proofs.Right.{count-few}
-use Rattle.planes.specs.Board.{boardAt, boardOf}
+use Rattle.settings.proofs.Refusals.{granted-refused, granted-either, unless-refused, limit-kept}
+use Rattle.planes.specs.Board.{boardOf}
 use Rattle.planes.specs.Table.{tableOf, slotsOf}
 use Rattle.wiring.specs.declared.Wiring.{Wiring}
 use Rattle.wiring.specs.Wiring.{wiringOf}
@@ -26,8 +23,7 @@ use Rattle.block.specs.declared.State.{State}
 use Rattle.block.specs.State.{stateNumber}
 use Rattle.block.specs.Scan.{inputNumber, scansNumber}
 use Rattle.block.specs.Held.{Stepped, run}
-use Rattle.block.specs.declared.Kept.{Kept}
-use Rattle.block.specs.Run.{KeptWords, startOf, reachedBy, keptAt, keptOf}
+use Rattle.block.specs.Run.{KeptWords, startOf, reachedBy, keptOf}
 use Rattle.block.proofs.Boards.{shows}
 use Rattle.block.proofs.Theorems.{right-input-is-accepted}
 use Rattle.recording.specs.declared.Answer.{Answer}
@@ -37,24 +33,16 @@ use Rattle.recording.specs.Entries.{rowAt}
 use Rattle.recording.specs.Reader.{reading}
 use Rattle.recording.specs.Steps.{rowPlace}
 use Rattle.recording.proofs.Theorems.{first-row-after-the-opening, row-in-the-file}
-use Rattle.rerun.specs.declared.Tally.{Tally}
 use Rattle.rerun.specs.declared.Totals.{Totals}
 use Rattle.rerun.specs.declared.Turn.{Turn}
 use Rattle.rerun.specs.Replay.{Replay, Outcome, whole, joined, refusedAt, started, replay, answered, firstRows, rowOf, rowRun}
-use Rattle.rerun.specs.Turn.{Fits, tallyAfter, totalsWith, turnWith, tallyOf, answerBy, totalsAt, totalsOf, Going, turnOf, turnInto}
-use Rattle.rerun.proofs.Rows.{unless-refuses, granted-either}
-use Rattle.rerun.proofs.Files.{no-rows, one-row-more, ends-at-refusal, all-the-rows, whole-so-far, counted, settings-right, row-right, few-rows, sound, sound-next, scans-next, records-next}
-
--- ## Numbers
-
-granted-number : (n at : ℕ) (r r′ : Replay) → granted n (whole r) (refusedAt at r′) .number ≡ n
-granted-number zero at r r′ = refl
-granted-number (suc n) at r r′ = refl
+use Rattle.rerun.specs.Turn.{Fits, tallyOf, answerBy, totalsAt, totalsOf, Going, turnOf, turnInto}
+use Rattle.rerun.proofs.Files.{no-rows, all-the-rows, whole-so-far, counted, numberAt, next-number, next-runs, next-refused, stops-there, settings-right, most-effects, row-right, few-rows, sound, sound-next, scans-next, records-next}
 
 -- ## The beginning: what the reader answers
 
 pub few-effects : (s : List ℕ) (st : Settings) (rows first width : ℕ) → reading s .answer ≡ A.Accepted rows first width → st ≡ reading s .settings → st .count ≤ 16
-few-effects s st rows first width a e = rw e (count-few (reading s .settings) (settings-right s (ap number a)))
+few-effects s st rows first width a e = rw e (most-effects s (ap number a))
 
 pub begins : (s : List ℕ) (st : Settings) (x : Wiring) (rows first width : ℕ) (t : Totals) → reading s .answer ≡ A.Accepted rows first width → st ≡ reading s .settings
     → x ≡ wiringOf st → t ≡ totalsAt (x .count) first started → Going s st width t
@@ -151,54 +139,31 @@ module _ (s : List ℕ) (st : Settings) (width : ℕ) (t : Totals) (g : Going s 
     pub row-there : t .place + 24 ≤ length s
     row-there = rw place-is (row-in-the-file s (t .rows) more .0)
 
-    pub row-read : rowAt s (t .place) ≡ rowOf s (t .rows)
-    row-read = rw place-is (row-in-the-file s (t .rows) more .1)
-
-    -- its number
-    abbrev next-number : ℕ
-    next-number = scansNumber (so-far .state .done) (rowOf s (t .rows) .hold)
-
-    next-is : firstRows s (t .rows + 1) ≡ granted next-number (whole (joined so-far (rowRun s (t .rows)))) (refusedAt (rowPlace s (t .rows)) so-far)
-    next-is = one-row-more s (t .rows) more (g .none-refused)
-
-    next-refused : (next-number ≡ 0 → ⊥) → firstRows s (t .rows + 1) ≡ refusedAt (rowPlace s (t .rows)) so-far next-number
-    next-refused h = next-is ∙ granted-refused (whole (joined so-far (rowRun s (t .rows)))) (refusedAt (rowPlace s (t .rows)) so-far) next-number h
-
-    next-granted : next-number ≡ 0 → firstRows s (t .rows + 1) ≡ whole (joined so-far (rowRun s (t .rows)))
-    next-granted z = next-is ∙ granted-none (whole (joined so-far (rowRun s (t .rows)))) (refusedAt (rowPlace s (t .rows)) so-far) next-number z
-
-    number-next : firstRows s (t .rows + 1) .number ≡ next-number
-    number-next = ap (λ (o : Outcome). o .number) next-is ∙ granted-number next-number (rowPlace s (t .rows)) (joined so-far (rowRun s (t .rows))) so-far
+    number-next : firstRows s (t .rows + 1) .number ≡ numberAt s (t .rows)
+    number-next = next-number s (t .rows) more (g .none-refused)
 
     -- where it runs, its records fit in 384 bytes, two an effect
     pub fits-any : Fits s (t .rows) 384
-    fits-any none = omega (arith, records-next s (g .accepted) (t .rows) more (sym number-next ∙ none), count-few (reading s .settings) (settings-right s (g .accepted)))
+    fits-any none = omega (arith, records-next s (g .accepted) (t .rows) more (sym number-next ∙ none), most-effects s (g .accepted))
 
     -- ## What a caller has after it
 
     module _ (u : Turn) (is : u ≡ turnOf s (t .rows)) where
-      from-number : u .number ≡ next-number
-      from-number = ap (λ (v : Turn). v .number) is ∙ number-next
+      number-is : u .number ≡ firstRows s (t .rows + 1) .number
+      number-is = ap (λ (v : Turn). v .number) is
 
       -- its records are few
       pub few-records : u .records ≤ 32
       few-records =
           rw (ap (λ (v : Turn). v .records) is)
           (granted-either (length (rowRun s (t .rows) .events)) (λ k. 0) (λ m. m ≤ 32) (firstRows s (t .rows + 1) .number)
-          (λ z. omega (arith, records-next s (g .accepted) (t .rows) more (sym number-next ∙ z), count-few (reading s .settings) (settings-right s (g .accepted))))
+          (λ z. omega (arith, fits-any z))
           (λ k. omega arith))
 
-      -- without refusal the loop goes on, by one row, and its events are joined to those before
+      -- without refusal the loop goes on, by one row
       module _ (z : u .number ≡ 0) where
-        next-none : firstRows s (t .rows + 1) .number ≡ 0
-        next-none = number-next ∙ sym from-number ∙ z
-
         pub one-row : u .totals .rows ≡ t .rows + 1
-        one-row = ap (λ (v : Turn). v .totals .rows) is ∙ counted s (t .rows + 1) (omega (arith, more)) next-none
-
-        -- its records
-        pub records-are : u .records ≡ length (rowRun s (t .rows) .events)
-        records-are = ap (λ (v : Turn). v .records) is ∙ granted-none (length (rowRun s (t .rows) .events)) (λ k. 0) (firstRows s (t .rows + 1) .number) next-none
+        one-row = ap (λ (v : Turn). v .totals .rows) is ∙ counted s (t .rows + 1) (omega (arith, more)) (sym number-is ∙ z)
 
         pub goes-on : Going s st width (u .totals)
         goes-on =
@@ -207,64 +172,54 @@ module _ (s : List ℕ) (st : Settings) (width : ℕ) (t : Totals) (g : Going s 
               settings = g .settings;
               wide = g .wide;
               counted = omega (arith, one-row, more);
-              none-refused = ap (λ (n : ℕ). firstRows s n .number) one-row ∙ next-none;
+              none-refused = ap (λ (n : ℕ). firstRows s n .number) one-row ∙ sym number-is ∙ z;
               totals = ap (λ (v : Turn). v .totals) is ∙ ap (λ (n : ℕ). totalsOf s (firstRows s n .replay)) (sym one-row);
             }
 
-        pub events-join : firstRows s (u .totals .rows) .replay .events ≡ so-far .events ++ rowRun s (t .rows) .events
-        events-join = ap (λ (n : ℕ). firstRows s n .replay .events) one-row ∙ ap (λ (o : Outcome). o .replay .events) (next-granted (sym from-number ∙ z))
-
       -- a refusal is 9, at the row's first byte, and the replay is what the rows before have given
       module _ (h : u .number ≡ 0 → ⊥) where
-        pub by-nine : u .number ≡ 9
-        by-nine = from-number ∙ unless-refuses (leb (so-far .state .done + rowOf s (t .rows) .hold) mostScans) 9 (λ z. h (from-number ∙ z))
+        refuses : numberAt s (t .rows) ≡ 0 → ⊥
+        refuses z = h (number-is ∙ number-next ∙ z)
 
-        pub stops : replay s ≡ refusedAt (u .totals .place) so-far 9
-        stops =
-            let o = next-refused (λ z. h (from-number ∙ z)) in
-            let place : u .totals .place ≡ rowPlace s (t .rows) =
-            ap (λ (v : Turn). v .totals .place) is ∙ ap (λ (v : Outcome). rowPlace s (v .replay .rows)) o ∙ ap (λ (n : ℕ). rowPlace s n) rows-are
-            in
-            ends-at-refusal s (g .accepted) (t .rows + 1) (λ z. h (from-number ∙ sym number-next ∙ z))
-            ∙ o
-            ∙ (λ j. refusedAt (sym place j) so-far ((sym from-number ∙ by-nine) j))
+        nine : numberAt s (t .rows) ≡ 9
+        nine = unless-refused (leb (so-far .state .done + rowOf s (t .rows) .hold) mostScans) 9 refuses
 
         pub unchanged : u .totals ≡ t
         unchanged =
-            ap (λ (v : Turn). v .totals) is ∙ ap (λ (o : Outcome). totalsOf s (o .replay)) (next-refused (λ z. h (from-number ∙ z))) ∙ sym (g .totals)
+            ap (λ (v : Turn). v .totals) is ∙ ap (λ (o : Outcome). totalsOf s (o .replay)) (next-refused s (t .rows) more (g .none-refused) refuses) ∙ sym (g .totals)
+
+        pub stops : replay s ≡ refusedAt (u .totals .place) so-far 9
+        stops =
+            let place : u .totals .place ≡ rowPlace s (t .rows) = ap (λ (v : Totals). v .place) unchanged ∙ place-is in
+            stops-there s (t .rows) more (g .none-refused) (g .accepted) refuses ∙ (λ j. refusedAt (sym place j) so-far (nine j))
 
         pub stops-answered : answerBy (u .number) (u .totals .place) (tallyOf (u .totals)) ≡ answered (replay s)
-        stops-answered = (λ j. answerBy (by-nine j) (u .totals .place) (tallyOf ((unchanged ∙ g .totals) j))) ∙ ap answered (sym stops)
+        stops-answered = (λ j. answerBy ((number-is ∙ number-next ∙ nine) j) (u .totals .place) (tallyOf ((unchanged ∙ g .totals) j))) ∙ ap answered (sym stops)
 
     -- ## What the code reads and computes of it
 
     module _ (row : Row) (is : row ≡ rowAt s (t .place)) (v : ℕ) (number-is : v ≡ scansNumber (t .board .done) (row .hold)) where
       row-is : row ≡ rowOf s (t .rows)
-      row-is = is ∙ row-read
+      row-is = is ∙ rw place-is (row-in-the-file s (t .rows) more .1)
 
-      same-number : v ≡ next-number
+      same-number : v ≡ numberAt s (t .rows)
       same-number = number-is ∙ (λ j. scansNumber (board-is j .done) (row-is j .hold))
 
       -- a refused row
       module _ (h : v ≡ 0 → ⊥) where
         refused-is : firstRows s (t .rows + 1) ≡ refusedAt (rowPlace s (t .rows)) so-far v
-        refused-is =
-            next-refused (λ z. h (same-number ∙ z)) ∙ ap (refusedAt (rowPlace s (t .rows)) so-far) (sym same-number)
+        refused-is = next-refused s (t .rows) more (g .none-refused) (λ z. h (same-number ∙ z)) ∙ ap (refusedAt (rowPlace s (t .rows)) so-far) (sym same-number)
 
         pub refused-turn : (buf : List ℕ) → (_≡_ {A = Turn} (record { number = v; records = 0; totals = t }) (turnOf s (t .rows))) × (buf ≡ turnInto s (t .rows) buf)
         refused-turn buf =
-            let en = ap (λ (o : Outcome). o .number) refused-is in
-            let not-none : firstRows s (t .rows + 1) .number ≡ 0 → ⊥ = λ z. h (sym en ∙ z) in
-            let er = granted-refused (length (rowRun s (t .rows) .events)) (λ k. 0) (firstRows s (t .rows + 1) .number) not-none in
-            let et = ap (λ (o : Outcome). totalsOf s (o .replay)) refused-is ∙ sym (g .totals) in (
-              (λ j. record { number = sym en j; records = sym er j; totals = sym et j }),
-              sym (granted-refused (sets buf 0 (bytes (rowRun s (t .rows) .events))) (λ k. buf) (firstRows s (t .rows + 1) .number) not-none),
-            )
+            let none = granted-refused (length (rowRun s (t .rows) .events)) (λ k. 0) v h in
+            let same = granted-refused (sets buf 0 (bytes (rowRun s (t .rows) .events))) (λ k. buf) v h in
+            rw refused-is ((λ j. record { number = v; records = sym none j; totals = g .totals j }), sym same)
 
       -- a row that runs
       module _ (z : v ≡ 0) where
         scans : t .board .done + row .hold ≤ mostScans
-        scans = leb-true (t .board .done + row .hold) mostScans (unless-none _ 8 (sym number-is ∙ z))
+        scans = limit-kept (t .board .done + row .hold) mostScans 8 (sym number-is ∙ z)
 
         right-settings : settingsNumber st ≡ 0
         right-settings = rw (g .settings) (settings-right s (g .accepted))
@@ -283,7 +238,7 @@ module _ (s : List ℕ) (st : Settings) (width : ℕ) (t : Totals) (g : Going s 
         run-is = λ j. run (g .settings j) (row-is j) (state-is j)
 
         granted-is : firstRows s (t .rows + 1) ≡ whole (joined so-far (rowRun s (t .rows)))
-        granted-is = next-granted (sym same-number ∙ z)
+        granted-is = next-runs s (t .rows) more (g .none-refused) (sym same-number ∙ z)
 
         -- its records fit where those of the row do
         pub run-fits : (room : ℕ) → Fits s (t .rows) room → 12 * length (run st row shown .events) ≤ room
@@ -305,7 +260,7 @@ module _ (s : List ℕ) (st : Settings) (width : ℕ) (t : Totals) (g : Going s 
               let l : t .live + ran .live ≡ so-far .live + rowRun s (t .rows) .live = λ j. g .totals j .live + ran-row j .live in
               let x : t .exercised + ran .exercised ≡ so-far .exercised + rowRun s (t .rows) .exercised = λ j. g .totals j .exercised + ran-row j .exercised in
               let first = first-row-after-the-opening s (g .accepted) in
-              let few = count-few (reading s .settings) (settings-right s (g .accepted)) in
+              let few = most-effects s (g .accepted) in
               let wide = row-in-the-file s (t .rows) more .2 in
               let place : rowPlace s (t .rows) ≡ 10 + 6 * reading s .settings .count + 24 * t .rows = λ j. first j + wide j * t .rows in
               let events : 2 * n * (so-far .rows + 1) ≤ 32 * 2048 = mul-le-mul {n₂ = 32} {m₂ = 2048} (omega (arith, few)) (omega (arith, more, rows, rows-are)) in (
@@ -316,24 +271,8 @@ module _ (s : List ℕ) (st : Settings) (width : ℕ) (t : Totals) (g : Going s 
                 omega (arith, x, kept .exercised, most),
               )
 
-          pub granted-turn : (u : Totals) → u ≡ totalsAfter t width ran → (buf buf′ : List ℕ) → buf′ ≡ sets buf 0 (bytes (run st row shown .events))
-              → (_≡_ {A = Turn} (record { number = 0; records = ran .records; totals = u }) (turnOf s (t .rows))) × (buf′ ≡ turnInto s (t .rows) buf)
-          granted-turn u e buf buf′ f =
-              let en = ap (λ (o : Outcome). o .number) granted-is in
-              let er = ap (λ (q : KeptWords). q .records) ran-row ∙ sym (granted-none (length (rowRun s (t .rows) .events)) (λ k. 0) (firstRows s (t .rows + 1) .number) en) in
-              let et = e ∙ (λ j. totalsAfter (g .totals j) (g .wide j) (ran-row j)) ∙ after-is (rowRun s (t .rows)) ∙ sym (ap (λ (o : Outcome). totalsOf s (o .replay)) granted-is) in
-              let eb = f ∙ ap (λ (q : Stepped). sets buf 0 (bytes (q .events))) run-is in (
-                (λ j. record { number = sym en j; records = er j; totals = et j }),
-                eb ∙ sym (granted-none (sets buf 0 (bytes (rowRun s (t .rows) .events))) (λ k. buf) (firstRows s (t .rows + 1) .number) en),
-              )
-
--- ## Where the timers and first-outs are lent
-
--- a row that runs, as the code gives it
-pub granted-went : (s : List ℕ) (st : Settings) (width : ℕ) (t : Tally) (timers firsts : List ℕ) (g : Going s st width (totalsWith t timers firsts)) (more : t .rows < rowCount (reading s .answer))
-    (row : Row) (is : row ≡ rowAt s (t .place)) (v : ℕ) (number-is : v ≡ scansNumber (t .mark .done) (row .hold)) (z : v ≡ 0)
-    (ran : Kept) (timers′ firsts′ : List ℕ) → keptAt ran timers′ firsts′ ≡ keptOf (st .count) (run st row (reachedBy (st .count) (boardAt (t .mark) timers firsts)))
-    → (u : Tally) → u ≡ tallyAfter t width ran → (buf buf′ : List ℕ) → buf′ ≡ sets buf 0 (bytes (run st row (reachedBy (st .count) (boardAt (t .mark) timers firsts)) .events))
-    → (turnWith (record { number = 0; records = ran .records; tally = u }) timers′ firsts′ ≡ turnOf s (t .rows)) × (buf′ ≡ turnInto s (t .rows) buf)
-granted-went s st width t timers firsts g more row is v number-is z ran timers′ firsts′ ran-is u e buf buf′ f =
-    granted-turn s st width (totalsWith t timers firsts) g more row is v number-is z (keptAt ran timers′ firsts′) ran-is (totalsWith u timers′ firsts′) (ap (λ (q : Tally). totalsWith q timers′ firsts′) e) buf buf′ f
+          pub granted-turn : (buf buf′ : List ℕ) → buf′ ≡ sets buf 0 (bytes (run st row shown .events))
+              → (_≡_ {A = Turn} (record { number = 0; records = ran .records; totals = totalsAfter t width ran }) (turnOf s (t .rows))) × (buf′ ≡ turnInto s (t .rows) buf)
+          granted-turn buf buf′ f =
+              let et = (λ j. totalsAfter (g .totals j) (g .wide j) (ran-row j)) ∙ after-is (rowRun s (t .rows)) in
+              rw granted-is ((λ j. record { number = 0; records = ran-row j .records; totals = et j }), f ∙ ap (λ (q : Stepped). sets buf 0 (bytes (q .events))) run-is)

@@ -2,10 +2,9 @@
 use mathlib.Core.Path.{_≡_, ap, sym, _∙_}
 use mathlib.Core.List.{List}
 use Prim.Native.Nat.{ℕ, _≤_, _<_}
-use borrow.Author.Tests.{le-leb, lt-leb}
 use lib.ListN.{length}
 use Rattle.settings.specs.Refusals.{orElse, granted, roomNumber}
-use Rattle.settings.proofs.Refusals.{granted-refused, or-else-first, or-else-next}
+use Rattle.settings.proofs.Refusals.{granted-refused, room-enough, room-short, or-else-first, or-else-next}
 
 -- n is the number of the input, and `due` the bytes due in so much room
 module _ {A : Type 0} (input due room n : ℕ) (is : n ≡ input) (a : A) (f : ℕ → A) where
@@ -17,10 +16,10 @@ module _ {A : Type 0} (input due room n : ℕ) (is : n ≡ input) (a : A) (f : �
     then-room k e = or-else-next input (roomNumber due room) n k is z e
 
     refused-for-room : room < due → f 10 ≡ granted (orElse input (roomNumber due room)) a f
-    refused-for-room h = ap (λ (k : ℕ). granted k a f) (then-room 10 (rw (lt-leb due room h)))
+    refused-for-room h = ap (λ (k : ℕ). granted k a f) (then-room 10 (sym (room-short due room h)))
 
     pub granted-in-room : due ≤ room → a ≡ granted (orElse input (roomNumber due room)) a f
-    granted-in-room h = ap (λ (k : ℕ). granted k a f) (then-room 0 (rw (le-leb due room h)))
+    granted-in-room h = ap (λ (k : ℕ). granted k a f) (then-room 0 (sym (room-enough due room h)))
 
 -- the answer r and the lent bytes `buf` after it, where `piece` is what a call that is granted leaves of the bytes `out`
 module _ {A : Type 0} (input due : ℕ) (out piece : List ℕ) (yes : A) (no : ℕ → A) (n : ℕ) (is : n ≡ input) where

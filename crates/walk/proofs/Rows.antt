@@ -15,10 +15,9 @@ use Rattle.settings.specs.declared.Row.{Row}
 use Rattle.recording.specs.declared.Step.{Step}
 use Rattle.recording.specs.declared.Step.the-variants as T
 use Rattle.recording.specs.Reader.{reading}
-use Rattle.recording.specs.Answers.{rowCount, firstRow, rowWidth, ended, noRow, stepRow, nextPlace}
+use Rattle.recording.specs.Answers.{rowCount, firstRow, ended, noRow, stepRow, nextPlace}
 use Rattle.recording.specs.Steps.{rowPlace, rowsOf}
-use Rattle.recording.proofs.Cases.{reading-cases}
-use Rattle.recording.proofs.Theorems.{row-at-its-place, ended-elsewhere}
+use Rattle.recording.proofs.Theorems.{row-at-its-place, row-in-the-file, ended-elsewhere}
 use Rattle.recording.proofs.Trips.{length-rowsOf}
 use Rattle.walk.specs.declared.Walk.{Walk}
 use Rattle.walk.specs.Walks.{startOf, nextOf, movedOn, nthOf, walked, withRow, given}
@@ -41,21 +40,11 @@ module _ (s : RefT (List ℕ)) where
 
   -- ## One step
 
-  -- where there is a row, rows have a width
-  wide : (i : ℕ) → i < count → rowWidth (reading (now s) .answer) ≡ 24
-  wide i =
-      reading-cases (now s) (λ x. i < rowCount (x .answer) → rowWidth (x .answer) ≡ 24)
-      (λ k p b l. absurd (omega (arith, l)))
-      (λ e k p b f l. absurd (omega (arith, l)))
-      (λ e r k p t g l. absurd (omega (arith, l)))
-      (λ e r end t d l. absurd (omega (arith, l)))
-      (λ e r t l. refl)
-
-  -- so no row stands past the last
+  -- rows have a width, so none stands past the last
   past-all : (n : ℕ) → count ≤ n → (i : ℕ) → i < count → rowPlace (now s) n ≡ rowPlace (now s) i → ⊥
   past-all n h i l e =
       let first = firstRow (reading (now s) .answer) in
-      let same : first + 24 * n ≡ first + 24 * i = rw (wide i l) at e in
+      let same : first + 24 * n ≡ first + 24 * i = rw (row-in-the-file (now s) i l .2) at e in
       omega (arith, same, h, l)
 
   ended-past : (n : ℕ) → count ≤ n → nextOf (atRow n) ≡ T.Ended

@@ -10,10 +10,12 @@ use lib.Dec.{leb}
 use lib.ListN.{take, getD}
 use lib.Seq.{take-all}
 use denote.Ref.{RefT, now}
+use Rattle.settings.proofs.Refusals.{granted-refused}
 use Rattle.recording.specs.declared.Reading.{Reading}
+use Rattle.recording.specs.declared.Step.the-variants as T
 use Rattle.recording.specs.Reader.{reading}
 use Rattle.recording.specs.Answers.{number, place, rowCount, firstRow, ended, noRow, stepRow}
-use Rattle.recording.specs.Steps.{rowPlace, rowsOf}
+use Rattle.recording.specs.Steps.{stepAt, rowPlace, rowsOf}
 use Rattle.recording.specs.Refused.{Refused}
 use Rattle.recording.specs.Accepted.{Accepted}
 use Rattle.recording.proofs.Theorems.{ended-elsewhere, refused-as-said}
@@ -60,10 +62,8 @@ walk-elsewhere-has-ended w none = ended-elsewhere (now (w .bytes)) (w .place) no
 
 -- or whose bytes the reader refuses
 pub walk-on-refused-has-ended : (w : Walk) → (Accepted (now (w .bytes)) → ⊥) → ended (nextOf w) ≡ true
-walk-on-refused-has-ended w h =
-    let e = refused-as-said (now (w .bytes)) h .0 in
-    let none : rowCount (reading (now (w .bytes)) .answer) ≡ 0 = ap (λ (x : Reading). rowCount (x .answer)) e in
-    walk-elsewhere-has-ended w (λ i l _. absurd (omega (arith, none, l)))
+unfolding stepAt
+walk-on-refused-has-ended w h = ap ended (granted-refused _ (λ n. T.Ended) (number (reading (now (w .bytes)) .answer)) h)
 
 -- on those, `start` gives the reader's refusal, and a walk at 0
 pub start-on-refused : (s : RefT (List ℕ)) → (Accepted (now s) → ⊥) → let z = startOf s in let a = reading (now s) .answer in

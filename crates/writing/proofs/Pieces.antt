@@ -1,13 +1,13 @@
 -- Writing a piece: refused by its own number, refused for want of room, or written. A case each of the definition.
 use mathlib.Core.Path.{_≡_, refl, ap, sym, _∙_}
 use mathlib.Core.List.{List, _++_}
-use Prim.Native.Nat.{ℕ, zero, suc, _≤_, _<_}
+use Prim.Native.Nat.{ℕ, _≤_, _<_}
 use native.Mathlib.Nat.{zero-add}
 use native.Mathlib.Omega.{arith}
 use lib.ListN.{length, drop}
 use lib.Seq.{sets, sets-eq}
-use Rattle.settings.specs.Refusals.{orElse, granted, roomNumber}
-use Rattle.settings.proofs.Refusals.{granted-none, granted-refused}
+use Rattle.settings.specs.Refusals.{orElse, roomNumber}
+use Rattle.settings.proofs.Refusals.{granted-none, granted-refused, granted-number}
 use Rattle.settings.proofs.Answers.{answers-refused, answers-no-room, answers-granted}
 use Rattle.writing.specs.declared.Written.{Written}
 use Rattle.writing.specs.declared.Written.the-variants as W
@@ -34,12 +34,8 @@ module _ (num res : ℕ) (piece out : List ℕ) (is : res ≡ num) where
 
 -- ## What each case comes to
 
-number-by : (l k : ℕ) → writtenNumber (granted k (W.Bytes l) (λ n. W.Refused n)) ≡ k
-number-by l zero = refl
-number-by l (suc k) = refl
-
 pub number-of : (n : ℕ) (piece : List ℕ) (room : ℕ) → writtenNumber (written n piece room) ≡ orElse n (roomNumber (length piece) room)
-number-of n piece room = number-by (length piece) (orElse n (roomNumber (length piece) room))
+number-of n piece room = granted-number (W.Bytes (length piece)) (λ k. W.Refused k) writtenNumber (orElse n (roomNumber (length piece) room)) (λ z. refl) (λ k. refl)
 
 module _ (n : ℕ) (piece out : List ℕ) where
   abbrev number : ℕ

@@ -7,6 +7,7 @@ use denote.Ref.{now}
 use lib.ListN.{length}
 use borrow.Author.Needs.{needs}
 use Rattle.settings.specs.declared.Settings.{Settings}
+use Rattle.settings.proofs.Refusals.{room-enough, room-short}
 use Rattle.recording.specs.Answers.{number, rowCount}
 use Rattle.recording.specs.Reader.{reading}
 use Rattle.wiring.proofs.Held.{count-of}
@@ -15,7 +16,6 @@ use Rattle.rerun.specs.Replay.{replay}
 use Rattle.rerun.proofs.Theorems.{two-records-an-effect-and-row}
 use Rattle.rerun.proofs.Files.{few-rows}
 use Rattle.rerun.proofs.Turns.{few-effects}
-use Rattle.embed.proofs.Answers.{piece-fits, piece-too-long}
 use Rattle.embed.proofs.records_number.Statement.{statement}
 use Rattle.embed.proofs.records_number.Tie as tie
 
@@ -48,7 +48,7 @@ ample s =
 returns : tie.Need-returns
 returns c =
     let a = c .before .before .before .args in
-    sym (piece-fits (12 * length (replay (now (a .s)) .replay .events)) (a .room) (omega (arith, ample (c .before .before .before), c .if1 .taken)))
+    sym (room-enough (12 * length (replay (now (a .s)) .replay .events)) (a .room) (omega (arith, ample (c .before .before .before), c .if1 .taken)))
 
 replay-rows-requires : tie.Need-replay-rows-requires
 replay-rows-requires c κs = let p = c .before .before .before .before .pre in (p .0, p .1, p .2, omega arith)
@@ -60,12 +60,12 @@ counted k = ap (λ (r : Replayed). r .records) (k .replay-rows .ensures .0)
 returns-2 : tie.Need-returns-2
 returns-2 c =
     let a = c .before .before .before .before .before .before .before .before .args in
-    sym (piece-fits (12 * length (replay (now (a .s)) .replay .events)) (a .room) (omega (arith, counted (c .before .before .before), c .if2 .taken)))
+    sym (room-enough (12 * length (replay (now (a .s)) .replay .events)) (a .room) (omega (arith, counted (c .before .before .before), c .if2 .taken)))
 
 returns-3 : tie.Need-returns-3
 returns-3 c =
     let a = c .before .before .before .before .before .before .before .before .args in
-    sym (piece-too-long (12 * length (replay (now (a .s)) .replay .events)) (a .room) (omega (arith, counted (c .before .before .before), c .if2 .left)))
+    sym (room-short (12 * length (replay (now (a .s)) .replay .events)) (a .room) (omega (arith, counted (c .before .before .before), c .if2 .left)))
 
 pub records-number-spec : {M : Type 1} → statement M
 records-number-spec = tie.close (tie.spec mul-if1 mul-if1-2 returns (λ c. search needs) replay-rows-requires (λ c. search needs) (λ c. search needs) returns-2 returns-3)

@@ -4,7 +4,8 @@ use denote.Ref.{now}
 use lib.ListN.{length}
 use borrow.Author.Needs.{needs}
 use Rattle.rerun.specs.declared.Stop.{Stop}
-use Rattle.embed.proofs.Answers.{stopped-number, refused}
+use Rattle.embed.proofs.Theorems.{ten-is-last}
+use Rattle.embed.proofs.Answers.{refused}
 use Rattle.embed.proofs.replay_accepted.Statement.{statement}
 use Rattle.embed.proofs.replay_accepted.Tie as tie
 
@@ -16,7 +17,7 @@ returns c =
     let number = ap (λ (x : Stop). x .number) is in
     let not-0 = c .before .before .before .before .if1 .taken in
     refused s (now (a .records)) (now (a .totals)) _ (c .before .before .before .before .before .before .stop-of .result .number) (c .before .before .before .before .before .before .stop-of .result .place) _ (c .before .before .refuse .ensures .0)
-    (number ∙ sym (stopped-number s (length (now (a .records))) (length (now (a .totals))) (λ z. not-0 (number ∙ z)))) not-0 (ap (λ (x : Stop). x .place) is) (c .before .before .refuse .ensures .1)
+    (number ∙ sym (ten-is-last s (length (now (a .records))) (length (now (a .totals))) (λ z. not-0 (number ∙ z)))) not-0 (ap (λ (x : Stop). x .place) is) (c .before .before .refuse .ensures .1)
 
 replay-whole-requires : tie.Need-replay-whole-requires
 replay-whole-requires c κs =

@@ -4,7 +4,7 @@ use borrow.Author.Needs.{needs}
 use denote.Ref.{now}
 use Rattle.rerun.specs.declared.Totals.{Totals}
 use Rattle.rerun.specs.Turn.{totalsWith}
-use Rattle.rerun.proofs.Turns.{row-there, refused-turn, words-right, right-input, run-fits, sums, granted-went}
+use Rattle.rerun.proofs.Turns.{row-there, refused-turn, words-right, right-input, run-fits, sums, granted-turn}
 use Rattle.rerun.proofs.row_in_place.Statement.{statement}
 use Rattle.rerun.proofs.row_in_place.Tie as tie
 
@@ -44,8 +44,8 @@ returns-2 c =
     let k = c .before .before .before in
     let s = k .before .before .before .before .before .before .before .before .before .before in
     let a = s .args in
-    granted-went (now (a .s)) (a .st) (a .width) (a .t) (now (a .timers)) (now (a .firsts)) (s .pre .0) (s .pre .1) _ (k .before .before .before .before .before .before .before .row-at .ensures) _ (k .before .before .before .before .before .scans-number .ensures) (k .before .before .before .before .if1 .left) _ _ _ (k .run-kept .ensures .0)
-    _ (c .after-row .ensures) (now (a .buf)) _ (k .run-kept .ensures .1)
+    rw (c .after-row .ensures)
+    (granted-turn (now (a .s)) (a .st) (a .width) (totals s) (s .pre .0) (s .pre .1) _ (k .before .before .before .before .before .before .before .row-at .ensures) _ (k .before .before .before .before .before .scans-number .ensures) (k .before .before .before .before .if1 .left) _ (k .run-kept .ensures .0) (now (a .buf)) _ (k .run-kept .ensures .1))
 
 pub row-in-place-spec : {M : Type 1} → statement M
 row-in-place-spec = tie.close (tie.spec row-at-requires (λ c κs. search needs) returns run-kept-requires after-row-requires (λ c. search needs) returns-2)
