@@ -1,7 +1,7 @@
 -- Records laid one after the other, and read back.
-use mathlib.Core.Path.{_≡_, refl, ap, ap₂, sym, _∙_}
+use mathlib.Core.Path.{_≡_, refl, ap, ap₂, _∙_}
 use mathlib.Core.Bool.{Bool, true, false}
-use mathlib.Core.List.{List, [], _∷_, _++_, append-assoc}
+use mathlib.Core.List.{List, [], _∷_, _++_, flatMap, append-assoc}
 use Prim.Native.Nat.{ℕ, _+_, _*_, _≤_}
 use native.Mathlib.Nat.{add-zero}
 use native.Mathlib.Omega.{arith}
@@ -9,6 +9,7 @@ use lib.ListN.{length, take, drop, getD, length-append}
 use lib.Seq.{sets, sets-eq, take-at}
 use Rattle.bits.specs.Words.{one}
 use Rattle.bits.specs.Numbers.{numAt}
+use Rattle.bits.proofs.Lists.{flatMap-append, length-flatMap}
 use Rattle.bits.proofs.Numbers.{fields-spelled}
 use Rattle.rules.specs.Rules.{code, stateOf}
 use Rattle.rules.proofs.States.{state-of-code}
@@ -21,12 +22,10 @@ unfolding encode
 length-encode e = refl
 
 pub length-bytes : (es : List Event) → length (bytes es) ≡ recordLength * length es
-length-bytes [] = refl
-length-bytes (e ∷ es) = rw (length-append, length-encode) (omega (arith, length-bytes es))
+length-bytes = length-flatMap encode recordLength length-encode
 
 pub bytes-append : (us vs : List Event) → bytes (us ++ vs) ≡ bytes us ++ bytes vs
-bytes-append [] vs = refl
-bytes-append (u ∷ us) vs = ap (λ (l : List ℕ). encode u ++ l) (bytes-append us vs) ∙ sym (append-assoc (encode u) (bytes us) (bytes vs))
+bytes-append = flatMap-append encode
 
 pub length-only : (m : Bool) (e : Event) (rest : List Event) → length (only m e ++ rest) ≡ one m + length rest
 length-only true e rest = omega arith
@@ -58,6 +57,7 @@ event-encoded e p q at h =
     rw (seq, scan, effect, from, to, first)
 
 pub events-of-bytes : (es : List Event) (p q : List ℕ) (at : ℕ) → at ≡ length p → eventsAt (p ++ (bytes es ++ q)) (length es) at ≡ es
+unfolding flatMap
 events-of-bytes [] p q at h = refl
 events-of-bytes (e ∷ es) p q at h =
     let again : p ++ ((encode e ++ bytes es) ++ q) ≡ (p ++ encode e) ++ (bytes es ++ q) = simp append-assoc in

@@ -1,6 +1,6 @@
 -- The bytes of an event record, and of records; and the events that they are of. Document 01, "The rules of one scan".
 use Prim.Native.Nat.{ℕ, zero, suc, _+_}
-use mathlib.Core.List.{List, [], _∷_, _++_}
+use mathlib.Core.List.{List, [], _∷_, flatMap}
 use Rattle.bits.specs.Layout.{pack}
 use Rattle.bits.specs.Numbers.{numAt}
 use Rattle.rules.specs.Rules.{code, stateOf}
@@ -22,9 +22,9 @@ recordOf q c i p r f = pack recordLayout (q ∷ c ∷ i ∷ p ∷ r ∷ 0 ∷ f 
 unfoldable pub encode : Event → List ℕ
 encode e = recordOf (e .seq) (e .scan) (e .effect) (code (e .from)) (code (e .to)) (e .first)
 
+-- the bytes of events: their records, one after the other
 abbrev pub bytes : List Event → List ℕ
-bytes [] = []
-bytes (e ∷ es) = encode e ++ bytes es
+bytes es = flatMap encode es
 
 -- the event of the record at a place
 unfoldable pub eventAt : List ℕ → ℕ → Event

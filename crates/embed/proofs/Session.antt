@@ -19,7 +19,7 @@ use Rattle.embed.proofs.Answers.{crosses}
 use Rattle.embed.proofs.Theorems.{check-with-room, nothing-refused, no-place-for-ten}
 
 records-spelled : bytes sessionEvents ≡ sessionRecords
-unfolding encode
+unfolding encode flatMap
 records-spelled = refl
 
 totals-spelled : numbers (5 ∷ 2 ∷ 8 ∷ 3 ∷ 5 ∷ 0 ∷ 0 ∷ []) ≡ sessionTotals

@@ -1,6 +1,6 @@
 -- The loop over rounds, on lists of signals and slots: what holds at its head, that it holds at first, and that a turn keeps it.
 use mathlib.Core.Path.{_≡_, refl, ap, _∙_}
-use mathlib.Core.List.{List, map}
+use mathlib.Core.List.{List, map, flatMap}
 use Prim.Native.Nat.{ℕ, _+_, _-_, _*_, _≤_, _<_}
 use native.Mathlib.Nat.{zero-add}
 use native.Mathlib.Omega.{arith}
@@ -74,6 +74,7 @@ ends g e = rw e at (g .gives)
 pub begins : (hold : ℕ) (ss : List Signals) (done next : ℕ) (slots : List Slot) (buf : List ℕ) (fuel : ℕ)
     → Timed ss → hold ≤ 1000000 → done + hold ≤ 1000000000 → 2 * length ss < fuel
     → Going (held ss hold (start done next slots)) buf ss (start done next slots) buf hold fuel
+unfolding flatMap
 begins hold ss done next slots buf fuel t h r f =
     record {
       timed = t;

@@ -10,7 +10,7 @@ use lib.ListN.{getD, length, length-append}
 use lib.Pow.{pow-mono}
 use Rattle.bits.specs.Lists.{tabulate}
 use Rattle.bits.specs.Words.{bitOf, wordOf, one}
-use Rattle.bits.proofs.Lists.{length-tabulate}
+use Rattle.bits.proofs.Lists.{length-tabulate, flatMap-snoc}
 use Rattle.bits.proofs.Words.{wordOf-lt, one-wordOf, bit-wordOf, bit-past}
 use Rattle.rules.specs.declared.EffectState.{EffectState}
 use Rattle.rules.specs.declared.EffectState.the-variants.{Tripped, WaitReset, Ready, WaitStart, Normal, Delayed}
@@ -20,7 +20,6 @@ use Rattle.rules.specs.Rules.{noSlot, code, same, next, moved}
 use Rattle.effects.specs.declared.Event.{Event}
 use Rattle.effects.specs.Records.{recordOf, encode, bytes}
 use Rattle.effects.specs.Scan.{eventsFrom, seqAfter, only, event, wrapped}
-use Rattle.effects.proofs.Records.{bytes-append}
 use Rattle.planes.specs.declared.Planes.{Planes}
 use Rattle.planes.specs.Planes.{planesOf, codeAt}
 use Rattle.planes.specs.Table.{padded, entryAt, entriesTo, joined}
@@ -131,8 +130,8 @@ module _ (size : ℕ) (few : size ≤ 16) (s : ℕ → Signals) (xs : List Slot)
             next-number ∙ ap (λ (b : Bool). cond b (wrapped (seqAfter q (tabulate s n) xs)) (seqAfter q (tabulate s n) xs)) e
             ∙ turn (length (entries n)) (length (entries (suc n))) (ap length yes ∙ length-append (entries n) _) (r .number);
         laid =
-            ap joined yes ∙ joined-snoc (entries n) _ ∙ ap₂ (λ (a b : List ℕ). a ++ b) (r .laid) (entry-here ∙ sym (append-nil _))
-            ∙ sym (ap bytes ev ∙ bytes-append (events n) _);
+            ap joined yes ∙ joined-snoc (entries n) _ ∙ ap₂ (λ (a b : List ℕ). a ++ b) (r .laid) entry-here
+            ∙ sym (ap bytes ev ∙ flatMap-snoc encode (events n) _);
       }
         where
           yes : entries (suc n) ≡ entries n ++ (entryAt q c was is firsts (length (entries n)) n ∷ [])
