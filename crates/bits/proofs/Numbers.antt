@@ -10,7 +10,7 @@ use lib.Seq.{sets, drop-cons, getD-at, take-add, drop-drop}
 use lib.Pow.{pow-add}
 use lib.Arith.{digits-div, digits-mod, digits-lt, mod-mul}
 use Rattle.bits.specs.Numbers.{Bytes, numAt, lowAt, turned, digits}
-use Rattle.bits.specs.Layout.{total, fieldsAt, pack}
+use Rattle.bits.specs.Layout.{pack}
 
 -- as many numbers as the layout has, each within its width
 abbrev pub Fit : List ℕ → List ℕ → Type 0
@@ -143,6 +143,16 @@ turned-halves s at b x r e f =
     ∙ sym (num-parts 4 4 s at)
 
 -- ---- entries of fixed layout
+
+-- how long an entry is
+abbrev pub total : List ℕ → ℕ
+total [] = 0
+total (w ∷ ws) = w + total ws
+
+-- the numbers of an entry that starts at `at`, from its byte `off` on
+abbrev pub fieldsAt : List ℕ → List ℕ → ℕ → ℕ → List ℕ
+fieldsAt [] s at off = []
+fieldsAt (w ∷ ws) s at off = numAt w s (at + off) ∷ fieldsAt ws s at (off + w)
 
 pub pack-fields : (ws s : List ℕ) (at off : ℕ) → Bytes s → at + off + total ws ≤ length s → pack ws (fieldsAt ws s at off) ≡ take (total ws) (drop (at + off) s)
 pack-fields [] s at off b h = refl

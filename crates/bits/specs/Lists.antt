@@ -9,6 +9,11 @@ module _ {A : Type 0} where
   tabulate f zero = []
   tabulate f (suc n) = tabulate f n ++ (f n ∷ [])
 
+  -- n elements of w bytes each, read one after the other from `at` on
+  abbrev pub listOf : (ℕ → A) → (w n at : ℕ) → List A
+  listOf get w zero at = []
+  listOf get w (suc n) at = get at ∷ listOf get w n (at + w)
+
   -- every element passes the test, which sees its number too, from i on
   abbrev pub allFrom : (ℕ → A → Bool) → ℕ → List A → Bool
   allFrom t i [] = true

@@ -2,13 +2,13 @@
 -- are big-endian; second/README.md lays the streams out.
 use Prim.Native.Nat.{ℕ, _+_, _*_, _%_}
 use mathlib.Core.List.{List}
-use Rattle.bits.specs.Lists.{tabulate}
+use Rattle.bits.specs.Lists.{tabulate, listOf}
 use Rattle.bits.specs.Numbers.{numAt}
 use Rattle.rules.specs.declared.Slot.{Slot}
 use Rattle.rules.specs.Rules.{stateOf}
 use Rattle.settings.specs.declared.Settings.{Settings}
 use Rattle.block.specs.declared.State.{State}
-use Rattle.recording.specs.Entries.{effectAt, listOf}
+use Rattle.recording.specs.Entries.{effectAt}
 
 -- cause count 1, options 1, period 2, effect count 1, and sixteen effects as in a recording
 unfoldable pub settingsAt : List ℕ → ℕ → Settings

@@ -1,7 +1,8 @@
 -- The bytes of an event record, and of records; and the events that they are of. Document 01, "The rules of one scan".
-use Prim.Native.Nat.{ℕ, zero, suc, _+_}
+use Prim.Native.Nat.{ℕ, _+_}
 use mathlib.Core.List.{List, [], _∷_, flatMap}
 use Rattle.bits.specs.Layout.{pack}
+use Rattle.bits.specs.Lists.{listOf}
 use Rattle.bits.specs.Numbers.{numAt}
 use Rattle.rules.specs.Rules.{code, stateOf}
 use Rattle.effects.specs.declared.Event.{Event}
@@ -40,5 +41,4 @@ eventAt s at =
 
 -- the events of n records, from a place on
 abbrev pub eventsAt : List ℕ → (n at : ℕ) → List Event
-eventsAt s zero at = []
-eventsAt s (suc n) at = eventAt s at ∷ eventsAt s n (at + recordLength)
+eventsAt s = listOf (eventAt s) recordLength

@@ -9,7 +9,7 @@ use lib.Seq.{take-add, drop-drop}
 use Rattle.bits.specs.Numbers.{Bytes, numAt, digits}
 use Rattle.bits.proofs.Lists.{length-flatMap}
 use Rattle.bits.proofs.Numbers.{length-digits, digits-num, num-digits}
-use Rattle.recording.specs.Entries.{listOf}
+use Rattle.bits.specs.Lists.{listOf}
 use Rattle.recording.specs.Encode.{counted, All}
 use Rattle.recording.proofs.Lists.{length-listOf}
 use Rattle.recording.proofs.Sections.{Passed, Whole}

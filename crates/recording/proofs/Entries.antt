@@ -11,8 +11,8 @@ use lib.ListN.{length, getD, take, drop}
 use lib.Seq.{getD-take}
 use lib.Pow.{pow-mono}
 use Rattle.bits.specs.Numbers.{numAt}
-use Rattle.bits.specs.Layout.{total, fieldsAt, pack}
-use Rattle.bits.proofs.Numbers.{Fit, pack-fields, fields-pack}
+use Rattle.bits.specs.Layout.{pack}
+use Rattle.bits.proofs.Numbers.{total, fieldsAt, Fit, pack-fields, fields-pack}
 use Rattle.settings.specs.declared.Effect.{Effect}
 use Rattle.settings.specs.declared.Row.{Row}
 use Rattle.settings.specs.declared.Known.{Known}

@@ -17,7 +17,8 @@ use Rattle.recording.specs.declared.Section.{Section}
 use Rattle.recording.specs.declared.Section.the-variants as S
 use Rattle.recording.specs.declared.Answer.the-variants as A
 use Rattle.recording.specs.declared.Kind.the-variants.{Block, Effects, Rows}
-use Rattle.recording.specs.Entries.{BlockEntry, blockAt, blockCheck, effectAt, rowAt, listOf, putBlock, putEffect, putRow}
+use Rattle.recording.specs.Entries.{BlockEntry, blockAt, blockCheck, effectAt, rowAt, putBlock, putEffect, putRow}
+use Rattle.bits.specs.Lists.{listOf}
 use Rattle.recording.specs.Sections.{sectionOf}
 use Rattle.recording.specs.Reader.{nothingKnown, knownOfBlock, settingsAt, refusal, reading, afterRows}
 use Rattle.recording.specs.Refused.{ToEnd}

@@ -7,7 +7,7 @@ use native.Mathlib.Numerals.{add-one}
 use native.Mathlib.Omega.{arith}
 use lib.ListN.{length, set, getD, replicate}
 use lib.Seq.{set-at}
-use Rattle.recording.specs.Entries.{listOf}
+use Rattle.bits.specs.Lists.{listOf}
 
 module _ {A : Type 0} where
   pub length-listOf : (get : ℕ → A) (w n at : ℕ) → length (listOf get w n at) ≡ n

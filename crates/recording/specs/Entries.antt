@@ -1,5 +1,5 @@
 -- The entries: their numbers in layout order, as they are read and as they are written. Document 01, "Recordings".
-use Prim.Native.Nat.{ℕ, zero, suc, _+_}
+use Prim.Native.Nat.{ℕ, _+_}
 use mathlib.Core.List.{List, [], _∷_}
 use Rattle.bits.specs.Numbers.{numAt}
 use Rattle.bits.specs.Layout.{pack}
@@ -75,10 +75,3 @@ rowFields r =
 
 unfoldable pub putRow : Row → List ℕ
 putRow r = pack rowLayout (rowFields r)
-
--- ## Entries one after the other
-
--- n entries of w bytes each, from `at`
-abbrev pub listOf : {A : Type 0} → (ℕ → A) → ℕ → ℕ → ℕ → List A
-listOf get w zero at = []
-listOf get w (suc n) at = get at ∷ listOf get w n (at + w)

@@ -14,7 +14,8 @@ use Rattle.recording.specs.declared.Section.the-variants as S
 use Rattle.recording.specs.declared.Answer.the-variants as A
 use Rattle.recording.specs.declared.Reading.{Reading}
 use Rattle.recording.specs.declared.Kind.the-variants.{Block, Effects, Rows}
-use Rattle.recording.specs.Entries.{blockAt, effectAt, listOf}
+use Rattle.recording.specs.Entries.{blockAt, effectAt}
+use Rattle.bits.specs.Lists.{listOf}
 use Rattle.recording.specs.Sections.{widthOf, sectionOf}
 
 -- ## Settings, and what is known of them

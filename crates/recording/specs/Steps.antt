@@ -10,7 +10,8 @@ use Rattle.recording.specs.declared.Answer.{Answer}
 use Rattle.recording.specs.declared.Kind.the-variants.{Rows}
 use Rattle.recording.specs.declared.Step.{Step}
 use Rattle.recording.specs.declared.Step.the-variants as T
-use Rattle.recording.specs.Entries.{rowAt, listOf}
+use Rattle.recording.specs.Entries.{rowAt}
+use Rattle.bits.specs.Lists.{listOf}
 use Rattle.recording.specs.Answers.{number, rowCount, firstRow, rowWidth}
 use Rattle.recording.specs.Sections.{widthOf}
 use Rattle.recording.specs.Reader.{reading}

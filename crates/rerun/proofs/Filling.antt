@@ -1,7 +1,7 @@
 -- The records of the rows so far stand at the front of a lent buffer, and those of one row more follow them.
 use mathlib.Core.Path.{_≡_, sym, ap, _∙_}
 use mathlib.Core.Bool.{Bool, true, false, cond}
-use mathlib.Core.List.{List, [], _++_, append-assoc, append-nil}
+use mathlib.Core.List.{List, [], _++_, flatMap, append-assoc, append-nil}
 use Prim.Native.Nat.{ℕ, _+_, _*_, _-_, _≤_, _<_}
 use native.Mathlib.Nat.{zero-add}
 use native.Mathlib.Omega.{arith}
@@ -52,6 +52,7 @@ abbrev pub filled : List ℕ → ℕ → List ℕ → List ℕ
 filled s i out = sets out 0 (bytes (firstRows s i .replay .events))
 
 pub nothing-yet : (s out : List ℕ) (i : ℕ) → i ≡ 0 → out ≡ filled s i out
+unfolding flatMap
 nothing-yet s out i e = sym (ap (λ (o : Outcome). sets out 0 (bytes (o .replay .events))) (ap (firstRows s) e ∙ no-rows s))
 
 module _ (s : List ℕ) (st : Settings) (width : ℕ) (t : Totals) (g : Going s st width t) where

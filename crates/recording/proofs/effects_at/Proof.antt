@@ -6,7 +6,8 @@ use Prim.Native.Nat.{_≤_, _+_, _*_, _-_}
 use mathlib.Core.Path.{_≡_, refl, sym}
 use mathlib.Core.List.{_++_}
 use lib.ListN.{replicate}
-use Rattle.recording.specs.Entries.{effectAt, listOf}
+use Rattle.recording.specs.Entries.{effectAt}
+use Rattle.bits.specs.Lists.{listOf}
 use Rattle.settings.specs.Signals.{noEffect}
 use Rattle.recording.proofs.Lists.{fill-list}
 use Rattle.recording.proofs.effects_at.Statement.{statement}
