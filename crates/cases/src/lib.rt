@@ -227,11 +227,11 @@ fn put_line(a: &[u8], b: &[u8], last: u8, out: &mut [u8]) -> usize
     n + 1
 }
 
-// Writes such a line to standard output, at most 537 bytes of a and b; false if it takes no more.
-pub fn print_line(a: &[u8], b: &[u8], last: u8) -> bool
-    requires { ⌜ length (now a) + length (now b) ≤ 537 ⌝ }
+// Writes such a line at the front of `line`, and from there to standard output; false if it takes no more.
+pub fn print_line(a: &[u8], b: &[u8], last: u8, line: &mut [u8]) -> bool
+    requires { ⌜ 2 * length (now a) + 2 * length (now b) + 2 ≤ length (now line) ⌝ }
+    ensures { λ _. ⌜ now (line .exit) ≡ sets (now (line .entry)) 0 (pairBytes (now (a .entry)) (now (b .entry)) ++ digits 1 last) ⌝ }
 {
-    let mut line = [0u8; 1076];
-    let n = put_line(a, b, last, &mut line);
+    let n = put_line(a, b, last, line);
     io::write_all(1, &line[0..n])
 }

@@ -44,7 +44,8 @@ fn answer_in(case: &[u8; 245], buf: &mut [u8]) -> bool
     let r = run(case, buf);
     let mut head = [0u8; 137];
     put_head(r, &mut head);
-    cases::print_line(&head, buf, b'\n')
+    let mut line = [0u8; 1076];
+    cases::print_line(&head, buf, b'\n', &mut line)
 }
 
 // Writes the line that answers a case; false if nothing can be written.

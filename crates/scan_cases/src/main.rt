@@ -19,7 +19,8 @@ fn answer_in(case: &[u8; 241], buf: &mut [u8]) -> bool
     let r = run(case, buf);
     let mut head = [0u8; 129];
     cases::put_answer(&mut head, r);
-    cases::print_line(&head, buf, b'\n')
+    let mut line = [0u8; 1076];
+    cases::print_line(&head, buf, b'\n', &mut line)
 }
 
 // Writes the line that answers a case; false if nothing can be written.

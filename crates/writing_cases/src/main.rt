@@ -18,7 +18,8 @@ fn head_of(w: Written) -> [u8; 7] {
 fn print(w: Written, buf: &[u8], last: u8) -> bool
     requires { ⌜ length (now buf) ≤ 160 ⌝ }
 {
-    cases::print_line(&head_of(w), buf, last)
+    let mut line = [0u8; 1076];
+    cases::print_line(&head_of(w), buf, last, &mut line)
 }
 
 fn print_opening(case: &[u8; 129], buf: &mut [u8]) -> bool
