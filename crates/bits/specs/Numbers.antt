@@ -18,7 +18,8 @@ abbrev pub digits : ℕ → ℕ → List ℕ
 digits zero v = []
 digits (suc w) v = v / 256 ^ w ∷ digits w (v % 256 ^ w)
 
--- (no entry point's contract cites these two) the number that the w bytes from `at` spell, the lowest first, and the w bytes of v in the other order
+-- the number that the w bytes from `at` spell, the lowest first, and the w bytes of v in the other order. No entry point's contract
+-- cites these two
 abbrev pub lowAt : ℕ → List ℕ → ℕ → ℕ
 lowAt zero s at = 0
 lowAt (suc w) s at = getD s at 0 + 256 * lowAt w s (at + 1)
