@@ -60,7 +60,7 @@ use Rattle.recording.specs.Steps.{stepAt, rowPlace, rowsOf}
 use Rattle.recording.specs.Encode.{encode, opening, Right}
 use Rattle.recording.specs.Refused.{Refused}
 use Rattle.recording.specs.Accepted.{Accepted, Answers}
-use Rattle.recording.proofs.Theorems as recording
+use Rattle.exactness.proofs.Theorems as recording
 use Rattle.writing.specs.declared.Written.{Written}
 use Rattle.writing.specs.Writer.{openingNumber, openingWritten, openingAfter, rowPieceNumber, rowWritten, rowAfter}
 use Rattle.walk.specs.declared.Walk.{Walk}

@@ -1,17 +1,6 @@
 pub mod Lists
 pub mod Barred
 pub mod Sections
-pub mod Codec
-pub mod Entries
 pub mod Between
 pub mod Cases
 pub mod Steps
-pub mod Right
-pub mod Exact
-pub mod Refusals
-pub mod Front
-pub mod Places
-pub mod Trips
-pub mod Numbers
-pub mod Lengths
-pub mod Theorems

@@ -5,7 +5,7 @@ use Prim.Native.Nat.{ℕ, zero, suc, _+_, _-_, _*_, _<_}
 use native.Mathlib.Nat.{add-zero, mul-suc, mul-zero}
 use native.Mathlib.Numerals.{add-one}
 use native.Mathlib.Omega.{arith}
-use lib.ListN.{length, set, getD, replicate}
+use lib.ListN.{length, set, replicate}
 use lib.Seq.{set-at}
 use Rattle.bits.specs.Lists.{listOf}
 
@@ -19,13 +19,6 @@ module _ {A : Type 0} where
   listOf-snoc get w (suc n) at =
       let place : at + w + w * n ≡ at + w * suc n = omega (arith, mul-suc w n) in
       rw (add-one, ← place) (ap {B = List _} (λ r. get at ∷ r) (rw add-one at (listOf-snoc get w n (at + w))))
-
-  pub getD-listOf : (get : ℕ → A) (w n at i : ℕ) (d : A) → i < n → getD (listOf get w n at) i d ≡ get (at + w * i)
-  getD-listOf get w zero at i d h = absurd (omega arith)
-  getD-listOf get w (suc n) at zero d h = rw (mul-zero, add-zero)
-  getD-listOf get w (suc n) at (suc i) d h =
-      let place : at + w + w * i ≡ at + w * suc i = omega (arith, mul-suc w i) in
-      rw (← place) (getD-listOf get w n (at + w) i d (omega arith))
 
   one-more : (xs : List A) (n i : ℕ) (z v : A) → length xs ≡ i → i < n → set (xs ++ replicate (n - i) z) i v ≡ (xs ++ (v ∷ [])) ++ replicate (n - (i + 1)) z
   one-more xs n i z v e h =

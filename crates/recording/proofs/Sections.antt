@@ -95,17 +95,7 @@ module _ (test : ℕ → ℕ) (w len : ℕ) where
       record { next = rw mul-zero (omega arith); inside = omega arith; right = λ i l. absurd (omega arith) }
   entries-next (suc n) at e h q = one-more n at e (entries-next n (at + w) e) (leb (at + w) len) refl (test at) refl q
 
-  pub entries-pass : (n at : ℕ) → at + w * n ≤ len → ((i : ℕ) → i < n → test (at + w * i) ≡ 0) → entries test w len n at ≡ S.Next (at + w * n)
-  entries-pass zero at h f = rw (mul-zero, add-zero)
-  entries-pass (suc n) at h f =
-      let here : test at ≡ 0 = rw (mul-zero, add-zero) at (f 0 (omega arith)) in
-      let end : at + w * suc n ≡ at + w + w * n = omega (arith, mul-suc w n) in
-      let rest : (i : ℕ) → i < n → test (at + w + w * i) ≡ 0 =
-      λ i l. let place : at + w + w * i ≡ at + w * suc i = omega (arith, mul-suc w i) in rw place (f (suc i) (omega arith))
-      in
-      rw (le-leb (at + w) len (omega (arith, end)), here, end) (entries-pass n (at + w) (omega (arith, end)) rest)
-
--- what a section that passes has shown, and the other way round
+-- what a section that passes has shown
 pub record Whole (test : ℕ → ℕ) (w lo hi : ℕ) (s : List ℕ) (at e : ℕ) : Type 0 where
   pub least : lo ≤ numAt 2 s at
   pub most : numAt 2 s at ≤ hi
@@ -128,11 +118,3 @@ module _ (test : ℕ → ℕ) (w lo hi number : ℕ) (s : List ℕ) (at e : ℕ)
 
   pub section-next : section test w lo hi number s at ≡ S.Next e → Whole test w lo hi s at e
   section-next = count-cases (leb (at + 2) (length s)) refl (leb lo (numAt 2 s at) && leb (numAt 2 s at) hi) refl
-
-  pub section-pass : Whole test w lo hi s at e → section test w lo hi number s at ≡ S.Next e
-  unfolding section
-  section-pass h =
-      let n = numAt 2 s at in
-      let p = h .passed in
-      rw (le-leb (at + 2) (length s) (h .room), le-leb lo n (h .least), le-leb n hi (h .most), p .next)
-      (entries-pass test w (length s) n (at + 2) (omega (arith, p .next, p .inside)) (p .right))

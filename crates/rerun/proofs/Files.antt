@@ -22,8 +22,8 @@ use Rattle.recording.specs.Encode.{Right}
 use Rattle.recording.specs.Reader.{reading}
 use Rattle.recording.specs.Steps.{rowPlace, rowsOf}
 use Rattle.recording.proofs.Cases.{not-accepted}
-use Rattle.recording.proofs.Theorems.{accepted-case, accepted-is-right}
-use Rattle.recording.proofs.Trips.{length-rowsOf}
+use Rattle.exactness.proofs.Theorems.{accepted-case, accepted-is-right}
+use Rattle.exactness.proofs.Trips.{length-rowsOf}
 use Rattle.rerun.specs.Replay.{Outcome, whole, started, joined, refusedAt, rowsFrom, replayRows, replay, firstRows, rowOf, rowRun, sumOfHolds}
 use Rattle.rerun.proofs.Rows.{Sound, then-the-others, refusal-ends, none-refused-whole, events-stay, rows-counted, records-few, done-after, sound-after, within-scans, sound-rows, done-is-holds, all-take, all-at}
 use Rattle.settings.proofs.Refusals.{granted-none, granted-refused, granted-number, unless-refused, limit-passed}

@@ -15,7 +15,7 @@ use Rattle.recording.specs.Answers.{number, rowCount, firstRow, rowWidth}
 use Rattle.recording.specs.Entries.{rowAt}
 use Rattle.recording.specs.Reader.{reading}
 use Rattle.recording.specs.Steps.{rowPlace}
-use Rattle.recording.proofs.Theorems.{row-in-the-file}
+use Rattle.exactness.proofs.Theorems.{row-in-the-file}
 use Rattle.rerun.specs.declared.Stop.{Stop}
 use Rattle.rerun.specs.Replay.{Outcome, replay, firstRows, rowOf}
 use Rattle.rerun.specs.Turn.{stopOf}

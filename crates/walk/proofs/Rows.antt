@@ -17,8 +17,8 @@ use Rattle.recording.specs.declared.Step.the-variants as T
 use Rattle.recording.specs.Reader.{reading}
 use Rattle.recording.specs.Answers.{rowCount, firstRow, ended, noRow, stepRow, nextPlace}
 use Rattle.recording.specs.Steps.{rowPlace, rowsOf}
-use Rattle.recording.proofs.Theorems.{row-at-its-place, row-in-the-file, ended-elsewhere}
-use Rattle.recording.proofs.Trips.{length-rowsOf}
+use Rattle.exactness.proofs.Theorems.{row-at-its-place, row-in-the-file, ended-elsewhere}
+use Rattle.exactness.proofs.Trips.{length-rowsOf}
 use Rattle.walk.specs.declared.Walk.{Walk}
 use Rattle.walk.specs.Walks.{startOf, nextOf, movedOn, nthOf, walked, withRow, given}
 

@@ -18,8 +18,8 @@ use Rattle.recording.specs.Answers.{number, place, rowCount, firstRow, ended, n
 use Rattle.recording.specs.Steps.{stepAt, rowPlace, rowsOf}
 use Rattle.recording.specs.Refused.{Refused}
 use Rattle.recording.specs.Accepted.{Accepted}
-use Rattle.recording.proofs.Theorems.{ended-elsewhere, refused-as-said}
-use Rattle.recording.proofs.Trips.{length-rowsOf}
+use Rattle.exactness.proofs.Theorems.{ended-elsewhere, refused-as-said}
+use Rattle.exactness.proofs.Trips.{length-rowsOf}
 use Rattle.walk.specs.declared.Walk.{Walk}
 use Rattle.walk.specs.Walks.{startOf, nextOf, movedOn, nthOf, walked, given}
 use Rattle.walk.proofs.Rows.{count, ends, row-of, place-by, nth-step, rows-given}

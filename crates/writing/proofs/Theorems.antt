@@ -15,7 +15,7 @@ use Rattle.recording.specs.Answers.{rowCount}
 use Rattle.recording.specs.Steps.{rowsOf}
 use Rattle.recording.specs.Encode.{opening, All}
 use Rattle.recording.specs.Accepted.{Accepted, Answers}
-use Rattle.recording.proofs.Theorems.{accepted-is-encoding, encoding-is-accepted, encoding-in-pieces, rows-counted}
+use Rattle.exactness.proofs.Theorems.{accepted-is-encoding, encoding-is-accepted, encoding-in-pieces, rows-counted}
 use Rattle.writing.specs.Answers.{writtenNumber, writtenPlace, writtenLength}
 use Rattle.writing.specs.Writer.{openingNumber, rowPieceNumber, written, after}
 use Rattle.writing.proofs.Pieces.{number-of, stands, untouched}

@@ -12,8 +12,8 @@ use Rattle.settings.specs.declared.Row.{Row}
 use Rattle.settings.specs.declared.Known.{Known}
 use Rattle.settings.specs.Right.{knownOf, settingsNumber, wordsNumber, rowNumber}
 use Rattle.settings.specs.Signals.{noEffect}
 use Rattle.recording.specs.Encode.{encode, All, Right}
-use Rattle.recording.proofs.Exact.{length-encode}
+use Rattle.exactness.proofs.Exact.{length-encode}
 
 -- one cause, and n effects without delay
 pub plain : ℕ → Settings

@@ -11,24 +11,24 @@ use Rattle.bits.specs.Numbers.{Bytes}
 use Rattle.settings.specs.declared.Row.{Row}
 use Rattle.settings.specs.declared.Settings.{Settings}
 use Rattle.settings.specs.declared.Known.{Known}
 use Rattle.recording.specs.declared.Answer.the-variants as A
 use Rattle.recording.specs.declared.Reading.{Reading}
 use Rattle.recording.specs.declared.Kind.{Kind}
 use Rattle.recording.specs.Entries.{rowAt, putRow}
 use Rattle.recording.specs.Reader.{refusal, reading}
 use Rattle.recording.specs.Answers.{number, place, rowCount, firstRow, rowWidth, sectionNumber, sectionPlace, ended, noRow, stepRow, nextPlace}
 use Rattle.recording.specs.Steps.{rowIn, stepAt, rowsOf}
 use Rattle.recording.specs.Accepted.{Accepted, Answers}
 use Rattle.recording.specs.Encode.{encode, opening, Right}
 use Rattle.recording.specs.Sections.{sectionOf}
 use Rattle.recording.specs.Refused.{Stops, Refused}
-use Rattle.recording.proofs.Right.{in-parts}
-use Rattle.recording.proofs.Places.{same-at-place, row-at-place, row-within, ended-elsewhere as nothing-elsewhere}
-use Rattle.recording.proofs.Refusals.{refused-as-said as said, said-is-refused as answered, section-said, stops-refuses}
-use Rattle.recording.proofs.Numbers.{not-accepted-refused, reading-numbers, before-spare}
-use Rattle.recording.proofs.Front.{reading-of-front}
-use Rattle.recording.proofs.Exact.{complete, rows-are-back, spare, length-encode}
-use Rattle.recording.proofs.Trips.{accepted-encodes, accepted-right, first-row-place, accepted-case as case-of, length-rowsOf, in-pieces}
+use Rattle.exactness.proofs.Right.{in-parts}
+use Rattle.exactness.proofs.Places.{same-at-place, row-at-place, row-within, ended-elsewhere as nothing-elsewhere}
+use Rattle.exactness.proofs.Refusals.{refused-as-said as said, said-is-refused as answered, section-said, stops-refuses}
+use Rattle.exactness.proofs.Numbers.{not-accepted-refused, reading-numbers, before-spare}
+use Rattle.exactness.proofs.Front.{reading-of-front}
+use Rattle.exactness.proofs.Exact.{complete, rows-are-back, spare, length-encode}
+use Rattle.exactness.proofs.Trips.{accepted-encodes, accepted-right, first-row-place, accepted-case as case-of, length-rowsOf, in-pieces}
 
 -- ## Exactness
 

@@ -7,14 +7,14 @@ use native.Mathlib.Omega.{arith}
 use lib.ListN.{length, take}
 use Rattle.bits.specs.Numbers.{Bytes}
 use Rattle.settings.specs.Right.{knownOf}
 use Rattle.recording.specs.declared.Reading.{Reading}
 use Rattle.recording.specs.declared.Kind.the-variants.{Block, Effects, Rows}
 use Rattle.recording.specs.Reader.{nothingKnown, knownOfBlock, settingsAt, refusal, reading}
 use Rattle.recording.specs.Answers.{number, place}
 use Rattle.recording.specs.Encode.{encode}
 use Rattle.recording.specs.Refused.{Refused}
-use Rattle.recording.proofs.Refusals.{Given, section-gives, file-gives, said-or-accepted}
-use Rattle.recording.proofs.Exact.{right-at, encoded-at, complete, rowsAt}
+use Rattle.exactness.proofs.Refusals.{Given, section-gives, file-gives, said-or-accepted}
+use Rattle.exactness.proofs.Exact.{right-at, encoded-at, complete, rowsAt}
 
 module _ (s : List ℕ) where
   -- a file that is not accepted gives zeros beside its number and place

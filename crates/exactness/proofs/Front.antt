@@ -13,17 +13,17 @@ use lib.Seq.{length-take-le}
 use Rattle.bits.specs.Numbers.{numAt}
 use Rattle.settings.specs.declared.Known.{Known}
 use Rattle.settings.specs.Right.{knownOf, effectNumber, rowNumber}
 use Rattle.recording.specs.declared.Section.the-variants as S
 use Rattle.recording.specs.declared.Kind.{Kind}
 use Rattle.recording.specs.declared.Kind.the-variants.{Block, Effects, Rows}
 use Rattle.recording.specs.Entries.{blockCheck}
 use Rattle.recording.specs.Sections.{entries, widthOf, leastOf, mostOf, countOk, testOf, sectionOf}
 use Rattle.recording.specs.Reader.{nothingKnown, knownOfBlock, settingsAt, reading}
 use Rattle.bits.proofs.Lists.{and-right}
 use Rattle.recording.proofs.Sections.{section-count, section-entries}
-use Rattle.recording.proofs.Entries.{num-front, block-front, effect-front, row-front}
+use Rattle.exactness.proofs.Entries.{num-front, block-front, effect-front, row-front}
 use Rattle.recording.proofs.Between.{block-room, effects-whole, rows-whole, read-block, read-effects, read-rows, left-over}
 use Rattle.recording.proofs.Cases.{reading-cases}
 
 -- ## One section
 

@@ -20,9 +20,9 @@ use Rattle.settings.specs.Limits.{mostDelay, mostHold}
 use Rattle.settings.specs.Right.{blockOk, effectOk, effectNumber, wordsOk, fieldsNumber, apartNumber, severalNumber, wordsNumber, holdNumber, rowNumber}
 use Rattle.settings.specs.Refusals.{orElse}
 use Rattle.settings.proofs.Refusals.{or-else-none, unless-none}
 use Rattle.recording.specs.Entries.{BlockEntry, blockAt, blockLayout, blockFields, putBlock, blockCheck, effectAt, effectLayout, effectFields, putEffect, rowAt, wordsAt, rowLayout, rowFields, putRow}
 use Rattle.bits.proofs.Lists.{and-left, and-right}
-use Rattle.recording.proofs.Codec.{Codec}
+use Rattle.exactness.proofs.Codec.{Codec}
 
 -- ## Numbers at the front of a list
 

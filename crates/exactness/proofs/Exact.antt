@@ -13,22 +13,23 @@ use Rattle.settings.specs.declared.Known.{Known}
 use Rattle.settings.specs.declared.Settings.{Settings}
 use Rattle.settings.specs.Right.{knownOf, effectNumber, rowNumber}
 use Rattle.settings.specs.Signals.{noEffect}
 use Rattle.recording.specs.declared.Section.{Section}
 use Rattle.recording.specs.declared.Section.the-variants as S
 use Rattle.recording.specs.declared.Answer.the-variants as A
 use Rattle.recording.specs.declared.Kind.the-variants.{Block, Effects, Rows}
 use Rattle.recording.specs.Entries.{BlockEntry, blockAt, blockCheck, effectAt, rowAt, putBlock, putEffect, putRow}
 use Rattle.bits.specs.Lists.{listOf}
 use Rattle.recording.specs.Sections.{sectionOf}
 use Rattle.recording.specs.Reader.{nothingKnown, knownOfBlock, settingsAt, refusal, reading, afterRows}
 use Rattle.recording.specs.Refused.{ToEnd}
 use Rattle.recording.specs.Encode.{blockOf, effectsOf, counted, encode, All, Right}
 use Rattle.recording.proofs.Lists.{length-listOf}
-use Rattle.recording.proofs.Sections.{Whole, section-next, section-pass}
-use Rattle.recording.proofs.Codec.{Codec, Back, section-back, section-bytes, all-list, length-counted}
-use Rattle.recording.proofs.Entries.{Checked, block-causes, block-codec, effect-codec, row-codec}
-use Rattle.recording.proofs.Right.{Parts, in-parts, of-parts}
+use Rattle.recording.proofs.Sections.{Whole, section-next}
+use Rattle.exactness.proofs.Sections.{section-pass}
+use Rattle.exactness.proofs.Codec.{Codec, Back, section-back, section-bytes, all-list, length-counted}
+use Rattle.exactness.proofs.Entries.{Checked, block-causes, block-codec, effect-codec, row-codec}
+use Rattle.exactness.proofs.Right.{Parts, in-parts, of-parts}
 use Rattle.recording.proofs.Between.{read-rows, accepted, left-over}
 
 abbrev blockBytes : Settings → List ℕ
 blockBytes st = counted putBlock (blockOf st ∷ [])

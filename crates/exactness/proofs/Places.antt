@@ -2,26 +2,37 @@
 use mathlib.Core.Path.{_≡_, refl, sym}
 use mathlib.Core.Bool.{Bool, true, false, _&&_}
 use mathlib.Core.List.{List}
-use Prim.Native.Nat.{ℕ, suc, _+_, _-_, _*_, _/_, _%_, _≤_, _<_}
+use Prim.Native.Nat.{ℕ, zero, suc, _+_, _-_, _*_, _/_, _%_, _≤_, _<_}
+use native.Mathlib.Nat.{add-zero, mul-suc, mul-zero}
 use native.Mathlib.Omega.{arith}
 use borrow.Author.Tests.{le-leb, lt-ltb, eq-eqb, leb-true, ltb-true, eqb-true}
 use lib.Dec.{leb, ltb, eqb}
 use lib.ListN.{length, getD}
 use Rattle.bits.specs.Numbers.{numAt}
+use Rattle.bits.specs.Lists.{listOf}
 use Rattle.settings.specs.declared.Row.{Row}
 use Rattle.settings.specs.Right.{knownOf}
 use Rattle.recording.specs.declared.Reading.{Reading}
 use Rattle.recording.specs.declared.Step.the-variants as T
 use Rattle.recording.specs.Entries.{rowAt}
 use Rattle.recording.specs.Reader.{settingsAt, reading}
 use Rattle.recording.specs.Answers.{rowCount, firstRow, rowWidth}
 use Rattle.recording.specs.Steps.{rowIn, isPlace, stepIn, rowsIn}
 use Rattle.recording.specs.Refused.{ToEnd}
-use Rattle.recording.proofs.Lists.{getD-listOf}
 use Rattle.bits.proofs.Lists.{and-left, and-right}
 use Rattle.recording.proofs.Between.{rows-whole}
-use Rattle.recording.proofs.Refusals.{said-or-accepted}
+use Rattle.exactness.proofs.Refusals.{said-or-accepted}
 use Rattle.recording.proofs.Steps.{refusal-ended}
+
+-- ## Entry i of those that are read one after the other
+
+module _ {A : Type 0} where
+  getD-listOf : (get : ℕ → A) (w n at i : ℕ) (d : A) → i < n → getD (listOf get w n at) i d ≡ get (at + w * i)
+  getD-listOf get w zero at i d h = absurd (omega arith)
+  getD-listOf get w (suc n) at zero d h = rw (mul-zero, add-zero)
+  getD-listOf get w (suc n) at (suc i) d h =
+      let place : at + w + w * i ≡ at + w * suc i = omega (arith, mul-suc w i) in
+      rw (← place) (getD-listOf get w n (at + w) i d (omega arith))
 
 -- ## Places, by arithmetic
 

@@ -10,19 +10,19 @@ use lib.Seq.{take-length}
 use Rattle.bits.specs.Numbers.{Bytes}
 use Rattle.settings.specs.declared.Row.{Row}
 use Rattle.settings.specs.declared.Settings.{Settings}
 use Rattle.recording.specs.declared.Answer.the-variants as A
 use Rattle.recording.specs.declared.Reading.{Reading}
 use Rattle.recording.specs.Entries.{rowAt, putRow}
 use Rattle.recording.specs.Reader.{knownOfBlock, reading}
 use Rattle.recording.specs.Answers.{number, rowCount, firstRow, rowWidth}
 use Rattle.recording.specs.Steps.{rowsIn, rowsOf}
 use Rattle.recording.specs.Encode.{encode, opening, Right}
 use Rattle.recording.specs.Refused.{ToEnd}
 use Rattle.recording.proofs.Lists.{length-listOf}
-use Rattle.recording.proofs.Refusals.{Given, file-gives, said-or-accepted}
+use Rattle.exactness.proofs.Refusals.{Given, file-gives, said-or-accepted}
 use Rattle.recording.proofs.Between.{block-room, effects-whole}
 use Rattle.recording.proofs.Cases.{acceptance}
-use Rattle.recording.proofs.Exact.{right-at, encoded-at}
+use Rattle.exactness.proofs.Exact.{right-at, encoded-at}
 
 -- ## Accepted files
 

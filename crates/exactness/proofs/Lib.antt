@@ -1,0 +1,12 @@
+pub mod Sections
+pub mod Codec
+pub mod Entries
+pub mod Right
+pub mod Exact
+pub mod Refusals
+pub mod Front
+pub mod Places
+pub mod Trips
+pub mod Numbers
+pub mod Lengths
+pub mod Theorems
