@@ -20,6 +20,8 @@ use Rattle.settings.specs.Limits.{mostDelay, mostHold}
 use Rattle.settings.specs.Right.{blockOk, effectOk, effectNumber, wordsOk, fieldsNumber, apartNumber, severalNumber, wordsNumber, holdNumber, rowNumber}
 use Rattle.settings.specs.Refusals.{orElse}
 use Rattle.settings.proofs.Refusals.{or-else-none, unless-none}
+use Rattle.recording.specs.declared.Kind.the-variants.{Block, Effects, Rows}
+use Rattle.recording.specs.Sections.{widthOf}
 use Rattle.recording.specs.Entries.{BlockEntry, blockAt, blockLayout, blockFields, putBlock, blockCheck, effectAt, effectLayout, effectFields, putEffect, rowAt, wordsAt, rowLayout, rowFields, putRow}
 use Rattle.bits.proofs.Lists.{and-left, and-right}
 use Rattle.exactness.proofs.Codec.{Codec}
@@ -85,11 +87,11 @@ block-fit b h =
     let p = leb-true (b .period) 1000 (search (and-left, and-right)) in
     (omega (arith, block-causes b h), (omega (arith, o), (omega (arith, p), tt)))
 
-pub block-front : (m : ℕ) (s : List ℕ) (at : ℕ) → at + 4 ≤ m → blockAt (take m s) at ≡ blockAt s at
+pub block-front : (m : ℕ) (s : List ℕ) (at : ℕ) → at + widthOf Block ≤ m → blockAt (take m s) at ≡ blockAt s at
 unfolding ofBlock
 block-front = layout-front blockLayout blockFields ofBlock blockAt (λ a. refl) (λ s at. rw (add-zero at))
 
-pub block-codec : Codec BlockEntry 4 blockAt putBlock blockCheck
+pub block-codec : Codec BlockEntry (widthOf Block) blockAt putBlock blockCheck
 unfolding ofBlock putBlock
 block-codec = of-layout blockLayout blockFields ofBlock blockAt blockCheck (λ a. refl) (λ a. refl) (λ s at. rw (add-zero at)) block-fit
 
@@ -105,11 +107,11 @@ effect-fit causes checked e h =
     let d = leb-true (e .delay) mostDelay (search (and-left, and-right)) in
     (a, (omega (arith, d), tt))
 
-pub effect-front : (m : ℕ) (s : List ℕ) (at : ℕ) → at + 6 ≤ m → effectAt (take m s) at ≡ effectAt s at
+pub effect-front : (m : ℕ) (s : List ℕ) (at : ℕ) → at + widthOf Effects ≤ m → effectAt (take m s) at ≡ effectAt s at
 unfolding effectAt ofEffect
 effect-front = layout-front effectLayout effectFields ofEffect effectAt (λ a. refl) (λ s at. rw (add-zero at))
 
-pub effect-codec : (causes : ℕ) → causes ≤ 16 → Codec Effect 6 effectAt putEffect (effectNumber causes)
+pub effect-codec : (causes : ℕ) → causes ≤ 16 → Codec Effect (widthOf Effects) effectAt putEffect (effectNumber causes)
 unfolding effectAt ofEffect putEffect
 effect-codec causes checked = of-layout effectLayout effectFields ofEffect effectAt (effectNumber causes) (λ a. refl) (λ a. refl) (λ s at. rw (add-zero at)) (effect-fit causes checked)
 
@@ -154,10 +156,10 @@ row-fit k checked r h =
     let effect : (x : ℕ) → ltb x (2 ^ k .count) ≡ true → x < 65536 = λ x t. word-fits (k .count) x (checked .count) t in
     (omega (arith, row-hold k r h), (cause (w .values) (search (and-left, and-right) depth 12), (cause (w .bad) (search (and-left, and-right) depth 12), (cause (w .mask) (search (and-left, and-right) depth 12), (effect (w .«require_reset») (search (and-left, and-right) depth 12), (effect (w .«reset_permit») (search (and-left, and-right) depth 12), (effect (w .«start_permit») (search (and-left, and-right) depth 12), (effect (w .reset) (search (and-left, and-right) depth 12), (omega (arith, permit), (effect (w .«force_trip») (search (and-left, and-right) depth 12), (effect (w .«force_normal») (search (and-left, and-right) depth 12), tt)))))))))))
 
-pub row-front : (m : ℕ) (s : List ℕ) (at : ℕ) → at + 24 ≤ m → rowAt (take m s) at ≡ rowAt s at
+pub row-front : (m : ℕ) (s : List ℕ) (at : ℕ) → at + widthOf Rows ≤ m → rowAt (take m s) at ≡ rowAt s at
 unfolding rowAt wordsAt ofRow
 row-front = layout-front rowLayout rowFields ofRow rowAt (λ a. refl) (λ s at. simp (add-zero, add-assoc))
 
-pub row-codec : (k : Known) → Checked k → Codec Row 24 rowAt putRow (rowNumber k)
+pub row-codec : (k : Known) → Checked k → Codec Row (widthOf Rows) rowAt putRow (rowNumber k)
 unfolding rowAt wordsAt ofRow putRow
 row-codec k checked = of-layout rowLayout rowFields ofRow rowAt (rowNumber k) (λ a. refl) (λ a. refl) (λ s at. simp (add-zero, add-assoc)) (row-fit k checked)

@@ -19,17 +19,16 @@ use Rattle.recording.specs.declared.Answer.the-variants as A
 use Rattle.recording.specs.declared.Kind.the-variants.{Block, Effects, Rows}
 use Rattle.recording.specs.Entries.{BlockEntry, blockAt, blockCheck, effectAt, rowAt, putBlock, putEffect, putRow}
 use Rattle.bits.specs.Lists.{listOf}
-use Rattle.recording.specs.Sections.{sectionOf}
+use Rattle.recording.specs.Sections.{widthOf, leastOf, mostOf, sectionOf}
 use Rattle.recording.specs.Reader.{nothingKnown, knownOfBlock, settingsAt, refusal, reading, afterRows}
 use Rattle.recording.specs.Refused.{ToEnd}
-use Rattle.recording.specs.Encode.{blockOf, effectsOf, counted, encode, All, Right}
+use Rattle.recording.specs.Encode.{blockOf, effectsOf, counted, encode, openingLength, All, Right}
 use Rattle.recording.proofs.Lists.{length-listOf}
-use Rattle.recording.proofs.Sections.{Whole, section-next}
 use Rattle.exactness.proofs.Sections.{section-pass}
 use Rattle.exactness.proofs.Codec.{Codec, Back, section-back, section-bytes, all-list, length-counted}
 use Rattle.exactness.proofs.Entries.{Checked, block-causes, block-codec, effect-codec, row-codec}
 use Rattle.exactness.proofs.Right.{Parts, in-parts, of-parts}
-use Rattle.recording.proofs.Between.{read-rows, accepted, left-over}
+use Rattle.recording.proofs.Between.{WholeOf, section-whole, read-rows, accepted, left-over}
 
 abbrev blockBytes : Settings → List ℕ
 blockBytes st = counted putBlock (blockOf st ∷ [])
@@ -49,29 +48,29 @@ module _ (st : Settings) (rows : List Row) (right : Right st rows) where
   checked : Checked (knownOf st)
   checked = checked-of st parts
 
-  effects-are : Codec Effect 6 effectAt putEffect (effectNumber (st .causes))
+  effects-are : Codec Effect (widthOf Effects) effectAt putEffect (effectNumber (st .causes))
   effects-are = effect-codec (st .causes) (checked .causes)
 
-  rows-are : Codec Row 24 rowAt putRow (rowNumber (knownOf st))
+  rows-are : Codec Row (widthOf Rows) rowAt putRow (rowNumber (knownOf st))
   rows-are = row-codec (knownOf st) checked
 
   length-effectsOf : length (effectsOf st) ≡ st .count
   length-effectsOf = length-take (st .count) (st .effects) ∙ omega (arith, right .slots, parts .most)
 
   length-block : length (blockBytes st) ≡ 6
-  length-block = length-counted 4 blockAt putBlock blockCheck block-codec (blockOf st ∷ [])
+  length-block = length-counted (widthOf Block) blockAt putBlock blockCheck block-codec (blockOf st ∷ [])
 
-  length-effects : length (effectBytes st) ≡ 2 + 6 * st .count
-  length-effects = length-counted 6 effectAt putEffect (effectNumber (st .causes)) effects-are (effectsOf st) ∙ omega (arith, length-effectsOf)
+  length-effects : length (effectBytes st) ≡ 2 + widthOf Effects * st .count
+  length-effects = length-counted (widthOf Effects) effectAt putEffect (effectNumber (st .causes)) effects-are (effectsOf st) ∙ omega (arith, length-effectsOf)
 
   abbrev rowsPlace : ℕ
-  rowsPlace = 8 + 6 * st .count
+  rowsPlace = 8 + widthOf Effects * st .count
 
-  pub length-encode : length (encode st rows) ≡ 10 + 6 * st .count + 24 * length rows
+  pub length-encode : length (encode st rows) ≡ openingLength st + widthOf Rows * length rows
   unfolding encode
   length-encode =
       length-append (blockBytes st) (effectBytes st ++ counted putRow rows)
-      ∙ omega (arith, length-append (effectBytes st) (counted putRow rows), length-block, length-effects, length-counted 24 rowAt putRow (rowNumber (knownOf st)) rows-are rows)
+      ∙ omega (arith, length-append (effectBytes st) (counted putRow rows), length-block, length-effects, length-counted (widthOf Rows) rowAt putRow (rowNumber (knownOf st)) rows-are rows)
 
   -- the three sections of an encoding that stands before q, read back
   module _ (q : List ℕ) where
@@ -84,24 +83,24 @@ module _ (st : Settings) (rows : List Row) (right : Right st rows) where
         append-assoc (blockBytes st) (effectBytes st ++ counted putRow rows) q
         ∙ ap (λ (l : List ℕ). blockBytes st ++ l) (append-assoc (effectBytes st) (counted putRow rows) q)
 
-    block-back : Back 4 blockAt putBlock blockCheck block-codec s 1 1 0 (blockOf st ∷ [])
+    block-back : Back (widthOf Block) blockAt putBlock blockCheck block-codec s (leastOf Block) (mostOf Block) 0 (blockOf st ∷ [])
     block-back =
-        subst (λ (l : List ℕ). Back 4 blockAt putBlock blockCheck block-codec l 1 1 0 (blockOf st ∷ [])) (sym in-sections)
-        (section-back 4 blockAt putBlock blockCheck block-codec (blockOf st ∷ []) [] (effectBytes st ++ (counted putRow rows ++ q)) 1 1 0
+        subst (λ (l : List ℕ). Back (widthOf Block) blockAt putBlock blockCheck block-codec l (leastOf Block) (mostOf Block) 0 (blockOf st ∷ [])) (sym in-sections)
+        (section-back (widthOf Block) blockAt putBlock blockCheck block-codec (blockOf st ∷ []) [] (effectBytes st ++ (counted putRow rows ++ q)) (leastOf Block) (mostOf Block) 0
         refl (parts .block, tt) (omega arith) (omega arith) (omega arith))
 
-    effects-back : Back 6 effectAt putEffect (effectNumber (st .causes)) effects-are s 1 16 6 (effectsOf st)
+    effects-back : Back (widthOf Effects) effectAt putEffect (effectNumber (st .causes)) effects-are s (leastOf Effects) (mostOf Effects) 6 (effectsOf st)
     effects-back =
-        subst (λ (l : List ℕ). Back 6 effectAt putEffect (effectNumber (st .causes)) effects-are l 1 16 6 (effectsOf st)) (sym in-sections)
-        (section-back 6 effectAt putEffect (effectNumber (st .causes)) effects-are (effectsOf st) (blockBytes st) (counted putRow rows ++ q) 1 16 6
+        subst (λ (l : List ℕ). Back (widthOf Effects) effectAt putEffect (effectNumber (st .causes)) effects-are l (leastOf Effects) (mostOf Effects) 6 (effectsOf st)) (sym in-sections)
+        (section-back (widthOf Effects) effectAt putEffect (effectNumber (st .causes)) effects-are (effectsOf st) (blockBytes st) (counted putRow rows ++ q) (leastOf Effects) (mostOf Effects) 6
         (sym length-block) (parts .effects) (omega (arith, length-effectsOf, parts .least)) (omega (arith, length-effectsOf, parts .most)) (omega arith))
 
-    rows-back : Back 24 rowAt putRow (rowNumber (knownOf st)) rows-are s 1 2048 rowsPlace rows
+    rows-back : Back (widthOf Rows) rowAt putRow (rowNumber (knownOf st)) rows-are s (leastOf Rows) (mostOf Rows) rowsPlace rows
     rows-back =
         let front = blockBytes st ++ effectBytes st in
         let same : s ≡ front ++ (counted putRow rows ++ q) = in-sections ∙ sym (append-assoc (blockBytes st) (effectBytes st) (counted putRow rows ++ q)) in
-        subst (λ (l : List ℕ). Back 24 rowAt putRow (rowNumber (knownOf st)) rows-are l 1 2048 rowsPlace rows) (sym same)
-        (section-back 24 rowAt putRow (rowNumber (knownOf st)) rows-are rows front q 1 2048 rowsPlace
+        subst (λ (l : List ℕ). Back (widthOf Rows) rowAt putRow (rowNumber (knownOf st)) rows-are l (leastOf Rows) (mostOf Rows) rowsPlace rows) (sym same)
+        (section-back (widthOf Rows) rowAt putRow (rowNumber (knownOf st)) rows-are rows front q (leastOf Rows) (mostOf Rows) rowsPlace
         (omega (arith, length-append (blockBytes st) (effectBytes st), length-block, length-effects)) (right .each-row) (right .rows-least) (right .rows-most) (omega arith))
 
     at-block : blockAt s 2 ≡ blockOf st
@@ -112,48 +111,48 @@ module _ (st : Settings) (rows : List Row) (right : Right st rows) where
 
     settings-back : settingsAt s 6 ≡ st
     settings-back =
-        let list : listOf (effectAt s) 6 (numAt 2 s 6) 8 ++ replicate (16 - numAt 2 s 6) noEffect ≡ st .effects =
-        rw at-count (ap (λ (l : List Effect). l ++ replicate (16 - st .count) noEffect) (ap (λ (n : ℕ). listOf (effectAt s) 6 n 8) (sym length-effectsOf) ∙ effects-back .entries) ∙ sym (parts .slots))
+        let list : listOf (effectAt s) (widthOf Effects) (numAt 2 s 6) 8 ++ replicate (16 - numAt 2 s 6) noEffect ≡ st .effects =
+        rw at-count (ap (λ (l : List Effect). l ++ replicate (16 - st .count) noEffect) (ap (λ (n : ℕ). listOf (effectAt s) (widthOf Effects) n 8) (sym length-effectsOf) ∙ effects-back .entries) ∙ sym (parts .slots))
         in
         λ i. record { causes = at-block i .causes; options = at-block i .options; period = at-block i .period; count = at-count i; effects = list i }
 
     block-section : sectionOf Block nothingKnown s 0 ≡ S.Next 6
-    block-section = section-pass _ 4 1 1 2 s 0 6 (block-back .whole)
+    block-section = section-pass _ _ _ _ _ s 0 6 (block-back .whole)
 
     effects-section : sectionOf Effects (knownOfBlock s) s 6 ≡ S.Next rowsPlace
     effects-section =
         let known : knownOfBlock s ≡ record { causes = st .causes; count = 0; options = st .options } =
         λ i. record { causes = at-block i .causes; count = 0; options = at-block i .options }
         in
-        let place : 6 + 2 + 6 * length (effectsOf st) ≡ rowsPlace = omega (arith, length-effectsOf) in
-        ap (λ (k : Known). sectionOf Effects k s 6) known ∙ section-pass _ 6 1 16 3 s 6 _ (effects-back .whole) ∙ ap {B = Section} (λ n. S.Next n) place
+        let place : 6 + 2 + widthOf Effects * length (effectsOf st) ≡ rowsPlace = omega (arith, length-effectsOf) in
+        ap (λ (k : Known). sectionOf Effects k s 6) known ∙ section-pass _ _ _ _ _ s 6 _ (effects-back .whole) ∙ ap {B = Section} (λ n. S.Next n) place
 
     rows-section : sectionOf Rows (knownOf (settingsAt s 6)) s rowsPlace ≡ S.Next (length (encode st rows))
     rows-section =
-        let end : rowsPlace + 2 + 24 * length rows ≡ length (encode st rows) = omega (arith, length-encode) in
-        ap (λ (z : Settings). sectionOf Rows (knownOf z) s rowsPlace) settings-back ∙ section-pass _ 24 1 2048 4 s rowsPlace _ (rows-back .whole)
+        let end : rowsPlace + 2 + widthOf Rows * length rows ≡ length (encode st rows) = omega (arith, length-encode) in
+        ap (λ (z : Settings). sectionOf Rows (knownOf z) s rowsPlace) settings-back ∙ section-pass _ _ _ _ _ s rowsPlace _ (rows-back .whole)
         ∙ ap {B = Section} (λ n. S.Next n) end
 
     all-pass : reading s ≡ afterRows s 6 rowsPlace (length (encode st rows))
     all-pass = read-rows s 6 block-section rowsPlace effects-section (length (encode st rows)) rows-section
 
-    rows-again : listOf (rowAt s) 24 (length rows) (10 + 6 * st .count) ≡ rows
-    rows-again = let e : 10 + 6 * st .count ≡ rowsPlace + 2 = omega arith in rw e (rows-back .entries)
+    rows-again : listOf (rowAt s) (widthOf Rows) (length rows) (openingLength st) ≡ rows
+    rows-again = let e : openingLength st ≡ rowsPlace + 2 = omega arith in rw e (rows-back .entries)
 
     -- bytes after it are left over
     pub spare : 0 < length q → reading s ≡ refusal 7 (length (encode st rows))
     spare h = all-pass ∙ sym (left-over s 6 rowsPlace (length (encode st rows)) (λ e. omega (arith, e, length-append (encode st rows) q)))
 
   -- with nothing after it, it is accepted, and gives its settings back
-  pub complete : reading (encode st rows) ≡ record { answer = A.Accepted (length rows) (10 + 6 * st .count) 24; settings = st }
+  pub complete : reading (encode st rows) ≡ record { answer = A.Accepted (length rows) (openingLength st) (widthOf Rows); settings = st }
   complete =
       let e = append-nil (encode st rows) in
       ap reading (sym e) ∙ all-pass []
-      ∙ sym (accepted (s []) 6 rowsPlace (length (encode st rows)) (length rows) (10 + 6 * st .count) 24 st (ap length (sym e)) (sym (rows-back [] .count)) (omega arith) refl (sym (settings-back [])))
+      ∙ sym (accepted (s []) 6 rowsPlace (length (encode st rows)) (length rows) (openingLength st) (widthOf Rows) st (ap length (sym e)) (sym (rows-back [] .count)) (omega arith) refl (sym (settings-back [])))
 
   -- and its rows
-  pub rows-are-back : listOf (rowAt (encode st rows)) 24 (length rows) (10 + 6 * st .count) ≡ rows
-  rows-are-back = ap (λ (l : List ℕ). listOf (rowAt l) 24 (length rows) (10 + 6 * st .count)) (sym (append-nil (encode st rows))) ∙ rows-again []
+  pub rows-are-back : listOf (rowAt (encode st rows)) (widthOf Rows) (length rows) (openingLength st) ≡ rows
+  rows-are-back = ap (λ (l : List ℕ). listOf (rowAt l) (widthOf Rows) (length rows) (openingLength st)) (sym (append-nil (encode st rows))) ∙ rows-again []
 
 -- ## What passes is an encoding
 
@@ -168,20 +167,20 @@ join s e r end h₁ h₂ =
     rw first (sym (last ∙ ap (λ (l : List ℕ). l ++ take (end - r) (drop r s)) mid ∙ append-assoc (take e s) (take (r - e) (drop e s)) (take (end - r) (drop r s))))
 
 abbrev pub rowsAt : List ℕ → ℕ → List Row
-rowsAt s r = listOf (rowAt s) 24 (numAt 2 s r) (r + 2)
+rowsAt s r = listOf (rowAt s) (widthOf Rows) (numAt 2 s r) (r + 2)
 
 module _ (s : List ℕ) (e r end : ℕ) (t : ToEnd s e r end) where
   abbrev st : Settings
   st = settingsAt s e
 
-  block-whole : Whole (λ i. blockCheck (blockAt s i)) 4 1 1 s 0 e
-  block-whole = section-next _ 4 1 1 2 s 0 e (t .before .block)
+  block-whole : WholeOf Block nothingKnown s 0 e
+  block-whole = section-whole Block nothingKnown s 0 e (t .before .block)
 
-  effects-whole : Whole (λ i. effectNumber (st .causes) (effectAt s i)) 6 1 16 s e r
-  effects-whole = section-next _ 6 1 16 3 s e r (t .before .effects)
+  effects-whole : WholeOf Effects (knownOfBlock s) s e r
+  effects-whole = section-whole Effects (knownOfBlock s) s e r (t .before .effects)
 
-  rows-whole : Whole (λ i. rowNumber (knownOf st) (rowAt s i)) 24 1 2048 s r end
-  rows-whole = section-next _ 24 1 2048 4 s r end (t .rows)
+  rows-whole : WholeOf Rows (knownOf st) s r end
+  rows-whole = section-whole Rows (knownOf st) s r end (t .rows)
 
   block-right : blockCheck (blockOf st) ≡ 0
   block-right = block-whole .passed .right 0 (block-whole .least)
@@ -189,19 +188,19 @@ module _ (s : List ℕ) (e r end : ℕ) (t : ToEnd s e r end) where
   settings-checked : Checked (knownOf st)
   settings-checked = record { causes = block-causes (blockOf st) block-right; count = effects-whole .most }
 
-  effects-codec : Codec Effect 6 effectAt putEffect (effectNumber (st .causes))
+  effects-codec : Codec Effect (widthOf Effects) effectAt putEffect (effectNumber (st .causes))
   effects-codec = effect-codec (st .causes) (settings-checked .causes)
 
-  rows-codec : Codec Row 24 rowAt putRow (rowNumber (knownOf st))
+  rows-codec : Codec Row (widthOf Rows) rowAt putRow (rowNumber (knownOf st))
   rows-codec = row-codec (knownOf st) settings-checked
 
-  listed : effectsOf st ≡ listOf (effectAt s) 6 (st .count) (e + 2)
-  listed = take-at (listOf (effectAt s) 6 (st .count) (e + 2)) (replicate (16 - st .count) noEffect) (st .count) (length-listOf (effectAt s) 6 (st .count) (e + 2))
+  listed : effectsOf st ≡ listOf (effectAt s) (widthOf Effects) (st .count) (e + 2)
+  listed = take-at (listOf (effectAt s) (widthOf Effects) (st .count) (e + 2)) (replicate (16 - st .count) noEffect) (st .count) (length-listOf (effectAt s) (widthOf Effects) (st .count) (e + 2))
 
   sixteen : length (st .effects) ≡ 16
   sixteen =
-      length-append (listOf (effectAt s) 6 (st .count) (e + 2)) (replicate (16 - st .count) noEffect)
-      ∙ omega (arith, length-listOf (effectAt s) 6 (st .count) (e + 2), length-replicate (16 - st .count) noEffect, effects-whole .most)
+      length-append (listOf (effectAt s) (widthOf Effects) (st .count) (e + 2)) (replicate (16 - st .count) noEffect)
+      ∙ omega (arith, length-listOf (effectAt s) (widthOf Effects) (st .count) (e + 2), length-replicate (16 - st .count) noEffect, effects-whole .most)
 
   parts-at : Parts st
   parts-at =
@@ -210,20 +209,20 @@ module _ (s : List ℕ) (e r end : ℕ) (t : ToEnd s e r end) where
         least = effects-whole .least;
         most = effects-whole .most;
         effects = subst (λ (l : List Effect). All (effectNumber (st .causes)) l) (sym listed)
-            (all-list 6 effectAt putEffect (effectNumber (st .causes)) effects-codec s (st .count) (e + 2) (effects-whole .passed .right));
+            (all-list (widthOf Effects) effectAt putEffect (effectNumber (st .causes)) effects-codec s (st .count) (e + 2) (effects-whole .passed .right));
         slots = ap (λ (l : List Effect). l ++ replicate (16 - st .count) noEffect) (sym listed);
       }
 
   -- the settings and rows that were read are right
   pub right-at : Right st (rowsAt s r)
   right-at =
-      let len = length-listOf (rowAt s) 24 (numAt 2 s r) (r + 2) in
+      let len = length-listOf (rowAt s) (widthOf Rows) (numAt 2 s r) (r + 2) in
       record {
         settings = of-parts st sixteen parts-at;
         slots = sixteen;
         rows-least = omega (arith, len, rows-whole .least);
         rows-most = omega (arith, len, rows-whole .most);
-        each-row = all-list 24 rowAt putRow (rowNumber (knownOf st)) rows-codec s (numAt 2 s r) (r + 2) (rows-whole .passed .right);
+        each-row = all-list (widthOf Rows) rowAt putRow (rowNumber (knownOf st)) rows-codec s (numAt 2 s r) (r + 2) (rows-whole .passed .right);
       }
 
   pub within : end ≤ length s
@@ -233,14 +232,14 @@ module _ (s : List ℕ) (e r end : ℕ) (t : ToEnd s e r end) where
     block-bytes : blockBytes st ≡ take (e - 0) (drop 0 s)
     block-bytes =
         let one : numAt 2 s 0 ≡ 1 = omega (arith, block-whole .least, block-whole .most) in
-        ap (λ (k : ℕ). counted putBlock (listOf (blockAt s) 4 k 2)) (sym one) ∙ section-bytes 4 blockAt putBlock blockCheck block-codec s 1 1 0 e bytes block-whole
+        ap (λ (k : ℕ). counted putBlock (listOf (blockAt s) (widthOf Block) k 2)) (sym one) ∙ section-bytes (widthOf Block) blockAt putBlock blockCheck block-codec s (leastOf Block) (mostOf Block) 0 e bytes block-whole
 
     effect-bytes : effectBytes st ≡ take (r - e) (drop e s)
     effect-bytes =
-        ap (counted putEffect) listed ∙ section-bytes 6 effectAt putEffect (effectNumber (st .causes)) effects-codec s 1 16 e r bytes effects-whole
+        ap (counted putEffect) listed ∙ section-bytes (widthOf Effects) effectAt putEffect (effectNumber (st .causes)) effects-codec s (leastOf Effects) (mostOf Effects) e r bytes effects-whole
 
     row-bytes : counted putRow (rowsAt s r) ≡ take (end - r) (drop r s)
-    row-bytes = section-bytes 24 rowAt putRow (rowNumber (knownOf st)) rows-codec s 1 2048 r end bytes rows-whole
+    row-bytes = section-bytes (widthOf Rows) rowAt putRow (rowNumber (knownOf st)) rows-codec s (leastOf Rows) (mostOf Rows) r end bytes rows-whole
 
     -- and their encoding is the bytes through the rows' end
     pub encoded-at : encode st (rowsAt s r) ≡ take end s

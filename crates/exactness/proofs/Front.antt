@@ -18,11 +18,12 @@ use Rattle.recording.specs.declared.Kind.{Kind}
 use Rattle.recording.specs.declared.Kind.the-variants.{Block, Effects, Rows}
 use Rattle.recording.specs.Entries.{blockCheck}
 use Rattle.recording.specs.Sections.{entries, widthOf, leastOf, mostOf, countOk, testOf, sectionOf}
+use Rattle.recording.specs.Encode.{mostLength}
 use Rattle.recording.specs.Reader.{nothingKnown, knownOfBlock, settingsAt, reading}
 use Rattle.bits.proofs.Lists.{and-right}
 use Rattle.recording.proofs.Sections.{section-count, section-entries}
 use Rattle.exactness.proofs.Entries.{num-front, block-front, effect-front, row-front}
-use Rattle.recording.proofs.Between.{block-room, effects-whole, rows-whole, read-block, read-effects, read-rows, left-over}
+use Rattle.recording.proofs.Between.{block-room, section-whole, read-block, read-effects, read-rows, left-over}
 use Rattle.recording.proofs.Cases.{reading-cases}
 
 -- ## One section
@@ -65,17 +66,17 @@ module _ (kind : Kind) (k : Known) (m : ℕ) (s : List ℕ) (at : ℕ) (long : m
 
 -- ## The file
 
-module _ (s : List ℕ) (long : 49258 < length s) where
+module _ (s : List ℕ) (long : mostLength < length s) where
   abbrev front : List ℕ
-  front = take 49259 s
+  front = take (mostLength + 1) s
 
   block-same : sectionOf Block nothingKnown s 0 ≡ sectionOf Block nothingKnown front 0
-  block-same = section-front Block nothingKnown 49259 s 0 long (omega arith)
+  block-same = section-front Block nothingKnown (mostLength + 1) s 0 long (omega arith)
 
   known-of-block-same : knownOfBlock s ≡ knownOfBlock front
   known-of-block-same =
-      let c = num-front 49259 1 s 2 (omega arith) in
-      let o = num-front 49259 1 s 3 (omega arith) in
+      let c = num-front (mostLength + 1) 1 s 2 (omega arith) in
+      let o = num-front (mostLength + 1) 1 s 3 (omega arith) in
       λ i. record { causes = sym c i; count = 0; options = sym o i }
 
   module _ (e : ℕ) (b : sectionOf Block nothingKnown s 0 ≡ S.Next e) where
@@ -84,23 +85,23 @@ module _ (s : List ℕ) (long : 49258 < length s) where
 
     effects-same : sectionOf Effects (knownOfBlock s) s e ≡ sectionOf Effects (knownOfBlock front) front e
     effects-same =
-        section-front Effects (knownOfBlock s) 49259 s e long (omega (arith, six)) ∙ ap (λ (k : Known). sectionOf Effects k front e) known-of-block-same
+        section-front Effects (knownOfBlock s) (mostLength + 1) s e long (omega (arith, six)) ∙ ap (λ (k : Known). sectionOf Effects k front e) known-of-block-same
 
     known-same : knownOf (settingsAt s e) ≡ knownOf (settingsAt front e)
     known-same =
-        let n = num-front 49259 2 s e (omega (arith, six)) in
+        let n = num-front (mostLength + 1) 2 s e (omega (arith, six)) in
         λ i. record { causes = known-of-block-same i .causes; count = sym n i; options = known-of-block-same i .options }
 
     module _ (r : ℕ) (f : sectionOf Effects (knownOfBlock s) s e ≡ S.Next r) where
       rows-by : r ≤ 104
-      rows-by = let w = effects-whole s (knownOfBlock s) e r f in omega (arith, six, w .most, w .passed .next)
+      rows-by = let w = section-whole Effects (knownOfBlock s) s e r f in omega (arith, six, w .most, w .passed .next)
 
       rows-same : sectionOf Rows (knownOf (settingsAt s e)) s r ≡ sectionOf Rows (knownOf (settingsAt front e)) front r
       rows-same =
-          section-front Rows (knownOf (settingsAt s e)) 49259 s r long (omega (arith, rows-by)) ∙ ap (λ (k : Known). sectionOf Rows k front r) known-same
+          section-front Rows (knownOf (settingsAt s e)) (mostLength + 1) s r long (omega (arith, rows-by)) ∙ ap (λ (k : Known). sectionOf Rows k front r) known-same
 
-      end-by : (end : ℕ) → sectionOf Rows (knownOf (settingsAt s e)) s r ≡ S.Next end → end ≤ 49258
-      end-by end g = let w = rows-whole s (knownOf (settingsAt s e)) r end g in omega (arith, rows-by, w .most, w .passed .next)
+      end-by : (end : ℕ) → sectionOf Rows (knownOf (settingsAt s e)) s r ≡ S.Next end → end ≤ mostLength
+      end-by end g = let w = section-whole Rows (knownOf (settingsAt s e)) s r end g in omega (arith, rows-by, w .most, w .passed .next)
 
   pub reading-of-front : reading s ≡ reading front
   unfolding reading
@@ -111,6 +112,6 @@ module _ (s : List ℕ) (long : 49258 < length s) where
       (λ e r k p t g. sym (read-effects front e (sym block-same ∙ t .block) r (sym (effects-same e (t .block)) ∙ t .effects) ∙ rw (← rows-same e (t .block) r (t .effects), g)))
       (λ e r end t d.
       let u = t .before in
-      left-over front e r end (λ q. omega (arith, q, end-by e (u .block) r (u .effects) end (t .rows), length-take-le 49259 s long))
+      left-over front e r end (λ q. omega (arith, q, end-by e (u .block) r (u .effects) end (t .rows), length-take-le (mostLength + 1) s long))
       ∙ sym (read-rows front e (sym block-same ∙ u .block) r (sym (effects-same e (u .block)) ∙ u .effects) end (sym (rows-same e (u .block) r (u .effects)) ∙ t .rows)))
       (λ e r t. let h = end-by e (t .before .block) r (t .before .effects) (length s) (t .rows) in absurd (omega (arith, h)))

@@ -7,12 +7,14 @@ use native.Mathlib.Omega.{arith}
 use lib.Count.{ones, onesIn}
 use lib.ListN.{length, replicate, take, length-replicate}
 use Rattle.settings.specs.declared.Settings.{Settings}
-use Rattle.settings.specs.declared.Words.{Words}
 use Rattle.settings.specs.declared.Row.{Row}
 use Rattle.settings.specs.declared.Known.{Known}
 use Rattle.settings.specs.Right.{knownOf, settingsNumber, wordsNumber, rowNumber}
 use Rattle.settings.specs.Signals.{noEffect}
-use Rattle.recording.specs.Encode.{encode, All, Right}
+use Rattle.settings.specs.Zeros.{noWords}
+use Rattle.recording.specs.declared.Kind.the-variants.{Rows}
+use Rattle.recording.specs.Sections.{mostOf}
+use Rattle.recording.specs.Encode.{encode, leastLength, mostLength, All, Right}
 use Rattle.exactness.proofs.Exact.{length-encode}
 
 -- one cause, and n effects without delay
@@ -26,48 +28,33 @@ plain n =
       effects = take 16 (replicate n (record { association = 1; delay = 0 }) ++ replicate 16 noEffect);
     }
 
-zero-words : Words
-zero-words =
-    record {
-      values = 0;
-      bad = 0;
-      mask = 0;
-      «require_reset» = 0;
-      «reset_permit» = 0;
-      «start_permit» = 0;
-      reset = 0;
-      «force_permit» = 0;
-      «force_trip» = 0;
-      «force_normal» = 0;
-    }
-
 pub quiet : Row
-quiet = record { hold = 1; words = zero-words }
+quiet = record { hold = 1; words = noWords }
 
 all-same : (k : Known) (r : Row) → rowNumber k r ≡ 0 → (n : ℕ) → All (rowNumber k) (replicate n r)
 all-same k r h zero = tt
 all-same k r h (suc n) = (h, all-same k r h n)
 
 shortest-right : Right (plain 1) (quiet ∷ [])
-unfolding plain quiet zero-words settingsNumber rowNumber wordsNumber ones onesIn
+unfolding plain quiet settingsNumber rowNumber wordsNumber ones onesIn
 shortest-right = record { settings = refl; slots = refl; rows-least = omega arith; rows-most = omega arith; each-row = (refl, tt) }
 
-pub shortest : Right (plain 1) (quiet ∷ []) × (length (encode (plain 1) (quiet ∷ [])) ≡ 40)
+pub shortest : Right (plain 1) (quiet ∷ []) × (length (encode (plain 1) (quiet ∷ [])) ≡ leastLength)
 unfolding plain
 shortest = (shortest-right, length-encode (plain 1) (quiet ∷ []) shortest-right)
 
-longest-right : Right (plain 16) (replicate 2048 quiet)
-unfolding plain quiet zero-words settingsNumber rowNumber wordsNumber ones onesIn
+longest-right : Right (plain 16) (replicate (mostOf Rows) quiet)
+unfolding plain quiet settingsNumber rowNumber wordsNumber ones onesIn
 longest-right =
-    let n = length-replicate 2048 quiet in
+    let n = length-replicate (mostOf Rows) quiet in
     record {
       settings = refl;
       slots = refl;
       rows-least = omega (arith, n);
       rows-most = omega (arith, n);
-      each-row = all-same (knownOf (plain 16)) quiet refl 2048;
+      each-row = all-same (knownOf (plain 16)) quiet refl (mostOf Rows);
     }
 
-pub longest : Right (plain 16) (replicate 2048 quiet) × (length (encode (plain 16) (replicate 2048 quiet)) ≡ 49258)
+pub longest : Right (plain 16) (replicate (mostOf Rows) quiet) × (length (encode (plain 16) (replicate (mostOf Rows) quiet)) ≡ mostLength)
 unfolding plain
-longest = (longest-right, length-encode (plain 16) (replicate 2048 quiet) longest-right ∙ omega (arith, length-replicate 2048 quiet))
+longest = (longest-right, length-encode (plain 16) (replicate (mostOf Rows) quiet) longest-right ∙ omega (arith, length-replicate (mostOf Rows) quiet))

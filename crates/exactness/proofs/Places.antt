@@ -14,13 +14,15 @@ use Rattle.settings.specs.declared.Row.{Row}
 use Rattle.settings.specs.Right.{knownOf}
 use Rattle.recording.specs.declared.Reading.{Reading}
 use Rattle.recording.specs.declared.Step.the-variants as T
+use Rattle.recording.specs.declared.Kind.the-variants.{Rows}
 use Rattle.recording.specs.Entries.{rowAt}
+use Rattle.recording.specs.Sections.{widthOf}
 use Rattle.recording.specs.Reader.{settingsAt, reading}
 use Rattle.recording.specs.Answers.{rowCount, firstRow, rowWidth}
 use Rattle.recording.specs.Steps.{rowIn, isPlace, stepIn, rowsIn}
 use Rattle.recording.specs.Refused.{ToEnd}
 use Rattle.bits.proofs.Lists.{and-left, and-right}
-use Rattle.recording.proofs.Between.{rows-whole}
+use Rattle.recording.proofs.Between.{section-whole}
 use Rattle.exactness.proofs.Refusals.{said-or-accepted}
 use Rattle.recording.proofs.Steps.{refusal-ended}
 
@@ -36,23 +38,23 @@ module _ {A : Type 0} where
 
 -- ## Places, by arithmetic
 
-place-yes : (first n len i : ℕ) → len ≡ first + 24 * n → i < n → isPlace first 24 len (first + 24 * i) ≡ true
+place-yes : (first n len i : ℕ) → len ≡ first + widthOf Rows * n → i < n → isPlace first (widthOf Rows) len (first + widthOf Rows * i) ≡ true
 place-yes first n len i e l =
-    let at = first + 24 * i in
-    let z : (at - first) % 24 ≡ 0 = omega arith in
-    rw (le-leb first at (omega arith), lt-ltb at len (omega (arith, e)), eq-eqb ((at - first) % 24) 0 z)
+    let at = first + widthOf Rows * i in
+    let z : (at - first) % widthOf Rows ≡ 0 = omega arith in
+    rw (le-leb first at (omega arith), lt-ltb at len (omega (arith, e)), eq-eqb ((at - first) % widthOf Rows) 0 z)
 
-place-no : (first n len at : ℕ) → len ≡ first + 24 * n → ((i : ℕ) → i < n → at ≡ first + 24 * i → ⊥) → isPlace first 24 len at ≡ false
-place-no first n len at e none = go (isPlace first 24 len at) refl
+place-no : (first n len at : ℕ) → len ≡ first + widthOf Rows * n → ((i : ℕ) → i < n → at ≡ first + widthOf Rows * i → ⊥) → isPlace first (widthOf Rows) len at ≡ false
+place-no first n len at e none = go (isPlace first (widthOf Rows) len at) refl
   where
-    go : (b : Bool) → isPlace first 24 len at ≡ b → isPlace first 24 len at ≡ false
+    go : (b : Bool) → isPlace first (widthOf Rows) len at ≡ b → isPlace first (widthOf Rows) len at ≡ false
     go false q = q
     go true q =
-        let both = and-left (leb first at && ltb at len) (eqb ((at - first) % 24) 0) q in
-        let z = eqb-true ((at - first) % 24) 0 (and-right (leb first at && ltb at len) (eqb ((at - first) % 24) 0) q) in
+        let both = and-left (leb first at && ltb at len) (eqb ((at - first) % widthOf Rows) 0) q in
+        let z = eqb-true ((at - first) % widthOf Rows) 0 (and-right (leb first at && ltb at len) (eqb ((at - first) % widthOf Rows) 0) q) in
         let lo = leb-true first at (and-left (leb first at) (ltb at len) both) in
         let hi = ltb-true at len (and-right (leb first at) (ltb at len) both) in
-        absurd (none ((at - first) / 24) (omega (arith, z, lo, hi, e)) (omega (arith, z, lo)))
+        absurd (none ((at - first) / widthOf Rows) (omega (arith, z, lo, hi, e)) (omega (arith, z, lo)))
 
 -- ## At each way that a reading goes
 
@@ -60,8 +62,8 @@ module _ (s : List ℕ) where
   abbrev place : Reading → ℕ → ℕ
   place x i = firstRow (x .answer) + rowWidth (x .answer) * i
 
-  rows-end : (e r : ℕ) → ToEnd s e r (length s) → length s ≡ r + 2 + 24 * numAt 2 s r
-  rows-end e r t = rows-whole s (knownOf (settingsAt s e)) r (length s) (t .rows) .passed .next
+  rows-end : (e r : ℕ) → ToEnd s e r (length s) → length s ≡ r + 2 + widthOf Rows * numAt 2 s r
+  rows-end e r t = section-whole Rows (knownOf (settingsAt s e)) s r (length s) (t .rows) .passed .next
 
   -- at a row's place the inner function gives what the outer one gives
   abbrev Same : Reading → Type 0
@@ -82,20 +84,20 @@ module _ (s : List ℕ) where
       said-or-accepted s (There d)
       (λ n p c i l. absurd (omega (arith, l)))
       (λ e r t i l.
-      let at = r + 2 + 24 * i in
-      let next : at + 24 ≡ r + 2 + 24 * suc i = omega arith in
-      rw (le-leb (at + 24) (length s) (omega (arith, rows-end e r t, l)), getD-listOf (rowAt s) 24 (numAt 2 s r) (r + 2) i d l, next))
+      let at = r + 2 + widthOf Rows * i in
+      let next : at + widthOf Rows ≡ r + 2 + widthOf Rows * suc i = omega arith in
+      rw (le-leb (at + widthOf Rows) (length s) (omega (arith, rows-end e r t, l)), getD-listOf (rowAt s) (widthOf Rows) (numAt 2 s r) (r + 2) i d l, next))
 
   -- and the row's bytes are there to be read, without a look at the width
   abbrev Within : Row → Reading → Type 0
   Within d x = (i : ℕ) → i < rowCount (x .answer)
-      → (place x i + 24 ≤ length s) × (rowAt s (place x i) ≡ getD (rowsIn (x .answer) s) i d) × (rowWidth (x .answer) ≡ 24)
+      → (place x i + widthOf Rows ≤ length s) × (rowAt s (place x i) ≡ getD (rowsIn (x .answer) s) i d) × (rowWidth (x .answer) ≡ widthOf Rows)
 
   pub row-within : (d : Row) → Within d (reading s)
   row-within d =
       said-or-accepted s (Within d)
       (λ n p c i l. absurd (omega (arith, l)))
-      (λ e r t i l. (omega (arith, rows-end e r t, l), sym (getD-listOf (rowAt s) 24 (numAt 2 s r) (r + 2) i d l), refl))
+      (λ e r t i l. (omega (arith, rows-end e r t, l), sym (getD-listOf (rowAt s) (widthOf Rows) (numAt 2 s r) (r + 2) i d l), refl))
 
   -- elsewhere it has ended
   abbrev Elsewhere : ℕ → Reading → Type 0

@@ -27,7 +27,7 @@ use Rattle.recording.specs.Sections.{entries, section, widthOf, numberOf, count
 use Rattle.recording.specs.Answers.{sectionNumber, sectionPlace}
 use Rattle.recording.specs.Reader.{nothingKnown, knownOfBlock, settingsAt, refusal, reading}
 use Rattle.recording.specs.Refused.{Reached, EntryStops, Stops, ToEnd, Refused}
-use Rattle.recording.proofs.Between.{read-block, read-effects, read-rows, rows-whole, left-over}
+use Rattle.recording.proofs.Between.{read-block, read-effects, section-whole, read-rows, left-over}
 use Rattle.recording.proofs.Cases.{reading-cases, acceptance, not-accepted}
 use Rattle.recording.proofs.Sections.{entries-short, entries-bad, entries-step, section-short, section-count, section-entries}
 
@@ -201,7 +201,7 @@ said-or-accepted s P refuses accepts =
     (λ k p b. refuses k p (Refused.in-block k p (refuses-stops Block nothingKnown s 0 k p b)))
     (λ e k p b f. refuses k p (Refused.in-effects k p e b (refuses-stops Effects (knownOfBlock s) s e k p f)))
     (λ e r k p t g. refuses k p (Refused.in-rows k p e r t (refuses-stops Rows (knownOf (settingsAt s e)) s r k p g)))
-    (λ e r end t d. refuses 7 end (Refused.spare e r end t (let i = rows-whole s (knownOf (settingsAt s e)) r end (t .rows) .passed .inside in omega (arith, i, d))))
+    (λ e r end t d. refuses 7 end (Refused.spare e r end t (let i = section-whole Rows (knownOf (settingsAt s e)) s r end (t .rows) .passed .inside in omega (arith, i, d))))
     accepts
 
 -- a refusal's number and place are those that are said of the bytes

@@ -14,13 +14,15 @@ use Rattle.settings.specs.declared.Known.{Known}
 use Rattle.recording.specs.declared.Answer.the-variants as A
 use Rattle.recording.specs.declared.Reading.{Reading}
 use Rattle.recording.specs.declared.Kind.{Kind}
+use Rattle.recording.specs.declared.Kind.the-variants.{Rows}
 use Rattle.recording.specs.Entries.{rowAt, putRow}
 use Rattle.recording.specs.Reader.{refusal, reading}
-use Rattle.recording.specs.Answers.{number, place, rowCount, firstRow, rowWidth, sectionNumber, sectionPlace, ended, noRow, stepRow, nextPlace}
+use Rattle.recording.specs.Answers.{number, place, rowCount, firstRow, rowWidth, sectionNumber, sectionPlace, ended, stepRow, nextPlace}
+use Rattle.settings.specs.Zeros.{noRow}
 use Rattle.recording.specs.Steps.{rowIn, stepAt, rowsOf}
 use Rattle.recording.specs.Accepted.{Accepted, Answers}
-use Rattle.recording.specs.Encode.{encode, opening, Right}
-use Rattle.recording.specs.Sections.{sectionOf}
+use Rattle.recording.specs.Encode.{encode, opening, openingLength, leastLength, mostLength, Right}
+use Rattle.recording.specs.Sections.{widthOf, sectionOf}
 use Rattle.recording.specs.Refused.{Stops, Refused}
 use Rattle.exactness.proofs.Right.{in-parts}
 use Rattle.exactness.proofs.Places.{same-at-place, row-at-place, row-within, ended-elsewhere as nothing-elsewhere}
@@ -40,7 +42,7 @@ accepted-is-encoding s bytes h = accepted-encodes s bytes h
 pub accepted-is-right : (s : List ℕ) → Accepted s → Right (reading s .settings) (rowsOf s)
 accepted-is-right = accepted-right
 
--- and the encoding of right settings and 1 to 2,048 right rows is accepted, and answered by them
+-- and the encoding of right settings and right rows is accepted, and answered by them
 pub encoding-is-accepted : (st : Settings) (rows : List Row) → Right st rows → Answers (encode st rows) st rows
 encoding-is-accepted st rows right = rw (complete st rows right) (refl, refl, refl, refl, refl, rows-are-back st rows right)
 
@@ -68,13 +70,13 @@ unfolding stepAt
 row-at-its-place s i l = rw (sym (same-at-place s i l) ∙ row-at-place s noRow i l) (refl, refl, refl)
 
 -- the first row stands after the opening
-pub first-row-after-the-opening : (s : List ℕ) → Accepted s → firstRow (reading s .answer) ≡ 10 + 6 * reading s .settings .count
+pub first-row-after-the-opening : (s : List ℕ) → Accepted s → firstRow (reading s .answer) ≡ openingLength (reading s .settings)
 first-row-after-the-opening = first-row-place
 
 -- a row's bytes are there to be read
 pub row-in-the-file : (s : List ℕ) (i : ℕ) → i < rowCount (reading s .answer)
     → let at = firstRow (reading s .answer) + rowWidth (reading s .answer) * i in
-    (at + 24 ≤ length s) × (rowAt s at ≡ getD (rowsOf s) i noRow) × (rowWidth (reading s .answer) ≡ 24)
+    (at + widthOf Rows ≤ length s) × (rowAt s at ≡ getD (rowsOf s) i noRow) × (rowWidth (reading s .answer) ≡ widthOf Rows)
 row-in-the-file s = row-within s noRow
 
 -- at any other place of any bytes the step has ended
@@ -127,12 +129,12 @@ spare-is-seven st rows right q h = let e = spare st rows right q h in (ap (λ (x
 
 -- an accepted file has 40 to 49,258 bytes
 pub accepted-length : (s : List ℕ) → Bytes s → Accepted s
-    → (length s ≡ 10 + 6 * reading s .settings .count + 24 * rowCount (reading s .answer)) × (40 ≤ length s) × (length s ≤ 49258)
+    → (length s ≡ openingLength (reading s .settings) + widthOf Rows * rowCount (reading s .answer)) × (leastLength ≤ length s) × (length s ≤ mostLength)
 accepted-length s bytes h =
     let e = accepted-encodes s bytes h in
     let st = reading s .settings in
     let p = in-parts st (e .0 .slots) (e .0 .settings) in
-    let len : length s ≡ 10 + 6 * st .count + 24 * length (rowsOf s) = ap length (sym (e .1)) ∙ length-encode st (rowsOf s) (e .0) in (
+    let len : length s ≡ openingLength st + widthOf Rows * length (rowsOf s) = ap length (sym (e .1)) ∙ length-encode st (rowsOf s) (e .0) in (
       rw length-rowsOf at len,
       omega (arith, len, p .least, e .0 .rows-least),
       omega (arith, len, p .most, e .0 .rows-most),
@@ -140,6 +142,6 @@ accepted-length s bytes h =
 
 -- both are had: `Lengths` has a recording of each length
 
--- bytes longer than that are answered as their first 49,259 are
-pub long-as-front : (s : List ℕ) → 49258 < length s → reading s ≡ reading (take 49259 s)
+-- bytes longer than that are answered as their first 49,259 are, one more
+pub long-as-front : (s : List ℕ) → mostLength < length s → reading s ≡ reading (take (mostLength + 1) s)
 long-as-front = reading-of-front

@@ -3,7 +3,7 @@
 use mathlib.Core.Path.{_≡_, refl, _∙_}
 use mathlib.Core.List.{List, _++_, append-assoc, flatMap}
 use mathlib.Core.Logic.{_⊎_, inl, inr}
-use Prim.Native.Nat.{ℕ, _+_, _*_}
+use Prim.Native.Nat.{ℕ}
 use native.Mathlib.Omega.{arith}
 use lib.ListN.{length}
 use lib.Seq.{take-length}
@@ -12,15 +12,16 @@ use Rattle.settings.specs.declared.Row.{Row}
 use Rattle.settings.specs.declared.Settings.{Settings}
 use Rattle.recording.specs.declared.Answer.the-variants as A
 use Rattle.recording.specs.declared.Reading.{Reading}
+use Rattle.recording.specs.declared.Kind.the-variants.{Effects}
 use Rattle.recording.specs.Entries.{rowAt, putRow}
 use Rattle.recording.specs.Reader.{knownOfBlock, reading}
 use Rattle.recording.specs.Answers.{number, rowCount, firstRow, rowWidth}
 use Rattle.recording.specs.Steps.{rowsIn, rowsOf}
-use Rattle.recording.specs.Encode.{encode, opening, Right}
+use Rattle.recording.specs.Encode.{encode, opening, openingLength, Right}
 use Rattle.recording.specs.Refused.{ToEnd}
 use Rattle.recording.proofs.Lists.{length-listOf}
 use Rattle.exactness.proofs.Refusals.{Given, file-gives, said-or-accepted}
-use Rattle.recording.proofs.Between.{block-room, effects-whole}
+use Rattle.recording.proofs.Between.{block-room, section-whole}
 use Rattle.recording.proofs.Cases.{acceptance}
 use Rattle.exactness.proofs.Exact.{right-at, encoded-at}
 
@@ -54,10 +55,10 @@ pub accepted-case : (s : List ℕ) → number (reading s .answer) ≡ 0
 accepted-case s = when-accepted s (λ x. x .answer ≡ A.Accepted (rowCount (x .answer)) (firstRow (x .answer)) (rowWidth (x .answer))) (λ e r t. refl)
 
 -- the first row stands after the opening
-pub first-row-place : (s : List ℕ) → number (reading s .answer) ≡ 0 → firstRow (reading s .answer) ≡ 10 + 6 * reading s .settings .count
+pub first-row-place : (s : List ℕ) → number (reading s .answer) ≡ 0 → firstRow (reading s .answer) ≡ openingLength (reading s .settings)
 first-row-place s =
-    when-accepted s (λ x. firstRow (x .answer) ≡ 10 + 6 * x .settings .count)
-    (λ e r t. omega (arith, block-room s e (t .before .block) .0, effects-whole s (knownOfBlock s) e r (t .before .effects) .passed .next))
+    when-accepted s (λ x. firstRow (x .answer) ≡ openingLength (x .settings))
+    (λ e r t. omega (arith, block-room s e (t .before .block) .0, section-whole Effects (knownOfBlock s) s e r (t .before .effects) .passed .next))
 
 -- the count that is answered is the number of the rows
 pub length-rowsOf : (s : List ℕ) → length (rowsOf s) ≡ rowCount (reading s .answer)

@@ -13,8 +13,9 @@ use Rattle.recording.specs.declared.Section.{Section}
 use Rattle.recording.specs.declared.Section.the-variants as S
 use Rattle.recording.specs.declared.Answer.the-variants as A
 use Rattle.recording.specs.declared.Reading.{Reading}
+use Rattle.recording.specs.declared.Kind.{Kind}
 use Rattle.recording.specs.declared.Kind.the-variants.{Block, Effects, Rows}
-use Rattle.recording.specs.Sections.{widthOf, testOf, sectionOf}
+use Rattle.recording.specs.Sections.{widthOf, leastOf, mostOf, testOf, sectionOf}
 use Rattle.recording.specs.Reader.{fromSection, nothingKnown, knownOfBlock, settingsAt, refusal, reading, afterBlock, afterEffects, afterRows}
 use Rattle.recording.proofs.Sections.{Whole, section-next}
 
@@ -31,11 +32,11 @@ block-room s e h =
     let next : e ≡ 6 = rw one at (w .passed .next) in
     (next, omega (arith, w .passed .inside, next))
 
-pub effects-whole : (s : List ℕ) (k : Known) (e r : ℕ) → sectionOf Effects k s e ≡ S.Next r → Whole (testOf Effects k s) 6 1 16 s e r
-effects-whole s k e r h = section-next _ _ _ _ _ s e r h
+abbrev pub WholeOf : Kind → Known → List ℕ → (at e : ℕ) → Type 0
+WholeOf kind k s at e = Whole (testOf kind k s) (widthOf kind) (leastOf kind) (mostOf kind) s at e
 
-pub rows-whole : (s : List ℕ) (k : Known) (r end : ℕ) → sectionOf Rows k s r ≡ S.Next end → Whole (testOf Rows k s) 24 1 2048 s r end
-rows-whole s k r end h = section-next _ _ _ _ _ s r end h
+pub section-whole : (kind : Kind) (k : Known) (s : List ℕ) (at e : ℕ) → sectionOf kind k s at ≡ S.Next e → WholeOf kind k s at e
+section-whole kind k s at e h = section-next _ _ _ _ _ s at e h
 
 -- ## The reading, as far as the sections that passed
 

@@ -57,7 +57,7 @@ not-accepted k p n f w h = let y : _≡_ {A = ℕ} 0 1 = cc in absurd (omega ari
 
 pub accepted-width : (s : List ℕ) (n f w : ℕ) → reading s .answer ≡ A.Accepted n f w → w ≡ widthOf Rows
 accepted-width s n f w =
-    reading-cases s (λ x. x .answer ≡ A.Accepted n f w → w ≡ 24)
+    reading-cases s (λ x. x .answer ≡ A.Accepted n f w → w ≡ widthOf Rows)
     (λ k p b h. not-accepted k p n f w h)
     (λ e k p b g h. not-accepted k p n f w h)
     (λ e r k p t g h. not-accepted k p n f w h)

@@ -1,10 +1,13 @@
 -- What is said of a file that the reader accepts. Document 01, "Recordings".
-use Prim.Native.Nat.{ℕ, _+_, _*_}
+use Prim.Native.Nat.{ℕ}
 use mathlib.Core.Path.{_≡_}
 use mathlib.Core.List.{List}
 use lib.ListN.{length}
 use Rattle.settings.specs.declared.Row.{Row}
 use Rattle.settings.specs.declared.Settings.{Settings}
+use Rattle.recording.specs.declared.Kind.the-variants.{Rows}
+use Rattle.recording.specs.Sections.{widthOf}
+use Rattle.recording.specs.Encode.{openingLength}
 use Rattle.recording.specs.Reader.{reading}
 use Rattle.recording.specs.Answers.{number, rowCount, firstRow, rowWidth}
 use Rattle.recording.specs.Steps.{rowsOf}
@@ -19,6 +22,6 @@ Answers s st rows =
     Accepted s
     × (reading s .settings ≡ st)
     × (rowCount (reading s .answer) ≡ length rows)
-    × (firstRow (reading s .answer) ≡ 10 + 6 * st .count)
-    × (rowWidth (reading s .answer) ≡ 24)
+    × (firstRow (reading s .answer) ≡ openingLength st)
+    × (rowWidth (reading s .answer) ≡ widthOf Rows)
     × (rowsOf s ≡ rows)

@@ -3,6 +3,7 @@
 use Prim.Native.Nat.{ℕ}
 use mathlib.Core.Bool.{Bool, true, false}
 use Rattle.settings.specs.declared.Row.{Row}
+use Rattle.settings.specs.Zeros.{noRow}
 use Rattle.recording.specs.declared.Section.{Section}
 use Rattle.recording.specs.declared.Section.the-variants as S
 use Rattle.recording.specs.declared.Answer.{Answer}
@@ -47,24 +48,6 @@ sectionPlace (S.Refused n p) = p
 abbrev pub ended : Step → Bool
 ended (T.Row row next) = false
 ended T.Ended = true
-
-abbrev pub noRow : Row
-noRow =
-    record {
-      hold = 0;
-      words = record {
-        values = 0;
-        bad = 0;
-        mask = 0;
-        «require_reset» = 0;
-        «reset_permit» = 0;
-        «start_permit» = 0;
-        reset = 0;
-        «force_permit» = 0;
-        «force_trip» = 0;
-        «force_normal» = 0;
-      };
-    }
 
 abbrev pub stepRow : Step → Row
 stepRow (T.Row row next) = row

@@ -1,5 +1,5 @@
 -- The bytes of a recording, and which settings and rows have one. Document 01, "Recordings".
-use Prim.Native.Nat.{ℕ, _≤_}
+use Prim.Native.Nat.{ℕ, _+_, _*_, _≤_}
 use mathlib.Core.Path.{_≡_}
 use mathlib.Core.List.{List, [], _∷_, _++_, flatMap}
 use lib.ListN.{length, take}
@@ -8,8 +8,8 @@ use Rattle.settings.specs.declared.Effect.{Effect}
 use Rattle.settings.specs.declared.Row.{Row}
 use Rattle.settings.specs.declared.Settings.{Settings}
 use Rattle.settings.specs.Right.{knownOf, settingsNumber, rowNumber}
-use Rattle.recording.specs.declared.Kind.the-variants.{Rows}
-use Rattle.recording.specs.Sections.{leastOf, mostOf}
+use Rattle.recording.specs.declared.Kind.the-variants.{Effects, Rows}
+use Rattle.recording.specs.Sections.{widthOf, leastOf, mostOf}
 use Rattle.recording.specs.Entries.{BlockEntry, putBlock, putEffect, putRow}
 
 abbrev pub blockOf : Settings → BlockEntry
@@ -30,12 +30,23 @@ encode st rows = counted putBlock (blockOf st ∷ []) ++ (counted putEffect (eff
 unfoldable pub opening : Settings → (rows : ℕ) → List ℕ
 opening st rows = counted putBlock (blockOf st ∷ []) ++ (counted putEffect (effectsOf st) ++ digits 2 rows)
 
+-- its length, which is the first row's place: three counts and the block's entry are ten bytes, and then there are the effects
+abbrev pub openingLength : Settings → ℕ
+openingLength st = 10 + widthOf Effects * st .count
+
+-- the bytes of the shortest recording and of the longest
+abbrev pub leastLength : ℕ
+leastLength = 40
+
+abbrev pub mostLength : ℕ
+mostLength = 49258
+
 -- nothing refuses any of them
 abbrev pub All : {A : Type 0} → (A → ℕ) → List A → Type 0
 All check [] = Unit {0}
 All check (a ∷ xs) = (check a ≡ 0) × All check xs
 
--- right settings and 1 to 2,048 right rows; the settings have their sixteen slots, as the array has
+-- right settings and as many right rows as a recording may have; the settings have their sixteen slots, as the array has
 pub record Right (st : Settings) (rows : List Row) : Type 0 where
   pub settings : settingsNumber st ≡ 0
   pub slots : length (st .effects) ≡ 16

@@ -3,7 +3,7 @@ pub mod Sections
 pub mod Reader
 pub mod Answers
 pub mod Steps
-pub mod Accepted
 pub mod Encode
+pub mod Accepted
 pub mod Refused
 pub mod Barred

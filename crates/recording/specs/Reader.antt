@@ -9,6 +9,7 @@ use Rattle.settings.specs.declared.Settings.{Settings}
 use Rattle.settings.specs.declared.Known.{Known}
 use Rattle.settings.specs.Right.{knownOf}
 use Rattle.settings.specs.Signals.{noEffect}
+use Rattle.settings.specs.Zeros.{noSettings}
 use Rattle.recording.specs.declared.Section.{Section}
 use Rattle.recording.specs.declared.Section.the-variants as S
 use Rattle.recording.specs.declared.Answer.the-variants as A
@@ -41,9 +42,6 @@ knownOfBlock s = record { causes = blockAt s 2 .causes; count = 0; options = blo
 -- ## The reading
 
 -- a refusal returns its number, a place, and zeros
-abbrev pub noSettings : Settings
-noSettings = record { causes = 0; options = 0; period = 0; count = 0; effects = replicate 16 noEffect }
-
 abbrev pub refusal : (number place : ℕ) → Reading
 refusal number place = record { answer = A.Refused number place; settings = noSettings }
 

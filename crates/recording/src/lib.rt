@@ -10,6 +10,7 @@ ghost use Prim.Native.Nat.{_+_, _*_, _-_, _≤_, _<_};
 ghost use lib.ListN.{length, replicate};
 ghost use Rattle.bits.specs.Numbers.{numAt};
 ghost use Rattle.settings.specs.Signals.{noEffect};
+ghost use Rattle.recording.specs.declared.Kind.the-variants.{Rows};
 ghost use Rattle.recording.specs.Entries.{effectAt, wordsAt, rowAt};
 ghost use Rattle.bits.specs.Lists.{listOf};
 ghost use Rattle.recording.specs.Sections.{widthOf, leastOf, mostOf, numberOf, countOk, testOf, sectionOf};
@@ -62,6 +63,11 @@ pub enum Step {
 
 // ---- entries
 
+// A row's bytes, and the most rows of a recording: `widthOf` and `mostOf` of rows.
+const ROW_BYTES: usize = 24;
+
+const MOST_ROWS: u16 = 2048;
+
 fn effect_at(s: &[u8], at: usize) -> Effect
     requires { ⌜ at + 6 ≤ length (now s) ⌝ }
     ensures { λ r. ⌜ r ≡ effectAt (now (s .entry)) at ⌝ }
@@ -93,7 +99,7 @@ pub fn words_at(s: &[u8], at: usize) -> Words
 
 // The row at a place that is known to be a row's, as the callers that have read the file know it.
 pub fn row_at(s: &[u8], at: usize) -> Row
-    requires { ⌜ at + 24 ≤ length (now s) ⌝ }
+    requires { ⌜ at + widthOf Rows ≤ length (now s) ⌝ }
     ensures { λ r. ⌜ r ≡ rowAt (now (s .entry)) at ⌝ }
 {
     Row {
@@ -111,7 +117,7 @@ pub fn width_of(kind: Kind) -> usize
     match kind {
         Kind::Block => 4,
         Kind::Effects => 6,
-        Kind::Rows => 24,
+        Kind::Rows => ROW_BYTES,
     }
 }
 
@@ -139,7 +145,7 @@ fn most_of(kind: Kind) -> u16
     match kind {
         Kind::Block => 1,
         Kind::Effects => 16,
-        Kind::Rows => 2048,
+        Kind::Rows => MOST_ROWS,
     }
 }
 

@@ -12,8 +12,9 @@ ghost use Rattle.settings.specs.Limits.{mostHold};
 ghost use Rattle.settings.specs.Right.{rowNumber};
 ghost use Rattle.recording.specs.declared.Kind.the-variants.{Rows};
 ghost use Rattle.recording.specs.Entries.{rowAt};
-ghost use Rattle.recording.specs.Sections.{testOf};
+ghost use Rattle.recording.specs.Sections.{widthOf, testOf};
 ghost use Rattle.recording.specs.Barred.{absentOf, fourOf, barsOf, Skipped};
+use super::ROW_BYTES;
 use settings::Known;
 use settings::Row;
 
@@ -83,7 +84,7 @@ fn forces_right(several: bool, third: u64) -> bool
 
 // The row at `at` is right.
 fn row_right(b: Bars, s: &[u8], at: usize) -> bool
-    requires { ⌜ at + 24 ≤ length (now s) ⌝ }
+    requires { ⌜ at + widthOf Rows ≤ length (now s) ⌝ }
     ensures { λ r. ⌜ ((k : Known) → b ≡ barsOf k → r ≡ eqb (rowNumber k (rowAt (now (s .entry)) at)) 0) ⌝ }
 {
     let first = bits::get64(s, at);
@@ -101,17 +102,17 @@ fn least(a: usize, b: usize) -> usize
 // How many of the n rows from `at` are whole and right before the first that is not.
 pub fn right_rows(known: Known, s: &[u8], n: u16, at: usize) -> u16
     requires { ⌜ at ≤ length (now s) ⌝ }
-    ensures { λ r. ⌜ Skipped (testOf Rows known (now (s .entry))) 24 (length (now (s .entry))) n at r ⌝ }
+    ensures { λ r. ⌜ Skipped (testOf Rows known (now (s .entry))) (widthOf Rows) (length (now (s .entry))) n at r ⌝ }
 {
     let bars = bars_of(known);
-    let whole = least(n as usize, (s.len() - at) / 24) as u16;
+    let whole = least(n as usize, (s.len() - at) / ROW_BYTES) as u16;
     let mut i = 0;
     let mut place = at;
     while i < whole {
         if !row_right(bars, s, place) {
             return i;
         }
-        place += 24;
+        place += ROW_BYTES;
         i += 1;
     }
     i

@@ -17,7 +17,8 @@ use Rattle.settings.proofs.Right.{count-few}
 use Rattle.block.specs.Scan.{scansNumber}
 use Rattle.block.proofs.Theorems.{a-fresh-state-is-right}
 use Rattle.recording.specs.declared.Answer.the-variants as A
-use Rattle.recording.specs.Answers.{number, place, rowCount, firstRow, rowWidth, noRow}
+use Rattle.recording.specs.Answers.{number, place, rowCount, firstRow, rowWidth}
+use Rattle.settings.specs.Zeros.{noRow}
 use Rattle.recording.specs.Encode.{Right}
 use Rattle.recording.specs.Reader.{reading}
 use Rattle.recording.specs.Steps.{rowPlace, rowsOf}

@@ -11,7 +11,8 @@ use Rattle.block.specs.declared.State.{State}
 use Rattle.block.specs.State.{fresh}
 use Rattle.block.specs.Scan.{scansNumber}
 use Rattle.block.specs.Held.{Stepped, run}
-use Rattle.recording.specs.Answers.{number, place, firstRow, rowWidth, noRow}
+use Rattle.recording.specs.Answers.{number, place, firstRow, rowWidth}
+use Rattle.settings.specs.Zeros.{noRow}
 use Rattle.recording.specs.Reader.{reading}
 use Rattle.recording.specs.Steps.{rowsOf}
 use Rattle.rerun.specs.declared.Replayed.{Replayed}

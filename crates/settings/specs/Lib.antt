@@ -2,3 +2,4 @@ pub mod Limits
 pub mod Refusals
 pub mod Right
 pub mod Signals
+pub mod Zeros

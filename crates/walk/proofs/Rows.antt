@@ -15,7 +15,10 @@ use Rattle.settings.specs.declared.Row.{Row}
 use Rattle.recording.specs.declared.Step.{Step}
 use Rattle.recording.specs.declared.Step.the-variants as T
 use Rattle.recording.specs.Reader.{reading}
-use Rattle.recording.specs.Answers.{rowCount, firstRow, ended, noRow, stepRow, nextPlace}
+use Rattle.recording.specs.Answers.{rowCount, firstRow, ended, stepRow, nextPlace}
+use Rattle.settings.specs.Zeros.{noRow}
+use Rattle.recording.specs.declared.Kind.the-variants.{Rows}
+use Rattle.recording.specs.Sections.{widthOf}
 use Rattle.recording.specs.Steps.{rowPlace, rowsOf}
 use Rattle.exactness.proofs.Theorems.{row-at-its-place, row-in-the-file, ended-elsewhere}
 use Rattle.exactness.proofs.Trips.{length-rowsOf}
@@ -44,7 +47,7 @@ module _ (s : RefT (List ℕ)) where
   past-all : (n : ℕ) → count ≤ n → (i : ℕ) → i < count → rowPlace (now s) n ≡ rowPlace (now s) i → ⊥
   past-all n h i l e =
       let first = firstRow (reading (now s) .answer) in
-      let same : first + 24 * n ≡ first + 24 * i = rw (row-in-the-file (now s) i l .2) at e in
+      let same : first + widthOf Rows * n ≡ first + widthOf Rows * i = rw (row-in-the-file (now s) i l .2) at e in
       omega (arith, same, h, l)
 
   ended-past : (n : ℕ) → count ≤ n → nextOf (atRow n) ≡ T.Ended

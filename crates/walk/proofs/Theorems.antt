@@ -14,7 +14,8 @@ use Rattle.settings.proofs.Refusals.{granted-refused}
 use Rattle.recording.specs.declared.Reading.{Reading}
 use Rattle.recording.specs.declared.Step.the-variants as T
 use Rattle.recording.specs.Reader.{reading}
-use Rattle.recording.specs.Answers.{number, place, rowCount, firstRow, ended, noRow, stepRow}
+use Rattle.recording.specs.Answers.{number, place, rowCount, firstRow, ended, stepRow}
+use Rattle.settings.specs.Zeros.{noRow}
 use Rattle.recording.specs.Steps.{stepAt, rowPlace, rowsOf}
 use Rattle.recording.specs.Refused.{Refused}
 use Rattle.recording.specs.Accepted.{Accepted}

@@ -18,10 +18,10 @@ use Rattle.settings.specs.Right.{settingsNumber}
 use Rattle.settings.proofs.Refusals.{or-else-none}
 use Rattle.settings.proofs.Right.{count-few}
 use Rattle.recording.specs.Entries.{putBlock, putEffect, putRow}
-use Rattle.recording.specs.Encode.{effectsOf, opening}
+use Rattle.recording.specs.Encode.{effectsOf, opening, openingLength}
 use Rattle.writing.specs.Writer.{openingNumber}
 use Rattle.recording.specs.declared.Kind.the-variants.{Rows}
-use Rattle.recording.specs.Sections.{numberOf, countOk as rowsOk}
+use Rattle.recording.specs.Sections.{widthOf, numberOf, countOk as rowsOk}
 
 pub opening-count : (st : Settings) (rows : ℕ) → openingNumber st rows ≡ 0 → st .count ≤ 16
 unfolding openingNumber
@@ -31,7 +31,7 @@ pub effect-length : (e : Effect) → length (putEffect e) ≡ 6
 unfolding putEffect
 effect-length e = refl
 
-pub row-length : (r : Row) → length (putRow r) ≡ 24
+pub row-length : (r : Row) → length (putRow r) ≡ widthOf Rows
 unfolding putRow
 row-length r = refl
 
@@ -46,7 +46,7 @@ module _ (st : Settings) (rows : ℕ) (count-is : length (effectsOf st) ≡ st .
   unfolding flatMap opening putBlock
   in-parts = rw count-is
 
-  pub opening-length : length (opening st rows) ≡ 10 + 6 * st .count
+  pub opening-length : length (opening st rows) ≡ openingLength st
   opening-length =
       ap length in-parts
       ∙ omega (arith, length-append (front ++ flatMap putEffect (effectsOf st)) (digits 2 rows), length-append front (flatMap putEffect (effectsOf st)), effects-length)
@@ -62,6 +62,6 @@ module _ (st : Settings) (rows : ℕ) (count-is : length (effectsOf st) ≡ st .
       sets-then l l₂ l₃ 0 (8 + 6 * st .count) (front ++ flatMap putEffect (effectsOf st)) (digits 2 rows) t p len ∙ ap (sets l 0) (sym in-parts)
 
 -- the opening of settings that are right, as the writer counts it
-pub right-length : (st : Settings) (rows : ℕ) → openingNumber st rows ≡ 0 → length (st .effects) ≡ 16 → length (opening st rows) ≡ 10 + 6 * st .count
+pub right-length : (st : Settings) (rows : ℕ) → openingNumber st rows ≡ 0 → length (st .effects) ≡ 16 → length (opening st rows) ≡ openingLength st
 right-length st rows h sixteen =
     opening-length st rows (length-take-le (st .count) (st .effects) (omega (arith, opening-count st rows h, sixteen)))

@@ -11,7 +11,7 @@ use Rattle.settings.specs.Refusals.{unless}
 use Rattle.settings.specs.Right.{knownOf, settingsNumber, rowNumber}
 use Rattle.settings.proofs.Refusals.{or-else-none, unless-none}
 use Rattle.recording.specs.declared.Kind.the-variants.{Rows}
-use Rattle.recording.specs.Sections.{numberOf, countOk}
+use Rattle.recording.specs.Sections.{leastOf, mostOf, numberOf, countOk}
 use Rattle.recording.specs.Encode.{All, Right}
 use Rattle.writing.specs.Writer.{openingNumber, rowPieceNumber}
 
@@ -29,7 +29,7 @@ module _ (st : Settings) where
   pub right-passes : (rows : List Row) → Right st rows → (openingNumber st (length rows) ≡ 0) × All (rowPieceNumber st) rows
   unfolding openingNumber
   right-passes rows r = (
-    rw (r .settings, le-leb 1 (length rows) (r .rows-least), le-leb (length rows) 2048 (r .rows-most)),
+    rw (r .settings, le-leb (leastOf Rows) (length rows) (r .rows-least), le-leb (length rows) (mostOf Rows) (r .rows-most)),
     rows-pass (r .settings) rows (r .each-row),
   )
 
@@ -42,7 +42,7 @@ module _ (st : Settings) where
       record {
         settings = both .0;
         slots = sixteen;
-        rows-least = leb-true 1 n (and-left (leb 1 n) (leb n 2048) count);
-        rows-most = leb-true n 2048 (and-right (leb 1 n) (leb n 2048) count);
+        rows-least = leb-true (leastOf Rows) n (and-left (leb (leastOf Rows) n) (leb n (mostOf Rows)) count);
+        rows-most = leb-true n (mostOf Rows) (and-right (leb (leastOf Rows) n) (leb n (mostOf Rows)) count);
         each-row = rows-back rows each;
       }

@@ -8,7 +8,9 @@ ghost use lib.ListN.{length, take};
 ghost use lib.Seq.{sets};
 ghost use Rattle.bits.specs.Layout.{pack};
 ghost use Rattle.recording.specs.Entries.{putEffect, putRow};
-ghost use Rattle.recording.specs.Encode.{opening};
+ghost use Rattle.recording.specs.declared.Kind.the-variants.{Rows};
+ghost use Rattle.recording.specs.Sections.{widthOf};
+ghost use Rattle.recording.specs.Encode.{opening, openingLength};
 ghost use Rattle.writing.specs.Writer.{openingNumber, rowPieceNumber, openingWritten, openingAfter, rowWritten, rowAfter};
 use recording::Kind;
 use settings::Effect;
@@ -61,7 +63,7 @@ fn put_five(s: &mut [u8], at: usize, a: u16, b: u16, c: u16, d: u16, e: u16)
 }
 
 fn put_row(s: &mut [u8], at: usize, row: Row)
-    requires { ⌜ at + 24 ≤ length (now s) ⌝ }
+    requires { ⌜ at + widthOf Rows ≤ length (now s) ⌝ }
     ensures { λ _. ⌜ now (s .exit) ≡ sets (now (s .entry)) at (putRow row) ⌝ }
 {
     let w = row.words;
@@ -124,9 +126,9 @@ fn put_block(s: &mut [u8], causes: u8, options: u8, period: u16, count: u16)
 
 // The opening piece at the start of `s`, with its length.
 fn put_opening(s: &mut [u8], st: Settings, rows: u16)
-    requires { ⌜ (st .count ≤ 16) × (10 + 6 * st .count ≤ length (now s)) ⌝ }
+    requires { ⌜ (st .count ≤ 16) × (openingLength st ≤ length (now s)) ⌝ }
     ensures { λ _. ⌜ now (s .exit) ≡ sets (now (s .entry)) 0 (opening st rows) ⌝ }
-    ensures { λ _. ⌜ length (opening st rows) ≡ 10 + 6 * st .count ⌝ }
+    ensures { λ _. ⌜ length (opening st rows) ≡ openingLength st ⌝ }
 {
     let n = st.count as usize;
     let effects = st.effects;

@@ -1,8 +1,7 @@
 -- `recording::read` meets its contract, from what its callees ensure and the tests on the way.
-use Rattle.recording.proofs.Between.{from-refused, left-over, accepted, block-room, effects-whole, rows-whole, read-block, read-effects, read-rows}
-use Rattle.recording.proofs.Sections.{Whole}
+use Rattle.recording.proofs.Between.{from-refused, left-over, accepted, block-room, WholeOf, section-whole, read-block, read-effects, read-rows}
 use Rattle.recording.specs.Reader.{nothingKnown, knownOfBlock, settingsAt, reading, afterRows}
-use Rattle.recording.specs.Sections.{testOf, sectionOf}
+use Rattle.recording.specs.Sections.{sectionOf}
 use Rattle.recording.specs.declared.Kind.the-variants.{Block, Effects, Rows}
 use Rattle.recording.specs.declared.Section.the-variants as S
 use Rattle.settings.specs.Right.{knownOf}
@@ -62,8 +61,8 @@ whole : (c : tie.After-known-told3) → let d = past-block (past-effects c) in
     reading (bytes d) ≡ afterRows (bytes d) (at-effects d) (at-rows (past-effects c)) (at-end c)
 whole c = read-rows _ _ (block-next (past-block (past-effects c))) _ (effects-next (past-effects c)) _ (rows-next c)
 
-effects-facts : (c : tie.After-known-told2) → let d = past-block c in Whole (testOf Effects (knownOfBlock (bytes d)) (bytes d)) 6 1 16 (bytes d) (at-effects d) (at-rows c)
-effects-facts c = effects-whole _ (knownOfBlock (bytes (past-block c))) _ _ (effects-next c)
+effects-facts : (c : tie.After-known-told2) → let d = past-block c in WholeOf Effects (knownOfBlock (bytes d)) (bytes d) (at-effects d) (at-rows c)
+effects-facts c = section-whole Effects (knownOfBlock (bytes (past-block c))) _ _ _ (effects-next c)
 
 -- ## The needs
 
@@ -100,10 +99,10 @@ returns-4 c =
     c .refused .ensures ∙ left-over (bytes p) (at-effects p) (at-rows (past-effects d)) (at-end d) (λ q. omega (arith, q, c .before .if1 .taken)) ∙ sym (whole d)
 
 get16-requires : tie.Need-get16-requires
-get16-requires c κs = rows-whole _ _ _ _ (rows-next (c .before)) .room
+get16-requires c κs = section-whole Rows _ _ _ _ (rows-next (c .before)) .room
 
 add-t11 : tie.Need-add-t11
-add-t11 c = let k = rows-whole _ _ _ _ (rows-next (c .before .before)) .room in omega (arith, k)
+add-t11 c = let k = section-whole Rows _ _ _ _ (rows-next (c .before .before)) .room in omega (arith, k)
 
 returns-5 : tie.Need-returns-5
 returns-5 c =

@@ -9,7 +9,7 @@ use borrow.Author.Needs.{needs}
 use borrow.Author.Tests.{not-false, eqb-true}
 use Rattle.settings.specs.declared.Known.{Known}
 use Rattle.recording.specs.declared.Kind.the-variants.{Rows}
-use Rattle.recording.specs.Sections.{testOf}
+use Rattle.recording.specs.Sections.{widthOf, testOf}
 use Rattle.recording.specs.Barred.{barsOf, Skipped}
 use Rattle.recording.proofs.Sections.{none-skipped, one-skipped}
 use Rattle.recording.proofs.quick.right_rows.Statement.{statement}
@@ -17,7 +17,7 @@ use Rattle.recording.proofs.quick.right_rows.Tie as tie
 
 abbrev Inv-loop : tie.InvT-loop
 Inv-loop s n at bars whole i₀ place₀ i place =
-    (i ≤ whole) × (whole ≤ n) × (at + 24 * whole ≤ length s) × (place ≡ at + 24 * i) × ((k : Known) → bars ≡ barsOf k → Skipped (testOf Rows k s) 24 (length s) n at i)
+    (i ≤ whole) × (whole ≤ n) × (at + widthOf Rows * whole ≤ length s) × (place ≡ at + widthOf Rows * i) × ((k : Known) → bars ≡ barsOf k → Skipped (testOf Rows k s) (widthOf Rows) (length s) n at i)
 
 abbrev μ-loop : tie.MeasureT-loop
 μ-loop s n at bars whole i₀ place₀ i place = whole - i
@@ -25,7 +25,7 @@ abbrev μ-loop : tie.MeasureT-loop
 loop-holds : tie.Need-loop-holds Inv-loop μ-loop
 loop-holds c =
     let a = c .before .before .before .args in
-    (omega arith, c .least .ensures .0, omega (arith, c .least .ensures .1), omega arith, λ k e. none-skipped (testOf Rows k (now (a .s))) 24 _ (a .n) (a .at) (c .before .before .before .pre))
+    (omega arith, c .least .ensures .0, omega (arith, c .least .ensures .1), omega arith, λ k e. none-skipped (testOf Rows k (now (a .s))) (widthOf Rows) _ (a .n) (a .at) (c .before .before .before .pre))
 
 returns : tie.Need-returns Inv-loop μ-loop
 returns c = c .before .before .before .loop .inv .4 _ (c .before .before .before .before .before .bars-of .ensures)
@@ -36,7 +36,7 @@ loop-again c =
     let r = c .before .row-right in
     let a = c .before .before .before .before .before .before .before .args in
     let place = l .inv .3 in
-    (omega arith, l .inv .1, l .inv .2, omega arith, λ k e. one-skipped (testOf Rows k (now (a .s))) 24 _ (a .n) (a .at) (l .i) (omega arith) (omega arith) (rw (← place) (eqb-true _ 0 (sym (r .ensures k e) ∙ not-false (r .result) (c .if1 .left)))) (l .inv .4 k e))
+    (omega arith, l .inv .1, l .inv .2, omega arith, λ k e. one-skipped (testOf Rows k (now (a .s))) (widthOf Rows) _ (a .n) (a .at) (l .i) (omega arith) (omega arith) (rw (← place) (eqb-true _ 0 (sym (r .ensures k e) ∙ not-false (r .result) (c .if1 .left)))) (l .inv .4 k e))
 
 returns-2 : tie.Need-returns-2 Inv-loop μ-loop
 returns-2 c = c .before .loop .inv .4 _ (c .before .before .before .bars-of .ensures)
