@@ -9,7 +9,7 @@ use native.Mathlib.Numerals.{add-one}
 use native.Mathlib.Omega.{arith}
 use borrow.Author.Tests.{not-true, not-false}
 use lib.ListN.{length, take, drop, set, getD, replicate, length-append, length-map, drop-of-length-le, List·getD-append}
-use lib.Seq.{set-at, sets, drop-cons, getD-at, take-suc, length-take-le}
+use lib.Seq.{set-at, sets, drop-cons, getD-at, take-suc}
 use Rattle.bits.specs.Lists.{tabulate, allFrom}
 use Rattle.bits.proofs.Numbers.{sets-append}
 
@@ -74,12 +74,6 @@ module _ {A : Type 0} where
   -- a part that is filled by index, with a rest after it
   pub getD-filled : (f : ℕ → A) (n : ℕ) (l : List A) (i : ℕ) (d : A) → i < n → getD (tabulate f n ++ l) i d ≡ f i
   getD-filled f n l i d h = List·getD-append (tabulate f n) l d i (rw length-tabulate h) ∙ getD-tabulate f n i d h
-
-  -- one more element copied to the front
-  pub copy-more : (s l : List A) (i : ℕ) (d : A) → i < length s → i < length l
-      → set (take i s ++ drop i l) i (getD s i d) ≡ take (i + 1) s ++ drop (i + 1) l
-  copy-more s l i d h k =
-      rw (drop-cons l i d, set-at (take i s) _ _ _ i (length-take-le i s (omega arith)), add-one, take-suc s i d, append-assoc)
 
   -- ## Tested by index
 

@@ -1,12 +1,13 @@
 -- Laws of numbers of w bytes, of entries of fixed layout, and of runs of stores.
 use mathlib.Core.Path.{_≡_, refl, sym, ap, ap₂, _∙_}
-use mathlib.Core.List.{List, [], _∷_, _++_, append-assoc}
-use Prim.Native.Nat.{ℕ, zero, suc, _+_, _*_, _/_, _%_, _^_, _≤_, _<_}
+use mathlib.Core.List.{List, [], _∷_, _++_, append-assoc, append-nil}
+use Prim.Native.Nat.{ℕ, zero, suc, _+_, _*_, _-_, _/_, _%_, _^_, _≤_, _<_}
 use native.Mathlib.Nat.{add-assoc, add-zero, zero-add, one-mul, div-one, div-add-mod', div-div-eq-div-mul, mod-lt, add-suc, suc-add, add-mul, mul-assoc, pow-suc, mul-comm, mul-right-comm}
 use native.Mathlib.Numerals.{add-one}
 use native.Mathlib.Omega.{arith}
-use lib.ListN.{length, getD, take, drop, set, length-append}
-use lib.Seq.{sets, drop-cons, getD-at, take-add, drop-drop}
+use borrow.Rule.Slice.PartMut.{midOf, putMid}
+use lib.ListN.{length, getD, take, drop, set, length-append, length-drop, drop-of-length-le}
+use lib.Seq.{sets, sets-eq, drop-cons, getD-at, take-add, take-all, drop-drop}
 use lib.Pow.{pow-add}
 use lib.Arith.{digits-div, digits-mod, digits-lt, mod-mul}
 use Rattle.bits.specs.Numbers.{Bytes, numAt, lowAt, turned, digits}
@@ -37,10 +38,16 @@ pub put-last : {A : Type 0} (l l′ : List A) (at n : ℕ) (vs : List A) (v : A)
     → set l′ n v ≡ sets l at (vs ++ (v ∷ []))
 put-last l l′ at n vs v p e = rw (p, e) (sym (sets-append l at vs (v ∷ [])))
 
--- one store more of a run of which the first i are done
-pub sets-turn : {A : Type 0} (l vs : List A) (at i : ℕ) (d : A) → i < length vs
-    → sets (set l (at + i) (getD vs i d)) (at + (i + 1)) (drop (i + 1) vs) ≡ sets l (at + i) (drop i vs)
-sets-turn l vs at i d h = rw (drop-cons vs i d h, add-one, add-suc)
+-- a part from `at` to the end that comes back with vs at its front: vs is stored at `at`
+pub part-stored : {A : Type 0} (vs l part : List A) (at : ℕ) → at + length vs ≤ length l → part ≡ vs ++ drop (length vs) (midOf at (length l - at) l)
+    → putMid at (length l - at) l part ≡ sets l at vs
+part-stored vs l part at h e =
+    let rest = drop at l in
+    let k = length l - at in
+    let n : length rest ≡ k = length-drop at l in
+    let all : take k rest ≡ rest = take-all k rest (omega (arith, n)) in
+    let none : drop k rest ≡ [] = drop-of-length-le rest {i = k} (omega (arith, n)) in
+    rw (e, all, none, append-nil, drop-drop (length vs) at l, sets-eq vs l at h, append-assoc)
 
 -- ---- a number of w bytes
 

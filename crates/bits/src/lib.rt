@@ -1,4 +1,5 @@
-// What every other crate counts on: bits of a word, big-endian numbers in a slice of bytes, and text. It rests on the kit alone.
+// What every other crate counts on: bits of a word, big-endian numbers in a slice of bytes, and text. It rests on the kit alone: what the
+// kit has, as copying bytes, is called there.
 // How a function comes to its answer may change without moving a contract; what the answer is stands in specs/, and the laws in
 // proofs/ are cited by name.
 ghost use mathlib.Core.Path.{_≡_};
@@ -177,11 +178,7 @@ pub fn copy_front(src: &[u8], n: usize, out: &mut [u8])
     requires { ⌜ (n ≤ length (now src)) × (n ≤ length (now out)) ⌝ }
     ensures { λ _. ⌜ now (out .exit) ≡ take n (now (src .entry)) ++ drop n (now (out .entry)) ⌝ }
 {
-    let mut i: usize = 0;
-    while i < n {
-        out[i] = src[i];
-        i += 1;
-    }
+    bytes::copy(&src[..n], out);
 }
 
 // ---- text
@@ -191,12 +188,7 @@ pub fn put_text(s: &mut [u8], at: usize, text: &[u8]) -> usize
     requires { ⌜ at + length (now text) ≤ length (now s) ⌝ }
     ensures { λ r. ⌜ (r ≡ at + length (now (text .entry))) × (now (s .exit) ≡ sets (now (s .entry)) at (now (text .entry))) ⌝ }
 {
-    let mut i: usize = 0;
-    while i < text.len() {
-        s[at + i] = text[i];
-        i += 1;
-    }
-    at + i
+    at + bytes::copy(text, &mut s[at..])
 }
 
 // Writes a number in decimal at `at`, and answers the place after it; all else stays. It calls itself for the digits

@@ -1,48 +1,35 @@
--- `bits::put_text` meets its contract. The loop's invariant: with the bytes that are left the buffer would be whole.
-use mathlib.Core.Path.{_≡_, refl, _∙_}
-use Prim.Native.Nat.{_≤_, _-_, _+_}
-use native.Mathlib.Nat.{add-zero}
-use native.Mathlib.Omega.{arith}
+-- `bits::put_text` meets its contract, by what the kit's copy ensures of the part from `at` to the end.
+use mathlib.Core.Path.{_≡_, _∙_}
+use mathlib.Core.List.{_++_}
+use Prim.Native.Nat.{_-_}
 use denote.Ref.{now}
-use lib.ListN.{length, drop, length-set, drop-of-length-le}
-use lib.Seq.{sets}
+use borrow.Rule.Slice.PartMut.{midOf}
+use lib.ListN.{length, take, drop}
+use lib.Seq.{take-length}
 use borrow.Author.Needs.{needs}
-use Rattle.bits.proofs.Numbers.{sets-turn}
+use Rattle.bits.proofs.Numbers.{part-stored}
 use Rattle.bits.proofs.put_text.Statement.{statement}
 use Rattle.bits.proofs.put_text.Tie as tie
 
-abbrev Inv-loop : tie.InvT-loop
-Inv-loop s₀ at text i₀ s i = (i ≤ length text) × (length s ≡ length s₀) × (sets s (at + i) (drop i text) ≡ sets s₀ at text)
-
-abbrev μ-loop : tie.MeasureT-loop
-μ-loop s₀ at text i₀ s i = length text - i
-
-loop-again : tie.Need-loop-again Inv-loop μ-loop
-loop-again c =
-    let k = c .before .before in
-    let a = k .before .args in
-    (omega arith, simp length-set (k .loop .inv .1), sets-turn (k .loop .s) (now (a .text)) (a .at) (k .loop .i) 0 (omega arith) ∙ k .loop .inv .2)
-
-returns : tie.Need-returns Inv-loop μ-loop
+returns : tie.Need-returns
 returns c =
-    let k = c .before in
-    let a = k .before .args in
-    let e : k .loop .i ≡ length (now (a .text)) = omega arith in
-    (omega arith, rw (drop-of-length-le (now (a .text)) {i = k .loop .i} (omega arith)) at (k .loop .inv .2))
+    let s = c .before .before .before .before .before .before in
+    let copy = c .before .before .copy in
+    let text = now (s .args .text) in
+    let l = now (s .args .s) in
+    let at = s .args .at in
+    let is : copy .result ≡ length text = copy .ensures .0 in
+    let copied : copy .last .1 .0 ≡ take (length text) text ++ drop (length text) (midOf at (length l - at) l) = copy .ensures .1 in
+    (rw is, part-stored text l (copy .last .1 .0) at (s .pre) (copied ∙ rw take-length))
 
 pub put-text-spec : {M : Type 1} → statement M
 put-text-spec =
     tie.close
     (tie.spec
-    Inv-loop
-    μ-loop
-    (λ c. (omega arith, refl, rw add-zero))
-    (λ c. omega arith)
-    (λ c. omega arith)
-    (λ c. omega arith)
-    (λ c. omega arith)
-    (λ c. omega arith)
-    loop-again
-    (λ c. omega arith)
+    (λ c. search needs)
+    (λ c. search needs)
+    (λ c. search needs)
+    (λ c κs. search needs)
+    (λ c. search needs)
     (λ c. search needs)
     returns)
