@@ -4,7 +4,7 @@
 // proofs/ are cited by name.
 ghost use mathlib.Core.Path.{_≡_};
 ghost use mathlib.Core.Bool.{cond};
-ghost use Prim.Native.Nat.{_+_, _*_, _/_, _%_, _^_, _≤_, _<_};
+ghost use Prim.Native.Nat.{_+_, _-_, _*_, _/_, _%_, _^_, _≤_, _<_};
 ghost use lib.Count.{ones};
 ghost use lib.Dec.{ltb};
 ghost use lib.ListN.{length, take, drop};
@@ -54,6 +54,29 @@ pub fn count_bits(word: u16) -> u32
         rest = rest / 2;
     }
     count
+}
+
+// ---- choices and differences
+
+// The first if the test holds, else the second.
+pub fn pick16(b: bool, x: u16, y: u16) -> u16
+    ensures { λ r. ⌜ r ≡ cond b x y ⌝ }
+{
+    if b { x } else { y }
+}
+
+// The same of 32 bits.
+pub fn pick32(b: bool, x: u32, y: u32) -> u32
+    ensures { λ r. ⌜ r ≡ cond b x y ⌝ }
+{
+    if b { x } else { y }
+}
+
+// a - b, or 0 where b is above a.
+pub fn minus(a: u32, b: u32) -> u32
+    ensures { λ r. ⌜ r ≡ a - b ⌝ }
+{
+    if b < a { a - b } else { 0 }
 }
 
 // ---- big-endian numbers in a slice

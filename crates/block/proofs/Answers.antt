@@ -6,11 +6,11 @@ use borrow.Author.Tests.{leb-true}
 use lib.ListN.{length, take, drop}
 use lib.Seq.{sets}
 use Rattle.effects.specs.declared.Event.{Event}
-use Rattle.effects.specs.Records.{bytes}
+use Rattle.effects.specs.Records.{recordLength, bytes}
 use Rattle.effects.proofs.Records.{front-bytes}
 use Rattle.settings.specs.declared.Settings.{Settings}
 use Rattle.settings.specs.declared.Row.{Row}
-use Rattle.settings.specs.Limits.{mostScans}
+use Rattle.rules.specs.Limits.{mostScans}
 use Rattle.settings.specs.Right.{knownOf, settingsNumber, rowNumber}
 use Rattle.settings.proofs.Refusals.{or-else-none, unless-none}
 use Rattle.settings.proofs.Right.{count-few}
@@ -19,7 +19,7 @@ use Rattle.block.specs.State.{stateNumber}
 use Rattle.block.specs.Scan.{scansNumber, inputNumber, atFront}
 
 -- records that were laid in a space of their own, copied to the front of the lent bytes
-pub copied : (es : List Event) (at : ℕ) (space space′ out buf : List ℕ) → at ≡ 12 * length es → 12 * length es ≤ length space
+pub copied : (es : List Event) (at : ℕ) (space space′ out buf : List ℕ) → at ≡ recordLength * length es → recordLength * length es ≤ length space
     → space′ ≡ sets space 0 (bytes es) → buf ≡ take at space′ ++ drop at out → buf ≡ atFront es out
 copied es at space space′ out buf e v l f = f ∙ rw (e, l, front-bytes es space v)
 

@@ -1,28 +1,30 @@
 -- A right state by the words of its effects, and back: slots past the effects are those of no effect.
-use mathlib.Core.Path.{_≡_, sym, _∙_}
-use mathlib.Core.Bool.{true, false, _&&_}
-use Prim.Native.Nat.{ℕ, _+_, _-_, _≤_, _<_}
+use mathlib.Core.Path.{_≡_, refl, ap, sym, _∙_}
+use mathlib.Core.Bool.{Bool, true, false, cond, _&&_}
+use Prim.Native.Nat.{ℕ, zero, suc, _+_, _-_, _^_, _≤_, _<_}
 use native.Mathlib.Nat.{zero-add}
 use native.Mathlib.Omega.{arith}
-use borrow.Author.Tests.{eqb-true, le-ltb, lt-ltb}
-use lib.Dec.{eqb}
-use lib.ListN.{getD, length, replicate, length-drop, length-replicate, getD-replicate}
-use lib.Seq.{ext-getD, getD-drop}
-use Rattle.bits.proofs.Lists.{and-left, and-right, all-at}
+use borrow.Author.Tests.{eqb-true, ltb-true, ltb-false, le-ltb, lt-ltb}
+use lib.Bits.{bitAnd, and-le-r}
+use lib.Dec.{eqb, ltb}
+use lib.ListN.{drop, getD, length, replicate, length-drop, length-replicate, getD-replicate}
+use lib.Seq.{ext-getD, getD-drop, getD-append-add}
+use Rattle.bits.specs.Lists.{tabulate}
+use Rattle.bits.proofs.Lists.{and-left, and-right, all-at, length-tabulate}
 use Rattle.bits.proofs.Words.{bit-wordOf}
 use Rattle.rules.specs.declared.EffectState.the-variants.{Tripped, Normal, Delayed}
 use Rattle.rules.specs.declared.Slot.{Slot}
 use Rattle.rules.specs.Rules.{noSlot, same}
 use Rattle.rules.proofs.States.{same-eq}
 use Rattle.planes.specs.Planes.{planesOf}
-use Rattle.planes.specs.Table.{Settled, tableOf, slotsOf}
-use Rattle.planes.proofs.Rest.{filled-long}
-use Rattle.planes.proofs.Slots.{Padded, back}
-use Rattle.planes.proofs.Step.{padded-at}
+use Rattle.boards.specs.Table.{Narrow, Settled, padded as paddedBy, tableOf, slotsOf}
+use Rattle.boards.proofs.Rest.{filled-long}
+use Rattle.boards.proofs.Slots.{Padded, back}
+use Rattle.boards.proofs.Step.{padded-at}
 use Rattle.settings.specs.declared.Settings.{Settings}
 use Rattle.settings.specs.Right.{settingsNumber}
 use Rattle.settings.specs.Signals.{noEffect}
-use Rattle.settings.proofs.Right.{count-few}
+use Rattle.settings.proofs.Right.{count-few, association-lt}
 use Rattle.block.specs.declared.State.{State}
 use Rattle.block.specs.State.{timerRight, firstRight, slotRight, slotUnused, slotOk, stateNumber}
 use Rattle.block.proofs.RightStates.{slots-right}
@@ -42,6 +44,33 @@ timer-none delay z t e = eqb-true (z .timer) 0 (rw e at t)
 
 first-none : (association : ℕ) (z : Slot) → firstRight association z ≡ true → same (z .state) Normal ≡ true → z .first ≡ 0
 first-none association z t e = eqb-true (z .first) 0 (rw e at t)
+
+-- first-out lies inside the association word, so it has 16 bits
+first-lt : (association : ℕ) (z : Slot) → association < 65536 → firstRight association z ≡ true → z .first < 2 ^ 16
+first-lt association z h t = go (same (z .state) Normal) t
+  where
+    go : (b : Bool) → cond b (eqb (z .first) 0) (eqb (bitAnd (z .first) association) (z .first)) ≡ true → z .first < 2 ^ 16
+    go true e = omega (arith, eqb-true (z .first) 0 e)
+    go false e = omega (arith, eqb-true (bitAnd (z .first) association) (z .first) e, and-le-r (z .first) association)
+
+zeros-at : (n i : ℕ) → _≡_ {A = ℕ} (getD (replicate n 0) i 0) 0
+zeros-at zero i = refl
+zeros-at (suc n) zero = refl
+zeros-at (suc n) (suc i) = zeros-at n i
+
+-- what is filled is 0 past the effects
+padded-narrow : (n : ℕ) (f : ℕ → ℕ) → ((i : ℕ) → i < n → f i < 2 ^ 16) → Narrow (paddedBy n f)
+padded-narrow n f h i = go (ltb i n) refl
+  where
+    past : n ≤ i → getD (paddedBy n f) i 0 ≡ 0
+    past l =
+        let e : i ≡ length (tabulate f n) + (i - n) = omega (arith, length-tabulate f n) in
+        ap (λ (k : ℕ). getD (paddedBy n f) k 0) e ∙ getD-append-add (tabulate f n) (drop n (replicate 16 0)) (i - n) 0
+        ∙ getD-drop n (replicate 16 0) (i - n) 0 ∙ zeros-at 16 (n + (i - n))
+
+    go : (b : Bool) → ltb i n ≡ b → getD (paddedBy n f) i 0 < 2 ^ 16
+    go true e = let k = ltb-true i n e in omega (arith, padded-at n f i k, h i k)
+    go false e = omega (arith, past (ltb-false i n e))
 
 module _ (st : Settings) (x : State) (right : stateNumber st x ≡ 0) (long : length (x .slots) ≡ 16) where
   past : (i : ℕ) → st .count ≤ i → i < 16 → getD (x .slots) i noSlot ≡ noSlot
@@ -82,6 +111,9 @@ module _ (st : Settings) (x : State) (right : stateNumber st x ≡ 0) (long : le
               ∙ first-none (getD (st .effects) i noEffect .association) (z i) (and-right (timerRight (getD (st .effects) i noEffect .delay) (z i)) _ (slot-right settings i k))
               (sym (bit-wordOf (λ j. same (z j .state) Normal) n i k) ∙ e);
         };
+        narrow = padded-narrow n (λ i. z i .first)
+            (λ i k. first-lt (getD (st .effects) i noEffect .association) (z i) (association-lt st settings i k)
+            (and-right (timerRight (getD (st .effects) i noEffect .delay) (z i)) _ (slot-right settings i k)));
       }
 
   -- the words show the state's slots

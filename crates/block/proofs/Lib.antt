@@ -6,4 +6,5 @@ pub mod Later
 pub mod Stepping
 pub mod Scans
 pub mod Runs
+pub mod Loads
 pub mod Theorems

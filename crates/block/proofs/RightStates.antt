@@ -23,7 +23,7 @@ use Rattle.effects.specs.Scan.{steps}
 use Rattle.effects.proofs.Laws.{step-at, step-past, length-steps}
 use Rattle.settings.specs.declared.Settings.{Settings}
 use Rattle.settings.specs.declared.Words.{Words}
-use Rattle.settings.specs.Limits.{mostScans}
+use Rattle.rules.specs.Limits.{mostScans}
 use Rattle.settings.specs.Right.{settingsNumber}
 use Rattle.settings.specs.Signals.{signals, signalsOf, noEffect}
 use Rattle.settings.proofs.Refusals.{unless-none}

@@ -1,5 +1,5 @@
 -- A held run that nothing refuses: the one stroke gives what single scans give, and its records fit the space that they are laid in.
-use mathlib.Core.Path.{_≡_, refl, ap, sym, _∙_}
+use mathlib.Core.Path.{_≡_, refl, ap, sym, _∙_, subst}
 use mathlib.Core.List.{List}
 use Prim.Native.Nat.{ℕ, zero, suc, _+_, _*_, _/_, _≤_}
 use native.Mathlib.Nat.{zero-add, not-suc-le-zero}
@@ -9,17 +9,21 @@ use lib.Seq.{sets}
 use Rattle.bits.specs.Words.{one}
 use Rattle.bits.proofs.Lists.{length-tabulate}
 use Rattle.rules.specs.declared.Slot.{Slot}
-use Rattle.effects.specs.Records.{recordLength, bytes}
+use Rattle.effects.specs.Records.{recordLength, bytes, mostRowBytes}
 use Rattle.effects.specs.Scan.{effectWord, latentWord, anyExercised}
-use Rattle.rounds.specs.Steps.{Run, start as startRun, held}
-use Rattle.rounds.proofs.Held.{live-at-most, due-at-most, length-slots}
-use Rattle.planes.specs.Table.{tableOf}
-use Rattle.planes.specs.declared.Board.{Board}
-use Rattle.planes.specs.declared.Mark.{Mark}
-use Rattle.planes.specs.Board.{runOf as runFrom, Shown, boardAt, boardOf, begun}
+use Rattle.rounds.specs.Steps.{Run, held}
+use Rattle.rounds.proofs.Held.{live-at-most, due-at-most, length-slots as held-slots}
+use Rattle.engine.specs.declared.Mark.{Mark}
+use Rattle.cells.specs.declared.Plan.{Plan}
+use Rattle.cells.specs.Array.{firstsIn}
+use Rattle.boards.specs.Table.{Table, Narrow, Settled}
+use Rattle.boards.specs.Board.{Board}
+use Rattle.engine.specs.Marks.{boardAt}
+use Rattle.boards.proofs.Slots.{length-slots}
+use Rattle.boards.proofs.Turn.{fresh}
 use Rattle.wiring.specs.declared.Struck.{Struck}
-use Rattle.planes.proofs.Turn.{fresh}
-use Rattle.wiring.specs.Wiring.{Stroked, strokedAt, strokedBy}
+use Rattle.wiring.specs.Wiring.{Stroked, strokedAt, strokedBy, heldOf as strokeOf, Runs as Strokes, Ran as Stroke-ran}
+use Rattle.wiring.proofs.Held.{count-of}
 use Rattle.settings.specs.declared.Settings.{Settings}
 use Rattle.settings.specs.declared.Row.{Row}
 use Rattle.settings.specs.Right.{knownOf, settingsNumber}
@@ -30,12 +34,12 @@ use Rattle.block.specs.declared.Held.{Held}
 use Rattle.block.specs.Scan.{inputNumber}
 use Rattle.block.specs.Held.{start, run, grantedHeld}
 use Rattle.block.specs.State.{stateNumber}
-use Rattle.block.specs.Run.{startOf, reachedBy, runOf, keptAt, keptOf}
+use Rattle.block.specs.Run.{startOf, reachedBy, runOf, keptState, Runs, Ran}
 use Rattle.block.proofs.Answers.{settings-right, state-right, row-right, few, countable}
 use Rattle.block.proofs.Boards.{shows, settled}
 use Rattle.block.proofs.Stepping.{Ready, ready-at, stepped-runs, stepped-done, stepped-effect, stepped-latent, stepped-exercised}
 
-abbrev state : ℕ → ℕ → List Slot → State
+abbrev pub state : ℕ → ℕ → List Slot → State
 state d q xs = record { done = d; next = q; slots = xs }
 
 module _ (st : Settings) (row : Row) (x : State) (input : inputNumber st x row ≡ 0) where
@@ -67,7 +71,7 @@ module _ (st : Settings) (row : Row) (x : State) (input : inputNumber st x row �
       let e = ap (λ (r : Run). r .live) run-is in
       omega (arith, e, live-at-most (signals st (row .words)) (row .hold) (startOf x), length-tabulate (signalsOf st (row .words)) (st .count))
 
-  pub due-bytes : recordLength * length (run st row x .events) ≤ 384
+  pub due-bytes : recordLength * length (run st row x .events) ≤ mostRowBytes
   due-bytes = omega (arith, due-few, few st row x _ refl input)
 
   -- the scans done grow by the hold
@@ -100,78 +104,92 @@ module _ (st : Settings) (row : Row) (x : State) (input : inputNumber st x row �
 
   -- there are as many slots as before
   pub slots-stay : length (run st row x .state .slots) ≡ length (x .slots)
-  slots-stay = ap (λ (r : Run). length (r .slots)) run-is ∙ length-slots (signals st (row .words)) (row .hold) (startOf x)
-
-  -- ## What the code holds
-
-  module _ (long : length (x .slots) ≡ 16) where
-    -- the run that starts at the words of the state
-    abbrev stroke : Run
-    stroke = held (signals st (row .words)) (row .hold) (runFrom (st .count) (boardOf (st .count) (startOf x)))
-
-    stroke-is : stroke ≡ runOf (run st row x)
-    stroke-is =
-        ap (λ (xs : List Slot). held (signals st (row .words)) (row .hold) (startRun (x .done) (x .next) xs)) (shows st x (ready .state) long right)
-        ∙ sym run-is
-
-    -- the words that it starts with are those of what they show
-    pub starts-right : Shown (st .count) (boardOf (st .count) (startOf x) .table)
-    starts-right = record { slots = ap (tableOf (st .count)) (sym (shows st x (ready .state) long right)); settled = settled st x (ready .state) long right }
-
-    -- its records fit where those of the run do
-    pub starts-fits : (room : ℕ) → recordLength * length (run st row x .events) ≤ room → recordLength * length (stroke .events) ≤ room
-    starts-fits room h = omega (arith, h, ap (λ (r : Run). length (r .events)) stroke-is)
-
-    pub laid : (space space′ : List ℕ) → space′ ≡ sets space 0 (bytes (stroke .events)) → space′ ≡ sets space 0 (bytes (run st row x .events))
-    laid space space′ e = e ∙ ap (λ (r : Run). sets space 0 (bytes (r .events))) stroke-is
-
-    long-after : length (run st row x .state .slots) ≡ 16
-    long-after = slots-stay ∙ long
-
-    module _ (s : Stroked) (e : s ≡ strokedBy st (row .words) stroke) where
-      comes-to : s ≡ strokedBy st (row .words) (runOf (run st row x))
-      comes-to = e ∙ ap (strokedBy st (row .words)) stroke-is
-
-      pub ran-is : (r : State) (v : ℕ) → r ≡ reachedBy (st .count) (s .board) → v ≡ row .hold * one (s .exercised)
-          → _≡_ {A = Held} (record { number = 0; place = 0; state = r; effect = s .effect; latent = s .latent; records = s .board .at / recordLength; live = s .board .live; exercised = v }) (grantedHeld st row x)
-      ran-is r v er ev =
-          let end = run st row x .state in
-          let gr = er ∙ ap (λ (q : Stroked). reachedBy (st .count) (q .board)) comes-to
-          ∙ ap (state (end .done) (end .next)) (shows st end keeps-right long-after right) in
-          let gf = ap (λ (q : Stroked). q .effect) comes-to ∙ sym (words-are .0) in
-          let gl = ap (λ (q : Stroked). q .latent) comes-to ∙ sym (words-are .1) in
-          let gn : s .board .at / recordLength ≡ length (run st row x .events) = omega (arith, ap (λ (q : Stroked). q .board .at) comes-to) in
-          let gi = ap (λ (q : Stroked). q .board .live) comes-to in
-          let gv = ev ∙ ap (λ (q : Stroked). row .hold * one (q .exercised)) comes-to ∙ sym exercised-is in
-          λ i. record { number = 0; place = 0; state = gr i; effect = gf i; latent = gl i; records = gn i; live = gi i; exercised = gv i }
+  slots-stay = ap (λ (r : Run). length (r .slots)) run-is ∙ held-slots (signals st (row .words)) (row .hold) (startOf x)
 
 -- ## Where the words are kept
 
-module _ (st : Settings) (row : Row) (from : Board) (input : inputNumber st (reachedBy (st .count) from) row ≡ 0) where
+-- single scans from the state that the words show
+module _ {st : Settings} {plan : Plan} {row : Row} {x : Mark} {array : List ℕ} {room : ℕ} (runs : Runs st plan row x array room) where
   abbrev at : State
-  at = reachedBy (st .count) from
+  at = keptState st x array
 
-  abbrev kept-stroke : Run
-  kept-stroke = held (signals st (row .words)) (row .hold) (runFrom (st .count) from)
+  abbrev sets-right : settingsNumber st ≡ 0
+  sets-right = settings-right st row at _ refl (runs .input)
 
-  -- it starts at the state that the words show
-  kept-is : kept-stroke ≡ runOf (run st row at)
-  kept-is = sym (run-is st row at input)
+  -- there are always sixteen slots
+  long : length (at .slots) ≡ 16
+  long = length-slots (st .count) (few st row at _ refl (runs .input)) (boardAt x array .table)
 
-  -- its records fit where those of the run do
-  pub kept-fits : (room : ℕ) → recordLength * length (run st row at .events) ≤ room → recordLength * length (kept-stroke .events) ≤ room
-  kept-fits room h = omega (arith, h, ap (λ (r : Run). length (r .events)) kept-is)
+  stroke-is : strokeOf st row x array ≡ runOf (run st row at)
+  stroke-is = sym (run-is st row at (runs .input))
 
-  pub kept-laid : (space space′ : List ℕ) → space′ ≡ sets space 0 (bytes (kept-stroke .events)) → space′ ≡ sets space 0 (bytes (run st row at .events))
-  kept-laid space space′ e = e ∙ ap (λ (r : Run). sets space 0 (bytes (r .events))) kept-is
+  -- the stroke runs
+  pub strokes : Strokes st plan row x array room
+  strokes =
+      record {
+        settings = sets-right;
+        wired = runs .wired;
+        row-right = row-right st row at _ refl (runs .input);
+        countable = countable st row at _ refl (runs .input);
+        shown = record {
+          slots = runs .shown;
+          settled = subst (λ (b : Table). Settled (st .count) b) (sym (runs .shown)) (settled st at (state-right st row at _ refl (runs .input)) long sets-right);
+        };
+        fits = omega (arith, runs .fits, ap (λ (r : Run). length (r .events)) stroke-is);
+      }
 
-  pub kept-run : (r : Struck) (timers firsts : List ℕ) → strokedAt r timers firsts ≡ strokedBy st (row .words) kept-stroke
-      → (m : Mark) (v : ℕ) → m ≡ begun (r .mark) → v ≡ row .hold * one (r .exercised)
-      → keptAt (record { mark = m; records = r .mark .at / recordLength; live = r .mark .live; exercised = v }) timers firsts ≡ keptOf (st .count) (run st row at)
-  kept-run r timers firsts e m v em ev =
-      let comes = e ∙ ap (strokedBy st (row .words)) kept-is in
-      let gb = ap (λ (q : Mark). boardAt q timers firsts) em ∙ ap (λ (q : Stroked). fresh (q .board)) comes in
-      let gn : r .mark .at / recordLength ≡ length (run st row at .events) = omega (arith, ap (λ (q : Stroked). q .board .at) comes) in
-      let gi = ap (λ (q : Stroked). q .board .live) comes in
-      let gv = ev ∙ ap (λ (q : Stroked). row .hold * one (q .exercised)) comes ∙ sym (exercised-is st row at input) in
-      λ i. record { board = gb i; records = gn i; live = gi i; exercised = gv i }
+  module _ {buf array′ buf′ : List ℕ} {r : Struck} (ran : Stroke-ran st plan row x array buf r array′ buf′) where
+    abbrev end : State
+    end = run st row at .state
+
+    comes-to : strokedAt r array′ ≡ strokedBy st (row .words) (runOf (run st row at))
+    comes-to = ran .stroked ∙ ap (strokedBy st (row .words)) stroke-is
+
+    pub laid : buf′ ≡ sets buf 0 (bytes (run st row at .events))
+    laid = ran .laid ∙ ap (λ (q : Run). sets buf 0 (bytes (q .events))) stroke-is
+
+    exercised : row .hold * one (r .exercised) ≡ run st row at .exercised
+    exercised = ap (λ (q : Stroked). row .hold * one (q .exercised)) comes-to ∙ sym (exercised-is st row at (runs .input))
+
+    abbrev words : (run st row at .effect ≡ effectWord (st .count) (end .slots)) × (run st row at .latent ≡ latentWord (signals st (row .words)))
+    words = words-are st row at (runs .input)
+
+    effect : r .effect ≡ run st row at .effect
+    effect = ap (λ (q : Stroked). q .effect) comes-to ∙ sym (words .0)
+
+    latent : r .latent ≡ run st row at .latent
+    latent = ap (λ (q : Stroked). q .latent) comes-to ∙ sym (words .1)
+
+    pub kept : Ran st plan row x array buf r array′ buf′
+    kept =
+        record {
+          board = ap (λ (q : Stroked). fresh (q .board)) comes-to;
+          records = ap (λ (q : Stroked). q .board .at) comes-to;
+          live = ap (λ (q : Stroked). q .board .live) comes-to;
+          exercised = exercised;
+          effect = effect;
+          latent = latent;
+          laid = laid;
+          wired = ran .wired;
+        }
+
+    -- ## What the code holds
+
+    long-after : length (end .slots) ≡ 16
+    long-after = slots-stay st row at (runs .input) ∙ long
+
+    -- first-outs have 16 bits after it too
+    pub narrow-after : Narrow (firstsIn array′)
+    narrow-after =
+        subst (λ (b : Board). Narrow (b .table .firsts)) (sym (ap (λ (q : Stroked). q .board) comes-to))
+        (settled st end (keeps-right st row at (runs .input)) long-after sets-right .narrow)
+
+    pub answers : (s : State) (v : ℕ) → s ≡ reachedBy (plan .count) (boardAt (r .mark) array′) → v ≡ row .hold * one (r .exercised)
+        → _≡_ {A = Held} (record { number = 0; place = 0; state = s; effect = r .effect; latent = r .latent; records = r .mark .at / recordLength; live = r .mark .live; exercised = v }) (grantedHeld st row at)
+    answers s v es ev =
+        let gs = es ∙ ap (λ (n : ℕ). reachedBy n (boardAt (r .mark) array′)) (count-of st plan (runs .wired .plan-is)) ∙ ap (λ (q : Stroked). reachedBy (st .count) (q .board)) comes-to
+        ∙ ap (state (end .done) (end .next)) (shows st end (keeps-right st row at (runs .input)) long-after sets-right) in
+        let gn : r .mark .at / recordLength ≡ length (run st row at .events) = omega (arith, ap (λ (q : Stroked). q .board .at) comes-to) in
+        let gi = ap (λ (q : Stroked). q .board .live) comes-to in
+        let gv = ev ∙ exercised in
+        λ i. record { number = 0; place = 0; state = gs i; effect = effect i; latent = latent i; records = gn i; live = gi i; exercised = gv i }

@@ -12,7 +12,7 @@ use Rattle.effects.specs.Scan.{effectWord, latentWord, anyExercised}
 use Rattle.rounds.specs.Steps.{Run, scan, held}
 use Rattle.settings.specs.declared.Settings.{Settings}
 use Rattle.settings.specs.declared.Words.{Words}
-use Rattle.settings.specs.Limits.{mostScans}
+use Rattle.rules.specs.Limits.{mostScans}
 use Rattle.settings.specs.Right.{knownOf, settingsNumber, wordsNumber}
 use Rattle.settings.specs.Signals.{signals}
 use Rattle.settings.proofs.Answers.{granted-in-room}

@@ -17,7 +17,7 @@ use Rattle.rounds.proofs.Held.{one-stroke}
 use Rattle.settings.specs.declared.Settings.{Settings}
 use Rattle.settings.specs.declared.Words.{Words}
 use Rattle.settings.specs.declared.Row.{Row}
-use Rattle.settings.specs.Limits.{mostScans}
+use Rattle.rules.specs.Limits.{mostScans}
 use Rattle.settings.specs.Right.{knownOf, settingsNumber, wordsNumber, rowNumber}
 use Rattle.settings.specs.Signals.{signals, signalsOf}
 use Rattle.settings.proofs.Answers.{granted-in-room}

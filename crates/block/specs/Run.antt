@@ -1,17 +1,29 @@
--- A state as the code of a run carries it, and what a held run gives as the code returns it. No entry point's
+-- A state as the code of a run carries it, and what a held run gives where it is kept so. No entry point's
 -- contract cites this page.
-use Prim.Native.Nat.{ℕ}
+use Prim.Native.Nat.{ℕ, _*_, _≤_}
+use mathlib.Core.Path.{_≡_}
 use mathlib.Core.List.{List}
 use lib.ListN.{length}
+use lib.Seq.{sets}
+use Rattle.bits.specs.Words.{one}
+use Rattle.effects.specs.Records.{recordLength, bytes}
 use Rattle.rounds.specs.Steps.{Run, start}
-use Rattle.planes.specs.declared.Board.{Board}
-use Rattle.planes.specs.Table.{slotsOf}
-use Rattle.planes.specs.Board.{boardAt, boardOf}
+use Rattle.engine.specs.declared.Mark.{Mark}
+use Rattle.cells.specs.declared.Plan.{Plan}
+use Rattle.cells.specs.Array.{arrayLength, associationsIn, delaysIn}
+use Rattle.boards.specs.Table.{tableOf, slotsOf}
+use Rattle.boards.specs.Board.{Board, boardOf}
+use Rattle.engine.specs.Marks.{boardAt, begun}
+use Rattle.settings.specs.declared.Row.{Row}
+use Rattle.settings.specs.declared.Settings.{Settings}
+use Rattle.wiring.specs.declared.Struck.{Struck}
+use Rattle.wiring.specs.Wiring.{causesOf, delaysOf, Wired}
 use Rattle.block.specs.declared.State.{State}
 use Rattle.block.specs.declared.Scanned.{Scanned}
 use Rattle.block.specs.declared.Held.{Held}
-use Rattle.block.specs.declared.Kept.{Kept}
-use Rattle.block.specs.Held.{Stepped}
+use Rattle.block.specs.declared.Loaded.{Loaded}
+use Rattle.block.specs.Scan.{inputNumber}
+use Rattle.block.specs.Held.{Stepped, run}
 
 -- the run that starts at a state
 abbrev pub startOf : State → Run
@@ -25,27 +37,51 @@ reachedBy n b = record { done = b .done; next = b .next; slots = slotsOf n (b .t
 abbrev pub runOf : Stepped → Run
 runOf r = record { done = r .state .done; next = r .state .next; slots = r .state .slots; events = r .events; live = r .live }
 
--- what a held run gives where the words of the effects are kept
-pub record KeptWords : Type 0 where
-  pub board : Board
-  pub records : ℕ
-  pub live : ℕ
-  pub exercised : ℕ
+-- what a stroke starts with, at a state
+pub record LoadedAs (st : Settings) (x : State) (r : Loaded) : Type 0 where
+  pub board-is : boardAt (r .mark) (r .board) ≡ boardOf (st .count) (startOf x)
+  pub associations-are : associationsIn (r .board) ≡ causesOf st
+  pub delays-are : delaysIn (r .board) ≡ delaysOf st
+  pub long : length (r .board) ≡ arrayLength
 
--- as the code gives it
-abbrev pub keptAt : Kept → (timers firsts : List ℕ) → KeptWords
-keptAt r timers firsts =
-    record { board = boardAt (r .mark) timers firsts; records = r .records; live = r .live; exercised = r .exercised }
+-- ## Where the words are kept
 
--- of n effects
-abbrev pub keptOf : ℕ → Stepped → KeptWords
-keptOf n r =
-    record {
-      board = boardOf n (startOf (r .state));
-      records = length (r .events);
-      live = r .live;
-      exercised = r .exercised;
-    }
+-- the state that they show
+abbrev pub keptState : Settings → Mark → (array : List ℕ) → State
+keptState st x array = reachedBy (st .count) (boardAt x array)
+
+-- single scans from there
+abbrev pub keptRun : Settings → Row → Mark → (array : List ℕ) → Stepped
+keptRun st row x array = run st row (keptState st x array)
+
+-- the row can run by these settings, and its records fit in so many bytes
+pub record Runs (st : Settings) (plan : Plan) (row : Row) (x : Mark) (array : List ℕ) (room : ℕ) : Type 0 where
+  pub wired : Wired st plan array
+  pub shown : boardAt x array .table ≡ tableOf (st .count) (slotsOf (st .count) (boardAt x array .table))
+  pub input : inputNumber st (keptState st x array) row ≡ 0
+  pub fits : recordLength * length (keptRun st row x array .events) ≤ room
+
+-- it can run by some settings
+pub record Runnable (plan : Plan) (row : Row) (x : Mark) (array : List ℕ) (room : ℕ) : Type 0 where
+  pub st : Settings
+  pub runs : Runs st plan row x array room
+
+-- what it comes to by these settings: the words of the state that single scans come to, their records, their live scans, whether they
+-- exercise an effect, and the effect and latent words of the last
+pub record Ran (st : Settings) (plan : Plan) (row : Row) (x : Mark) (array buf : List ℕ) (r : Struck) (array′ buf′ : List ℕ) : Type 0 where
+  pub board : boardAt (begun (r .mark)) array′ ≡ boardOf (st .count) (startOf (keptRun st row x array .state))
+  pub records : r .mark .at ≡ recordLength * length (keptRun st row x array .events)
+  pub live : r .mark .live ≡ keptRun st row x array .live
+  pub exercised : row .hold * one (r .exercised) ≡ keptRun st row x array .exercised
+  pub effect : r .effect ≡ keptRun st row x array .effect
+  pub latent : r .latent ≡ keptRun st row x array .latent
+  pub laid : buf′ ≡ sets buf 0 (bytes (keptRun st row x array .events))
+  pub wired : Wired st plan array′
+
+-- and by any by which it can run
+abbrev pub RunsBy : Plan → Row → Mark → (array buf : List ℕ) → Struck → (array′ buf′ : List ℕ) → Type 0
+RunsBy plan row x array buf r array′ buf′ =
+    (st : Settings) → Runs st plan row x array (length buf) → Ran st plan row x array buf r array′ buf′
 
 -- the answer to a held run, as that of a scan
 abbrev pub scannedBy : Held → Scanned

@@ -10,7 +10,7 @@ use Rattle.rules.specs.declared.Slot.{Slot}
 use Rattle.rules.specs.Rules.{same, noSlot}
 use Rattle.settings.specs.declared.Effect.{Effect}
 use Rattle.settings.specs.declared.Settings.{Settings}
-use Rattle.settings.specs.Limits.{mostScans}
+use Rattle.rules.specs.Limits.{mostScans}
 use Rattle.settings.specs.Refusals.{unless}
 use Rattle.settings.specs.Signals.{noEffect}
 use Rattle.block.specs.declared.State.{State}

@@ -9,23 +9,23 @@ ghost use lib.Seq.{sets};
 ghost use Rattle.bits.specs.Lists.{allFrom};
 ghost use Rattle.bits.specs.Words.{one};
 ghost use Rattle.effects.specs.Records.{recordLength, bytes};
-ghost use Rattle.settings.specs.Limits.{mostScans};
+ghost use Rattle.rules.specs.Limits.{mostScans};
 ghost use Rattle.block.specs.State.{timerRight, firstRight, slotRight, slotUnused, slotOk, stateNumber, fresh as freshState};
 ghost use Rattle.block.specs.Scan.{scansNumber, inputNumber, scanOf, scanInto};
 ghost use Rattle.block.specs.Held.{run, grantedHeld, refusedHeld, heldOf, heldInto};
-ghost use Rattle.planes.specs.Board.{boardAt, boardOf};
-ghost use Rattle.planes.specs.Table.{tableOf, slotsOf};
-ghost use Rattle.wiring.specs.Wiring.{Wired};
-ghost use Rattle.block.specs.Run.{startOf, reachedBy, keptAt, keptOf, scannedBy};
-use planes::Board;
-use planes::Mark;
+ghost use Rattle.cells.specs.Array.{firstsIn};
+ghost use Rattle.engine.specs.Marks.{boardAt};
+ghost use Rattle.boards.specs.Table.{Narrow};
+ghost use Rattle.block.specs.Run.{LoadedAs, reachedBy, Runnable, RunsBy, scannedBy};
+use cells::Plan;
+use engine::Mark;
 use rules::EffectState;
 use rules::Slot;
 use settings::Effect;
 use settings::Row;
 use settings::Settings;
 use settings::Words;
-use wiring::Wiring;
+use wiring::Struck;
 
 // The state of the block: scans done, the next sequence number, and sixteen slots, one for each effect.
 pub struct State {
@@ -57,13 +57,10 @@ pub struct Held {
     pub exercised: u32,
 }
 
-// What a held run gives where the words of the effects are kept: the mark that the next row starts with, the number of records,
-// and the live and exercised scans.
-pub struct Kept {
+// A state by the words of its effects, and the array of what its effects have: what a stroke starts with.
+pub struct Loaded {
     pub mark: Mark,
-    pub records: usize,
-    pub live: u32,
-    pub exercised: u32,
+    pub board: [u32; 64],
 }
 
 // ---- what is right of a state: 8
@@ -194,73 +191,50 @@ fn refused_held(number: u8, given: State) -> Held
 }
 
 // The exercised scans of a hold.
-fn exercised_scans(hold: u32, exercised: bool) -> u32
+pub fn exercised_scans(hold: u32, exercised: bool) -> u32
     ensures { λ r. ⌜ r ≡ hold * one exercised ⌝ }
 {
     if exercised { hold } else { 0 }
 }
 
-// The words of effects that a run starts with, at a state; and the state that it has come to.
-fn board_of(count: usize, x: State) -> Board
-    requires { ⌜ count ≤ 16 ⌝ }
-    ensures { λ r. ⌜ r ≡ boardOf count (startOf x) ⌝ }
+// What a stroke by these settings starts with, at a state.
+pub fn load(st: Settings, x: State) -> Loaded
+    requires { ⌜ st .count ≤ 16 ⌝ }
+    ensures { λ r. ⌜ LoadedAs st x r ⌝ }
 {
     let slots = x.slots;
-    Board {
+    let mut board = [0u32; 64];
+    wiring::wire(&mut board, st);
+    let planes = cells::load(&mut board, st.count as usize, slots);
+    let mark = Mark {
         done: x.done,
         next: x.next,
         at: 0,
         live: 0,
-        table: planes::table_of(count, slots),
-    }
+        planes,
+    };
+    Loaded { mark, board }
 }
 
-fn reached(count: usize, b: Board) -> State
-    requires { ⌜ count ≤ 16 ⌝ }
-    ensures { λ r. ⌜ r ≡ reachedBy count b ⌝ }
+// The state that a stroke has come to.
+fn reached(board: &[u32; 64], count: usize, mark: Mark) -> State
+    requires { ⌜ (count ≤ 16) × Narrow (firstsIn (now board)) ⌝ }
+    ensures { λ r. ⌜ r ≡ reachedBy count (boardAt mark (now (board .entry))) ⌝ }
 {
-    let table = b.table;
+    let planes = mark.planes;
     State {
-        done: b.done,
-        next: b.next,
-        slots: planes::slots_of(count, table),
+        done: mark.done,
+        next: mark.next,
+        slots: cells::slots_of(board, count, planes),
     }
 }
 
-// A fresh state by the words of its effects.
-pub fn fresh_board(count: usize) -> Board
-    requires { ⌜ count ≤ 16 ⌝ }
-    ensures { λ r. ⌜ r ≡ boardOf count (startOf freshState) ⌝ }
+// A held run as `run_right` gives it, where the state is kept by the words of its effects from row to row.
+pub fn run_kept(buf: &mut [u8], board: &mut [u32; 64], plan: Plan, row: Row, from: Mark) -> Struck
+    requires { ⌜ Runnable plan row from (now board) (length (now buf)) ⌝ }
+    ensures { λ r. ⌜ RunsBy plan row from (now (board .entry)) (now (buf .entry)) r (now (board .exit)) (now (buf .exit)) ⌝ }
 {
-    board_of(count, State::fresh())
-}
-
-// A held run as `run_right` gives it, where the words of the effects are kept from row to row; their timers and first-outs are
-// lent, and changed in place.
-pub fn run_kept(
-    buf: &mut [u8],
-    st: Settings,
-    x: Wiring,
-    causes: &[u16; 16],
-    times: &[u32; 16],
-    row: Row,
-    from: Mark,
-    timers: &mut [u32; 16],
-    firsts: &mut [u16; 16],
-) -> Kept
-    requires { ⌜ Wired st x (now causes) (now times) × (boardAt from (now timers) (now firsts) .table ≡ tableOf (st .count) (slotsOf (st .count) (boardAt from (now timers) (now firsts) .table))) ⌝ }
-    requires { ⌜ (inputNumber st (reachedBy (st .count) (boardAt from (now timers) (now firsts))) row ≡ 0) × (recordLength * length (run st row (reachedBy (st .count) (boardAt from (now timers) (now firsts))) .events) ≤ length (now buf)) ⌝ }
-    ensures { λ r. ⌜ keptAt r (now (timers .exit)) (now (firsts .exit)) ≡ keptOf (st .count) (run st row (reachedBy (st .count) (boardAt from (now (timers .entry)) (now (firsts .entry))))) ⌝ }
-    ensures { λ _. ⌜ now (buf .exit) ≡ sets (now (buf .entry)) 0 (bytes (run st row (reachedBy (st .count) (boardAt from (now (timers .entry)) (now (firsts .entry)))) .events)) ⌝ }
-{
-    let r = wiring::stroke(buf, st, x, causes, times, row, from, timers, firsts);
-    let mark = r.mark;
-    Kept {
-        mark: planes::begin(mark),
-        records: mark.at / 12,
-        live: mark.live,
-        exercised: exercised_scans(row.hold, r.exercised),
-    }
+    wiring::stroke(buf, board, plan, row, from)
 }
 
 // A held run in one stroke, of input that was found right: the row's words for its hold, the reset word in the first scan
@@ -270,35 +244,19 @@ pub fn run_right(buf: &mut [u8], st: Settings, row: Row, x: State) -> Held
     ensures { λ r. ⌜ r ≡ grantedHeld st row x ⌝ }
     ensures { λ _. ⌜ now (buf .exit) ≡ sets (now (buf .entry)) 0 (bytes (run st row x .events)) ⌝ }
 {
-    let count = st.count as usize;
-    let causes = wiring::associations(st);
-    let times = wiring::delays(st);
-    let wired = wiring::wiring_of(st, &times);
-    let start = board_of(count, x);
-    let table = start.table;
-    let mut timers = table.timers;
-    let mut firsts = table.firsts;
-    let from = planes::mark_of(start);
-    let r = wiring::stroke(
-        buf,
-        st,
-        wired,
-        &causes,
-        &times,
-        row,
-        from,
-        &mut timers,
-        &mut firsts,
-    );
+    let loaded = load(st, x);
+    let from = loaded.mark;
+    let mut board = loaded.board;
+    let plan = wiring::plan_of(st);
+    let r = wiring::stroke(buf, &mut board, plan, row, from);
     let mark = r.mark;
-    let end = planes::board_at(mark, timers, firsts);
     Held {
         number: 0,
         place: 0,
-        state: reached(count, end),
+        state: reached(&board, plan.count, mark),
         effect: r.effect,
         latent: r.latent,
-        records: mark.at / 12,
+        records: mark.at / effects::RECORD_LENGTH,
         live: mark.live,
         exercised: exercised_scans(row.hold, r.exercised),
     }
@@ -365,9 +323,9 @@ impl State {
         if number != 0 {
             return refused_held(number, self);
         }
-        let mut space = [0u8; 384];
+        let mut space = [0u8; effects::MOST_ROW_BYTES];
         let ran = run_right(&mut space, st, row, self);
-        let at = 12 * ran.records;
+        let at = effects::RECORD_LENGTH * ran.records;
         if out.len() < at {
             return refused_held(10, self);
         }

@@ -401,7 +401,7 @@ demand-3 st x w hold out right state words some most scans fits =
     )
 
 -- a stroke by rounds, as document 01 means it: at most as many as twice the effects and one, each a scan by the rules and then all scans
--- before the next live one or the end, come to those single scans. That the code goes so is the loop of `planes::stroke` and its falling
+-- before the next live one or the end, come to those single scans. That the code goes so is the loop of `engine::stroke` and its falling
 -- number
 pub one-stroke-is-by-rounds : (st : Settings) (x : State) (w : Words) (hold : ℕ)
     → settingsNumber st ≡ 0 → stateNumber st x ≡ 0 → wordsNumber (knownOf st) w ≡ 0 → 1 ≤ hold → hold ≤ 1000000 → x .done + hold ≤ 1000000000

@@ -1,8 +1,6 @@
 -- The inner functions' contracts allow one answer only, where what they ask is met (`Unique` has the entry points, and says what
 -- `Learnt` is). Document 01, "What each contract has to exclude".
 use mathlib.Core.Path.{_≡_, refl, sym, ap, ap₂, _∙_}
-use mathlib.Core.List.{List}
-use Prim.Native.Nat.{ℕ}
 use contract.Lifetimes.{Lfts}
 use denote.Ref.{now}
 use Rattle.bits.proofs.bit.Reads as bits·bit
@@ -27,52 +25,48 @@ use Rattle.recording.proofs.entries_of.Reads as recording·entries-of
 use Rattle.recording.proofs.width_of.Reads as recording·width-of
 use Rattle.recording.proofs.number_of.Reads as recording·number-of
 use Rattle.recording.proofs.count_ok.Reads as recording·count-ok
+use Rattle.planes.proofs.planes_after.Reads as planes·planes-after
+use Rattle.planes.proofs.changed.Reads as planes·changed
+use Rattle.planes.proofs.code_at.Reads as planes·code-at
+use Rattle.planes.proofs.planes_of.Reads as planes·planes-of
+use Rattle.planes.proofs.slot_of.Reads as planes·slot-of
+use Rattle.cells.proofs.lowest.Reads as cells·lowest
+use Rattle.cells.proofs.least.Reads as cells·least
+use Rattle.cells.proofs.due_of.Reads as cells·due-of
+use Rattle.cells.proofs.low_timer.Reads as cells·low-timer
+use Rattle.cells.proofs.set_timers.Reads as cells·set-timers
+use Rattle.cells.proofs.set_firsts.Reads as cells·set-firsts
+use Rattle.cells.proofs.timers_later.Reads as cells·timers-later
+use Rattle.cells.proofs.active_word.Reads as cells·active-word
+use Rattle.cells.proofs.load.Reads as cells·load
+use Rattle.cells.proofs.slots_of.Reads as cells·slots-of
+use Rattle.engine.proofs.begin.Reads as engine·begin
+use Rattle.engine.proofs.stroke.Reads as engine·stroke
+use Rattle.wiring.proofs.wire.Reads as wiring·wire
+use Rattle.wiring.proofs.plan_of.Reads as wiring·plan-of
+use Rattle.wiring.proofs.stroke.Reads as wiring·stroke
+use Rattle.block.proofs.load.Reads as block·load
+use Rattle.block.proofs.exercised_scans.Reads as block·exercised-scans
 use Rattle.block.proofs.run_right.Reads as block·run-right
 use Rattle.block.proofs.run_kept.Reads as block·run-kept
-use Rattle.block.proofs.fresh_board.Reads as block·fresh-board
-use Rattle.rerun.proofs.start.Reads as rerun·start
-use Rattle.rerun.proofs.row.Reads as rerun·row
-use Rattle.rerun.proofs.row_in_place.Reads as rerun·row-in-place
-use Rattle.rerun.proofs.tally_of.Reads as rerun·tally-of
 use Rattle.rerun.proofs.stop_of.Reads as rerun·stop-of
-use Rattle.rerun.proofs.answer_by.Reads as rerun·answer-by
-use Rattle.rerun.proofs.replay_rows.Reads as rerun·replay-rows
+use Rattle.rerun.proofs.answer_of.Reads as rerun·answer-of
+use Rattle.rerun.proofs.begin.Reads as rerun·begin
+use Rattle.rerun.proofs.row.Reads as rerun·row
+use Rattle.rerun.proofs.go.Reads as rerun·go
 use Rattle.listing.proofs.row.Reads as listing·row
-use Rattle.wiring.proofs.associations.Reads as wiring·associations
-use Rattle.wiring.proofs.delays.Reads as wiring·delays
-use Rattle.wiring.proofs.wiring_of.Reads as wiring·wiring-of
-use Rattle.wiring.proofs.stroke.Reads as wiring·stroke
-use Rattle.planes.proofs.begin.Reads as planes·begin
-use Rattle.planes.proofs.mark_of.Reads as planes·mark-of
-use Rattle.planes.proofs.board_at.Reads as planes·board-at
-use Rattle.planes.proofs.active_word.Reads as planes·active-word
-use Rattle.planes.proofs.table_of.Reads as planes·table-of
-use Rattle.planes.proofs.slots_of.Reads as planes·slots-of
-use Rattle.planes.proofs.stroke.Reads as planes·stroke
-use Rattle.planes.specs.Board.{boardAt, markOf}
-use Rattle.wiring.specs.Wiring.{Stroked, strokedAt}
-use Rattle.block.specs.Run.{KeptWords, keptAt}
-use Rattle.rerun.specs.declared.Turn.{Turn}
-use Rattle.rerun.specs.Turn.{turnWith, tallyOf}
-use Rattle.planes.specs.declared.Board.{Board}
-use Rattle.demands.specs.Contracts.{Unique, none, both}
+use Rattle.text.proofs.put_header.Reads as text·put-header
+use Rattle.text.proofs.put_lines.Reads as text·put-lines
+use Rattle.text.proofs.put_last.Reads as text·put-last
+use Rattle.text.proofs.put_refusal.Reads as text·put-refusal
+use Rattle.wiring.specs.declared.Struck.{Struck}
+use Rattle.wiring.specs.Wiring.{Stroked}
+use Rattle.rerun.specs.Turn.{Totals}
+use Rattle.settings.proofs.Right.{hold-some}
+use Rattle.block.proofs.Answers.{row-right}
+use Rattle.demands.specs.Contracts.{Unique, UniqueWhereAsked, none, both}
 use Rattle.demands.proofs.Unique.{by-equations, by-equation}
-
--- ## In general: a contract that is an equation for the result together with the lent timers and first-outs
-
--- They are the parts of one whole, which has an equation, and so has the buffer.
-module _ {A R E W : Type 0} where
-  by-whole : (allows : A → R → E → Type 0) (timers firsts buffer : E → List ℕ) (whole : R → List ℕ → List ℕ → W) (parts : W → R × (List ℕ × List ℕ))
-      → ((r : R) (ts fs : List ℕ) → parts (whole r ts fs) ≡ (r, (ts, fs)))
-      → (says : A → W) (leaves : A → List ℕ)
-      → ((a : A) (r : R) (e : E) → allows a r e → (whole r (timers e) (firsts e) ≡ says a) × (buffer e ≡ leaves a))
-      → Unique allows (both (both timers firsts) buffer)
-  by-whole allows timers firsts buffer whole parts split says leaves is a r q e f h k =
-      let same : whole r (timers e) (firsts e) ≡ whole q (timers f) (firsts f) = is a r e h .0 ∙ sym (is a q f k .0) in
-      let alike = sym (split r (timers e) (firsts e)) ∙ ap parts same ∙ split q (timers f) (firsts f) in (
-        ap (λ (v : R × (List ℕ × List ℕ)). v .0) alike,
-        ap₂ (λ (b : List ℕ × List ℕ) (c : List ℕ). (b, c)) (ap (λ (v : R × (List ℕ × List ℕ)). v .1) alike) (is a r e h .1 ∙ sym (is a q f k .1)),
-      )
+use Rattle.demands.proofs.Determined.{same-array, same-mark, same-end, same-plan, same-wired, same-run, going-run, going-array, lent, struckBy, loadedBy, begunBy, same-turn, same-printed, same-exercised}
 
 -- ## Bits, numbers and text (`bits`)
 
@@ -146,91 +140,164 @@ recording-number-of κs = by-equation (recording·number-of.Learnt κs) _ (λ a 
 pub recording-count-ok : (κs : Lfts 0) → Unique (recording·count-ok.Learnt κs) none
 recording-count-ok κs = by-equation (recording·count-ok.Learnt κs) _ (λ a r e h. h)
 
+-- ## The words of effects (`planes`)
+
+pub planes-planes-after : (κs : Lfts 0) → Unique (planes·planes-after.Learnt κs) none
+planes-planes-after κs = by-equation (planes·planes-after.Learnt κs) _ (λ a r e h. h)
+
+pub planes-changed : (κs : Lfts 0) → Unique (planes·changed.Learnt κs) none
+planes-changed κs = by-equation (planes·changed.Learnt κs) _ (λ a r e h. h)
+
+pub planes-code-at : (κs : Lfts 0) → Unique (planes·code-at.Learnt κs) none
+planes-code-at κs = by-equation (planes·code-at.Learnt κs) _ (λ a r e h. h)
+
+pub planes-planes-of : (κs : Lfts 0) → Unique (planes·planes-of.Learnt κs) none
+planes-planes-of κs = by-equation (planes·planes-of.Learnt κs) _ (λ a r e h. h)
+
+pub planes-slot-of : (κs : Lfts 0) → Unique (planes·slot-of.Learnt κs) none
+planes-slot-of κs = by-equation (planes·slot-of.Learnt κs) _ (λ a r e h. h)
+
+-- ## A stroke, and its array (`engine`)
+
+pub cells-lowest : (κs : Lfts 0) → Unique (cells·lowest.Learnt κs) none
+cells-lowest κs = by-equation (cells·lowest.Learnt κs) _ (λ a r e h. h .0)
+
+pub cells-least : (κs : Lfts 0) → Unique (cells·least.Learnt κs) none
+cells-least κs = by-equation (cells·least.Learnt κs) _ (λ a r e h. h)
+
+pub cells-due-of : (κs : Lfts 1) → Unique (cells·due-of.Learnt κs) none
+cells-due-of κs = by-equation (cells·due-of.Learnt κs) _ (λ a r e h. h)
+
+pub cells-low-timer : (κs : Lfts 1) → Unique (cells·low-timer.Learnt κs) none
+cells-low-timer κs = by-equation (cells·low-timer.Learnt κs) _ (λ a r e h. h)
+
+pub cells-set-timers : (κs : Lfts 1) → Unique (cells·set-timers.Learnt κs) (λ e. now (e .0))
+cells-set-timers κs = by-equations (cells·set-timers.Learnt κs) (λ e. now (e .0)) (λ a. tt) _ (λ a r e h. (refl, h))
+
+pub cells-set-firsts : (κs : Lfts 1) → Unique (cells·set-firsts.Learnt κs) (λ e. now (e .0))
+cells-set-firsts κs = by-equations (cells·set-firsts.Learnt κs) (λ e. now (e .0)) (λ a. tt) _ (λ a r e h. (refl, h))
+
+pub cells-timers-later : (κs : Lfts 1) → Unique (cells·timers-later.Learnt κs) (λ e. now (e .1 .0))
+cells-timers-later κs = by-equations (cells·timers-later.Learnt κs) (λ e. now (e .1 .0)) (λ a. tt) _ (λ a r e h. (refl, h))
+
+pub cells-active-word : (κs : Lfts 1) → Unique (cells·active-word.Learnt κs) none
+cells-active-word κs = by-equation (cells·active-word.Learnt κs) _ (λ a r e h. h)
+
+pub cells-load : (κs : Lfts 1) → Unique (cells·load.Learnt κs) (λ e. now (e .0))
+cells-load κs = by-equations (cells·load.Learnt κs) (λ e. now (e .0)) _ _ (λ a r e h. h)
+
+pub cells-slots-of : (κs : Lfts 1) → Unique (cells·slots-of.Learnt κs) none
+cells-slots-of κs = by-equation (cells·slots-of.Learnt κs) _ (λ a r e h. h)
+
+pub engine-begin : (κs : Lfts 0) → Unique (engine·begin.Learnt κs) none
+engine-begin κs = by-equation (engine·begin.Learnt κs) _ (λ a r e h. h)
+
+-- (two things are lent: the array, and then the buffer)
+pub engine-stroke : (κs : Lfts 2) → Unique (engine·stroke.Learnt κs) (both (λ e. now (e .1 .0)) (λ e. now (e .0)))
+engine-stroke κs a r q e f h k =
+    let shown = h .board ∙ sym (k .board) in (
+      same-mark (now (e .1 .0)) (now (f .1 .0)) shown,
+      lent (same-array (h .same .long) (k .same .long) shown (h .same .associations ∙ sym (k .same .associations)) (h .same .delays ∙ sym (k .same .delays)))
+          (h .laid ∙ sym (k .laid)),
+    )
+
+-- ## What the settings give to the words of effects (`wiring`)
+
+pub wiring-wire : (κs : Lfts 1) → Unique (wiring·wire.Learnt κs) (λ e. now (e .0))
+wiring-wire κs = by-equations (wiring·wire.Learnt κs) (λ e. now (e .0)) (λ a. tt) _ (λ a r e h. (refl, h))
+
+pub wiring-plan-of : (κs : Lfts 0) → Unique (wiring·plan-of.Learnt κs) none
+wiring-plan-of κs = by-equation (wiring·plan-of.Learnt κs) _ (λ a r e h. h)
+
+-- (the contract speaks for any settings by which the row can run, and there are some)
+pub wiring-stroke : (κs : Lfts 2) → UniqueWhereAsked (wiring·stroke.Asked κs) (wiring·stroke.Learnt κs) (both (λ e. now (e .1 .0)) (λ e. now (e .0)))
+wiring-stroke κs a r q e f asked h k =
+    let x = h (asked .st) (asked .runs) in
+    let y = k (asked .st) (asked .runs) in
+    let shown = x .stroked ∙ sym (y .stroked) in
+    let board = ap (λ (s : Stroked). s .board) shown in
+    let mark : r .mark ≡ q .mark = same-mark (now (e .1 .0)) (now (f .1 .0)) board in (
+      ap₂ struckBy mark shown,
+      lent (same-wired (x .wired) (y .wired) board) (x .laid ∙ sym (y .laid)),
+    )
+
 -- ## A held run without its checks (`block`)
+
+pub block-load : (κs : Lfts 0) → Unique (block·load.Learnt κs) none
+block-load κs a r q e f h k =
+    let shown = h .board-is ∙ sym (k .board-is) in
+    let mark : r .mark ≡ q .mark = same-mark (r .board) (q .board) shown in
+    let board : r .board ≡ q .board = same-array (h .long) (k .long) shown (h .associations-are ∙ sym (k .associations-are)) (h .delays-are ∙ sym (k .delays-are)) in
+    (ap₂ loadedBy mark board, refl)
+
+pub block-exercised-scans : (κs : Lfts 0) → Unique (block·exercised-scans.Learnt κs) none
+block-exercised-scans κs = by-equation (block·exercised-scans.Learnt κs) _ (λ a r e h. h)
 
 pub block-run-right : (κs : Lfts 1) → Unique (block·run-right.Learnt κs) (λ e. now (e .0))
 block-run-right κs = by-equations (block·run-right.Learnt κs) (λ e. now (e .0)) _ _ (λ a r e h. h)
 
-pub block-run-kept : (κs : Lfts 5) → Unique (block·run-kept.Learnt κs) (both (both (λ e. now (e .1 .1 .1 .1 .1 .1 .1 .0)) (λ e. now (e .1 .1 .1 .1 .1 .1 .1 .1 .0))) (λ e. now (e .0)))
-block-run-kept κs =
-    by-whole (block·run-kept.Learnt κs) (λ e. now (e .1 .1 .1 .1 .1 .1 .1 .0)) (λ e. now (e .1 .1 .1 .1 .1 .1 .1 .1 .0)) (λ e. now (e .0)) keptAt
-    (λ (w : KeptWords). (record { mark = markOf (w .board); records = w .records; live = w .live; exercised = w .exercised }, (w .board .table .timers, w .board .table .firsts)))
-    (λ r ts fs. refl) _ _ (λ a r e h. h)
-
-pub block-fresh-board : (κs : Lfts 0) → Unique (block·fresh-board.Learnt κs) none
-block-fresh-board κs = by-equation (block·fresh-board.Learnt κs) _ (λ a r e h. h)
+pub block-run-kept : (κs : Lfts 2) → UniqueWhereAsked (block·run-kept.Asked κs) (block·run-kept.Learnt κs) (both (λ e. now (e .1 .0)) (λ e. now (e .0)))
+block-run-kept κs a r q e f asked h k =
+    let x = h (asked .st) (asked .runs) in
+    let y = k (asked .st) (asked .runs) in
+    let board = x .board ∙ sym (y .board) in
+    let mark : r .mark ≡ q .mark = same-end (now (e .1 .0)) (now (f .1 .0)) board (x .records ∙ sym (y .records)) (x .live ∙ sym (y .live)) in
+    let effect : r .effect ≡ q .effect = x .effect ∙ sym (y .effect) in
+    let latent : r .latent ≡ q .latent = x .latent ∙ sym (y .latent) in
+    let exercised : r .exercised ≡ q .exercised = same-exercised (r .exercised) (q .exercised) (hold-some _ _ (row-right _ _ _ _ refl (asked .runs .input))) (x .exercised ∙ sym (y .exercised)) in (
+      (λ j. record { mark = mark j; effect = effect j; latent = latent j; exercised = exercised j }),
+      lent (same-wired (x .wired) (y .wired) board) (x .laid ∙ sym (y .laid)),
+    )
 
 -- ## A replay row by row (`rerun`)
 
-pub rerun-start : (κs : Lfts 0) → Unique (rerun·start.Learnt κs) none
-rerun-start κs = by-equation (rerun·start.Learnt κs) _ (λ a r e h. h)
+pub rerun-begin : (κs : Lfts 0) → Unique (rerun·begin.Learnt κs) none
+rerun-begin κs a r q e f h k =
+    let shown = h .totals ∙ sym (k .totals) in
+    let run : r .run ≡ q .run = same-run (r .board) (q .board) shown (same-plan (h .wired) (k .wired)) (h .wide ∙ sym (k .wide)) (h .many ∙ sym (k .many)) in
+    let board : r .board ≡ q .board = same-wired (h .wired) (k .wired) (ap (λ (t : Totals). t .board) shown) in
+    (ap₂ begunBy run board, refl)
 
-pub rerun-row : (κs : Lfts 4) → Unique (rerun·row.Learnt κs) (λ e. now (e .1 .1 .1 .1 .1 .1 .1 .0))
-rerun-row κs = by-equations (rerun·row.Learnt κs) (λ e. now (e .1 .1 .1 .1 .1 .1 .1 .0)) _ _ (λ a r e h. h)
+pub rerun-row : (κs : Lfts 3) → Unique (rerun·row.Learnt κs) (both (λ e. now (e .1 .1 .0)) (λ e. now (e .1 .1 .1 .0)))
+rerun-row κs a r q e f h k =
+    let rows = h .rows-are ∙ sym (k .rows-are) in (
+      same-turn (h .number-is ∙ sym (k .number-is)) (h .records-are ∙ sym (k .records-are)) (going-run (h .going) (k .going) rows),
+      lent (going-array (h .going) (k .going) rows) (h .laid ∙ sym (k .laid)),
+    )
 
-pub rerun-row-in-place : (κs : Lfts 6) → Unique (rerun·row-in-place.Learnt κs) (both (both (λ e. now (e .1 .1 .1 .1 .1 .1 .1 .0)) (λ e. now (e .1 .1 .1 .1 .1 .1 .1 .1 .0))) (λ e. now (e .1 .1 .1 .1 .1 .1 .1 .1 .1 .0)))
-rerun-row-in-place κs =
-    by-whole (rerun·row-in-place.Learnt κs) (λ e. now (e .1 .1 .1 .1 .1 .1 .1 .0)) (λ e. now (e .1 .1 .1 .1 .1 .1 .1 .1 .0)) (λ e. now (e .1 .1 .1 .1 .1 .1 .1 .1 .1 .0)) turnWith
-    (λ (w : Turn). (record { number = w .number; records = w .records; tally = tallyOf (w .totals) }, (w .totals .board .table .timers, w .totals .board .table .firsts)))
-    (λ r ts fs. refl) _ _ (λ a r e h. h)
-
-pub rerun-tally-of : (κs : Lfts 0) → Unique (rerun·tally-of.Learnt κs) none
-rerun-tally-of κs = by-equation (rerun·tally-of.Learnt κs) _ (λ a r e h. h)
+pub rerun-go : (κs : Lfts 3) → Unique (rerun·go.Learnt κs) (both (λ e. now (e .1 .1 .1 .0)) (λ e. now (e .1 .1 .1 .1 .0)))
+rerun-go κs a r q e f h k =
+    let rows = h .rows-are ∙ sym (k .rows-are) in (
+      same-turn (h .number-is ∙ sym (k .number-is)) (h .records-are ∙ sym (k .records-are)) (going-run (h .going) (k .going) rows),
+      lent (going-array (h .going) (k .going) rows) (h .laid ∙ sym (k .laid)),
+    )
 
 pub rerun-stop-of : (κs : Lfts 1) → Unique (rerun·stop-of.Learnt κs) none
 rerun-stop-of κs = by-equation (rerun·stop-of.Learnt κs) _ (λ a r e h. h)
 
-pub rerun-answer-by : (κs : Lfts 0) → Unique (rerun·answer-by.Learnt κs) none
-rerun-answer-by κs = by-equation (rerun·answer-by.Learnt κs) _ (λ a r e h. h)
-
--- (its result; what stands in a buffer whose records are not kept is not said)
-pub rerun-replay-rows : (κs : Lfts 4) → Unique (rerun·replay-rows.Learnt κs) none
-rerun-replay-rows κs = by-equation (rerun·replay-rows.Learnt κs) _ (λ a r e h. h .0)
+pub rerun-answer-of : (κs : Lfts 0) → Unique (rerun·answer-of.Learnt κs) none
+rerun-answer-of κs = by-equation (rerun·answer-of.Learnt κs) _ (λ a r e h. h)
 
 -- ## The lines of a row (`listing`)
 
-pub listing-row : (κs : Lfts 4) → Unique (listing·row.Learnt κs) (λ e. now (e .1 .1 .1 .1 .1 .1 .1 .0))
-listing-row κs = by-equations (listing·row.Learnt κs) (λ e. now (e .1 .1 .1 .1 .1 .1 .1 .0)) _ _ (λ a r e h. (h .0, h .1 .0))
+pub listing-row : (κs : Lfts 3) → Unique (listing·row.Learnt κs) (both (λ e. now (e .1 .1 .0)) (λ e. now (e .1 .1 .1 .0)))
+listing-row κs a r q e f h k =
+    let rows = h .rows-are ∙ sym (k .rows-are) in
+    let turn : r .turn ≡ q .turn = same-turn (h .number-is ∙ sym (k .number-is)) (h .records-are ∙ sym (k .records-are)) (going-run (h .going) (k .going) rows) in (
+      same-printed (h .full-is ∙ sym (k .full-is)) (h .at-is ∙ sym (k .at-is)) turn,
+      lent (going-array (h .going) (k .going) rows) (h .text ∙ sym (k .text)),
+    )
 
--- ## What the settings give to the words of effects (`wiring`)
+-- ## Lines of text (`text`)
 
-pub wiring-associations : (κs : Lfts 0) → Unique (wiring·associations.Learnt κs) none
-wiring-associations κs = by-equation (wiring·associations.Learnt κs) _ (λ a r e h. h)
+pub text-put-header : (κs : Lfts 1) → Unique (text·put-header.Learnt κs) (λ e. now (e .0))
+text-put-header κs = by-equations (text·put-header.Learnt κs) (λ e. now (e .0)) _ _ (λ a r e h. h .0)
 
-pub wiring-delays : (κs : Lfts 0) → Unique (wiring·delays.Learnt κs) none
-wiring-delays κs = by-equation (wiring·delays.Learnt κs) _ (λ a r e h. h)
+pub text-put-lines : (κs : Lfts 2) → Unique (text·put-lines.Learnt κs) (λ e. now (e .0))
+text-put-lines κs = by-equations (text·put-lines.Learnt κs) (λ e. now (e .0)) _ _ (λ a r e h. h .0)
 
-pub wiring-wiring-of : (κs : Lfts 1) → Unique (wiring·wiring-of.Learnt κs) none
-wiring-wiring-of κs = by-equation (wiring·wiring-of.Learnt κs) _ (λ a r e h. h)
+pub text-put-last : (κs : Lfts 1) → Unique (text·put-last.Learnt κs) (λ e. now (e .0))
+text-put-last κs = by-equations (text·put-last.Learnt κs) (λ e. now (e .0)) _ _ (λ a r e h. h .0)
 
-pub wiring-stroke : (κs : Lfts 5) → Unique (wiring·stroke.Learnt κs) (both (both (λ e. now (e .1 .1 .1 .1 .1 .1 .1 .0)) (λ e. now (e .1 .1 .1 .1 .1 .1 .1 .1 .0))) (λ e. now (e .0)))
-wiring-stroke κs =
-    by-whole (wiring·stroke.Learnt κs) (λ e. now (e .1 .1 .1 .1 .1 .1 .1 .0)) (λ e. now (e .1 .1 .1 .1 .1 .1 .1 .1 .0)) (λ e. now (e .0)) strokedAt
-    (λ (w : Stroked). (record { mark = markOf (w .board); effect = w .effect; latent = w .latent; exercised = w .exercised }, (w .board .table .timers, w .board .table .firsts)))
-    (λ r ts fs. refl) _ _ (λ a r e h. h)
-
--- ## Words of effects (`planes`)
-
-pub planes-begin : (κs : Lfts 0) → Unique (planes·begin.Learnt κs) none
-planes-begin κs = by-equation (planes·begin.Learnt κs) _ (λ a r e h. h)
-
-pub planes-mark-of : (κs : Lfts 0) → Unique (planes·mark-of.Learnt κs) none
-planes-mark-of κs = by-equation (planes·mark-of.Learnt κs) _ (λ a r e h. h)
-
-pub planes-board-at : (κs : Lfts 0) → Unique (planes·board-at.Learnt κs) none
-planes-board-at κs = by-equation (planes·board-at.Learnt κs) _ (λ a r e h. h)
-
-pub planes-active-word : (κs : Lfts 1) → Unique (planes·active-word.Learnt κs) none
-planes-active-word κs = by-equation (planes·active-word.Learnt κs) _ (λ a r e h. h)
-
-pub planes-table-of : (κs : Lfts 0) → Unique (planes·table-of.Learnt κs) none
-planes-table-of κs = by-equation (planes·table-of.Learnt κs) _ (λ a r e h. h)
-
-pub planes-slots-of : (κs : Lfts 0) → Unique (planes·slots-of.Learnt κs) none
-planes-slots-of κs = by-equation (planes·slots-of.Learnt κs) _ (λ a r e h. h)
-
-pub planes-stroke : (κs : Lfts 5) → Unique (planes·stroke.Learnt κs) (both (both (λ e. now (e .1 .1 .1 .1 .1 .1 .1 .1 .1 .0)) (λ e. now (e .1 .1 .1 .1 .1 .1 .1 .1 .1 .1 .0))) (λ e. now (e .0)))
-planes-stroke κs =
-    by-whole (planes·stroke.Learnt κs) (λ e. now (e .1 .1 .1 .1 .1 .1 .1 .1 .1 .0)) (λ e. now (e .1 .1 .1 .1 .1 .1 .1 .1 .1 .1 .0)) (λ e. now (e .0)) boardAt
-    (λ (w : Board). (markOf w, (w .table .timers, w .table .firsts)))
-    (λ r ts fs. refl) _ _ (λ a r e h. h)
+pub text-put-refusal : (κs : Lfts 1) → Unique (text·put-refusal.Learnt κs) (λ e. now (e .0))
+text-put-refusal κs = by-equations (text·put-refusal.Learnt κs) (λ e. now (e .0)) _ _ (λ a r e h. h .0)

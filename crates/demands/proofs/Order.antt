@@ -13,7 +13,7 @@ use Rattle.settings.specs.declared.Settings.{Settings}
 use Rattle.settings.specs.declared.Words.{Words}
 use Rattle.settings.specs.declared.Row.{Row}
 use Rattle.settings.specs.declared.Known.{Known}
-use Rattle.settings.specs.Limits.{mostHold, mostScans}
+use Rattle.rules.specs.Limits.{mostHold, mostScans}
 use Rattle.settings.specs.Refusals.{unless, orElse, granted, roomNumber}
 use Rattle.settings.specs.Right.{blockOk, countOk, slotOk, knownOf, settingsNumber, wordsOk, apart, several, wordsNumber, rowNumber}
 use Rattle.block.specs.declared.State.{State}

@@ -15,7 +15,7 @@ use Rattle.effects.proofs.Laws.{step-at, step-past}
 use Rattle.settings.specs.declared.Known.{Known}
 use Rattle.settings.specs.declared.Settings.{Settings}
 use Rattle.settings.specs.declared.Words.{Words}
-use Rattle.settings.specs.Limits.{mostHold, mostScans}
+use Rattle.rules.specs.Limits.{mostHold, mostScans}
 use Rattle.settings.specs.Right.{knownOf, settingsNumber, wordsNumber, rowNumber}
 use Rattle.settings.specs.Signals.{signals, signalsOf}
 use Rattle.settings.proofs.Answers.{granted-in-room}

@@ -45,9 +45,11 @@ use Rattle.settings.proofs.bad_trip.Reads as settings·bad-trip
 use Rattle.rules.proofs.code.Reads as rules·code
 use Rattle.rules.proofs.state_of.Reads as rules·state-of
 use Rattle.rules.proofs.same.Reads as rules·same
-use Rattle.rules.proofs.less.Reads as rules·less
 use Rattle.bits.proofs.within.Reads as bits·within
 use Rattle.bits.proofs.count_bits.Reads as bits·count-bits
+use Rattle.bits.proofs.minus.Reads as bits·minus
+use Rattle.bits.proofs.pick16.Reads as bits·pick16
+use Rattle.bits.proofs.pick32.Reads as bits·pick32
 use Rattle.walk.specs.Walks.{startOf, nextOf, movedOn}
 use Rattle.walk.proofs.nth.Reads as walk·nth
 use Rattle.walk.proofs.start as walk·start
@@ -112,8 +114,8 @@ rerun-replay κs = record { nothing-asked = λ a. tt; unique = by-equation (reru
 pub listing-opening : (κs : Lfts 1) → OneAnswer (listing·opening.Asked κs) (listing·opening.Learnt κs) (λ e. now (e .1 .0))
 listing-opening κs = record { nothing-asked = λ a. tt; unique = by-equations (listing·opening.Learnt κs) (λ e. now (e .1 .0)) _ _ (λ a r e h. (h .0, h .1 .0)) }
 
-pub listing-closing : (κs : Lfts 1) → OneAnswer (listing·closing.Asked κs) (listing·closing.Learnt κs) (λ e. now (e .1 .1 .0))
-listing-closing κs = record { nothing-asked = λ a. tt; unique = by-equations (listing·closing.Learnt κs) (λ e. now (e .1 .1 .0)) _ _ (λ a r e h. (h .0, h .1 .0)) }
+pub listing-closing : (κs : Lfts 1) → OneAnswer (listing·closing.Asked κs) (listing·closing.Learnt κs) (λ e. now (e .1 .0))
+listing-closing κs = record { nothing-asked = λ a. tt; unique = by-equations (listing·closing.Learnt κs) (λ e. now (e .1 .0)) _ _ (λ a r e h. (h .0, h .1 .0)) }
 
 pub listing-has-room : (κs : Lfts 0) → OneAnswer (listing·has-room.Asked κs) (listing·has-room.Learnt κs) none
 listing-has-room κs = record { nothing-asked = λ a. tt; unique = by-equation (listing·has-room.Learnt κs) _ (λ a r e h. h) }
@@ -164,16 +166,22 @@ rules-state-of κs = record { nothing-asked = λ a. tt; unique = by-equation (ru
 pub rules-same : (κs : Lfts 0) → OneAnswer (rules·same.Asked κs) (rules·same.Learnt κs) none
 rules-same κs = record { nothing-asked = λ a. tt; unique = by-equation (rules·same.Learnt κs) _ (λ a r e h. h) }
 
-pub rules-less : (κs : Lfts 0) → OneAnswer (rules·less.Asked κs) (rules·less.Learnt κs) none
-rules-less κs = record { nothing-asked = λ a. tt; unique = by-equation (rules·less.Learnt κs) _ (λ a r e h. h) }
-
--- ## Words (`bits`)
+-- ## Words and numbers (`bits`)
 
 pub bits-within : (κs : Lfts 0) → OneAnswer (bits·within.Asked κs) (bits·within.Learnt κs) none
 bits-within κs = record { nothing-asked = λ a. tt; unique = by-equation (bits·within.Learnt κs) _ (λ a r e h. h) }
 
 pub bits-count-bits : (κs : Lfts 0) → OneAnswer (bits·count-bits.Asked κs) (bits·count-bits.Learnt κs) none
 bits-count-bits κs = record { nothing-asked = λ a. tt; unique = by-equation (bits·count-bits.Learnt κs) _ (λ a r e h. h .0) }
+
+pub bits-minus : (κs : Lfts 0) → OneAnswer (bits·minus.Asked κs) (bits·minus.Learnt κs) none
+bits-minus κs = record { nothing-asked = λ a. tt; unique = by-equation (bits·minus.Learnt κs) _ (λ a r e h. h) }
+
+pub bits-pick16 : (κs : Lfts 0) → OneAnswer (bits·pick16.Asked κs) (bits·pick16.Learnt κs) none
+bits-pick16 κs = record { nothing-asked = λ a. tt; unique = by-equation (bits·pick16.Learnt κs) _ (λ a r e h. h) }
+
+pub bits-pick32 : (κs : Lfts 0) → OneAnswer (bits·pick32.Asked κs) (bits·pick32.Learnt κs) none
+bits-pick32 κs = record { nothing-asked = λ a. tt; unique = by-equation (bits·pick32.Learnt κs) _ (λ a r e h. h) }
 
 -- ## A walk (`walk`)
 

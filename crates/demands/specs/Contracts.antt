@@ -7,6 +7,10 @@ use mathlib.Core.Path.{_≡_}
 abbrev pub Unique : {A R E B : Type 0} → (allows : A → R → E → Type 0) (left : E → B) → Type 0
 Unique {A} {R} {E} allows left = (a : A) (r q : R) (e f : E) → allows a r e → allows a q f → (r ≡ q) × (left e ≡ left f)
 
+-- the same where what the contract asks for is met
+abbrev pub UniqueWhereAsked : {A R E B : Type 0} → (asked : A → Type 0) (allows : A → R → E → Type 0) (left : E → B) → Type 0
+UniqueWhereAsked {A} {R} {E} asked allows left = (a : A) (r q : R) (e f : E) → asked a → allows a r e → allows a q f → (r ≡ q) × (left e ≡ left f)
+
 -- an entry point's contract: any input gets an answer, and no other
 pub record OneAnswer {A R E B : Type 0} (asked : A → Type 0) (allows : A → R → E → Type 0) (left : E → B) : Type 0 where
   pub nothing-asked : (a : A) → asked a

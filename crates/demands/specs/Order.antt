@@ -13,7 +13,7 @@ use Rattle.settings.specs.declared.Settings.{Settings}
 use Rattle.settings.specs.declared.Words.{Words}
 use Rattle.settings.specs.declared.Row.{Row}
 use Rattle.settings.specs.declared.Known.{Known}
-use Rattle.settings.specs.Limits.{between, mostHold, mostScans}
+use Rattle.rules.specs.Limits.{between, mostHold, mostScans}
 use Rattle.settings.specs.Right.{blockOk, countOk, slotOk, knownOf, wordsOk, apart, several}
 use Rattle.block.specs.declared.State.{State}
 use Rattle.block.specs.State.{stateOk}

@@ -1,15 +1,25 @@
 -- The bytes of an event record, and of records; and the events that they are of. Document 01, "The rules of one scan".
-use Prim.Native.Nat.{ℕ, _+_}
+use Prim.Native.Nat.{ℕ, _+_, _*_}
 use mathlib.Core.List.{List, [], _∷_, flatMap}
 use Rattle.bits.specs.Layout.{pack}
 use Rattle.bits.specs.Lists.{listOf}
 use Rattle.bits.specs.Numbers.{numAt}
+use Rattle.rules.specs.Limits.{mostEffects}
 use Rattle.rules.specs.Rules.{code, stateOf}
 use Rattle.effects.specs.declared.Event.{Event}
+use Rattle.effects.specs.declared.Record.{Record}
 
 -- a record is 12 bytes long
 abbrev pub recordLength : ℕ
 recordLength = 12
+
+-- a row has at most two records an effect
+abbrev pub mostRecords : ℕ
+mostRecords = 2 * mostEffects
+
+-- their bytes
+abbrev pub mostRowBytes : ℕ
+mostRowBytes = recordLength * mostRecords
 
 -- sequence (2), scan number (4), effect (1), state before (1), state after (1), zero (1), first-out after (2)
 abbrev pub recordLayout : List ℕ
@@ -18,6 +28,10 @@ recordLayout = 2 ∷ 4 ∷ 1 ∷ 1 ∷ 1 ∷ 1 ∷ 2 ∷ []
 -- the bytes of a record, big-endian, of the numbers that it holds
 abbrev pub recordOf : (seq scan effect from to first : ℕ) → List ℕ
 recordOf q c i p r f = pack recordLayout (q ∷ c ∷ i ∷ p ∷ r ∷ 0 ∷ f ∷ [])
+
+-- as the code gives them
+abbrev pub bytesOf : Record → List ℕ
+bytesOf r = recordOf (r .seq) (r .scan) (r .effect) (r .from) (r .to) (r .first)
 
 -- and of an event
 unfoldable pub encode : Event → List ℕ

@@ -7,7 +7,7 @@ ghost use Prim.Native.Nat.{_+_, _≤_};
 ghost use lib.ListN.{length};
 ghost use lib.Seq.{sets};
 ghost use Rattle.bits.specs.Layout.{pack};
-ghost use Rattle.effects.specs.Records.{recordLength, recordOf, eventAt};
+ghost use Rattle.effects.specs.Records.{recordLength, bytesOf, eventAt};
 use rules::EffectState;
 
 // An event: what a record holds.
@@ -19,6 +19,22 @@ pub struct Event {
     pub to: EffectState,
     pub first: u16,
 }
+
+// What a record holds, as its bytes give it: the states are codes.
+pub struct Record {
+    pub seq: u16,
+    pub scan: u32,
+    pub effect: u8,
+    pub from: u8,
+    pub to: u8,
+    pub first: u16,
+}
+
+// The bytes of a record.
+pub const RECORD_LENGTH: usize = 12;
+
+// The most bytes of a row's records: two records an effect.
+pub const MOST_ROW_BYTES: usize = 384;
 
 // ---- the records
 
@@ -41,22 +57,13 @@ fn put_change(buf: &mut [u8], at: usize, from: u8, to: u8, first: u16)
     bits::put16(buf, at + 3, first);
 }
 
-// The record of an event, given by its numbers, at a place.
-pub fn put_record(
-    buf: &mut [u8],
-    at: usize,
-    seq: u16,
-    scan: u32,
-    effect: u8,
-    from: u8,
-    to: u8,
-    first: u16,
-)
+// The record at a place.
+pub fn put_record(buf: &mut [u8], at: usize, r: Record)
     requires { ⌜ at + recordLength ≤ length (now buf) ⌝ }
-    ensures { λ _. ⌜ now (buf .exit) ≡ sets (now (buf .entry)) at (recordOf seq scan effect from to first) ⌝ }
+    ensures { λ _. ⌜ now (buf .exit) ≡ sets (now (buf .entry)) at (bytesOf r) ⌝ }
 {
-    put_number(buf, at, seq, scan, effect);
-    put_change(buf, at + 7, from, to, first);
+    put_number(buf, at, r.seq, r.scan, r.effect);
+    put_change(buf, at + 7, r.from, r.to, r.first);
 }
 
 // The event of the record at a place.

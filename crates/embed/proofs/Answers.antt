@@ -12,7 +12,7 @@ use Rattle.recording.specs.Reader.{reading}
 use Rattle.rerun.specs.declared.Replayed.{Replayed}
 use Rattle.rerun.specs.Replay.{Outcome, replay, answered}
 use Rattle.rerun.proofs.Files.{refusal-number, refused-replay}
-use Rattle.embed.specs.Crossing.{numbers, fitted, crossing, refusal, replayNumber, recordsInto, totalsOrRefusal, totalsInto}
+use Rattle.embed.specs.Crossing.{totalsBytes, numbers, fitted, crossing, refusal, replayNumber, recordsInto, totalsOrRefusal, totalsInto}
 use Rattle.embed.proofs.Stores.{length-numbers, stays}
 use Rattle.embed.proofs.Theorems.{ten-is-last, ten-for-the-totals}
 
@@ -45,7 +45,7 @@ module _ (s records totals : List ℕ) where
       refused r m p totals′ same (sym (ten-is-last s (length records) (length totals) (λ z. not-0 (sym same-number ∙ z)) ∙ same-number)) not-0 (sym (ap (λ (o : Outcome). o .place) is)) f
 
   -- where the totals do not fit nothing is written
-  pub too-little-room : replay s .number ≡ 0 → length totals < 56 → Answered 10 records totals
+  pub too-little-room : replay s .number ≡ 0 → length totals < totalsBytes → Answered 10 records totals
   too-little-room z h =
       refused 10 10 (replay s .place) totals refl (sym (ten-for-the-totals s (length records) (length totals) z h)) (λ e. omega (arith, e)) refl
       (stays (numbers (crossing (refusal (replay s .place) 10))) totals (omega (arith, h, length-numbers (crossing (refusal (replay s .place) 10)))))

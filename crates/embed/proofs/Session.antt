@@ -5,14 +5,14 @@ use Prim.Native.Nat.{ℕ, _*_, _≤_}
 use native.Mathlib.Omega.{arith}
 use lib.ListN.{length}
 use lib.Seq.{sets}
-use Rattle.effects.specs.Records.{encode, bytes}
+use Rattle.effects.specs.Records.{recordLength, encode, bytes}
 use Rattle.recording.specs.declared.Answer.{Answer}
 use Rattle.recording.specs.declared.Answer.the-variants as A
 use Rattle.recording.specs.Answers.{number}
 use Rattle.rerun.specs.Replay.{replay, answered}
 use Rattle.rerun.specs.Session.{session, sessionEvents}
 use Rattle.rerun.proofs.Session.{the-session-is-read, the-session}
-use Rattle.embed.specs.Crossing.{numbers, fitted, checked, checkNumber, checkInto, crossing, replayNumber, recordsInto, totalsInto}
+use Rattle.embed.specs.Crossing.{checkBytes, totalsBytes, numbers, fitted, checked, checkNumber, checkInto, crossing, replayNumber, recordsInto, totalsInto}
 use Rattle.embed.specs.Session.{sessionRecords, sessionTotals, sessionAnswer}
 use Rattle.embed.proofs.Stores.{fits}
 use Rattle.embed.proofs.Answers.{crosses}
@@ -30,13 +30,13 @@ answer-spelled : numbers (checked (A.Accepted 2 22 24)) ≡ sessionAnswer
 unfolding flatMap
 answer-spelled = refl
 
-pub the-session-is-checked : (answer : List ℕ) → 24 ≤ length answer → (checkNumber session (length answer) ≡ 0) × (checkInto session answer ≡ sets answer 0 sessionAnswer)
+pub the-session-is-checked : (answer : List ℕ) → checkBytes ≤ length answer → (checkNumber session (length answer) ≡ 0) × (checkInto session answer ≡ sets answer 0 sessionAnswer)
 the-session-is-checked answer room = (
   check-with-room session (length answer) room ∙ ap number the-session-is-read,
   ap (λ (a : Answer). fitted (numbers (checked a)) answer) the-session-is-read ∙ ap (λ (l : List ℕ). fitted l answer) answer-spelled ∙ sym (fits sessionAnswer answer room),
 )
 
-module _ (records totals : List ℕ) (room : 60 ≤ length records) (totals-room : 56 ≤ length totals) where
+module _ (records totals : List ℕ) (room : recordLength * 5 ≤ length records) (totals-room : totalsBytes ≤ length totals) where
   records-are : bytes (replay session .replay .events) ≡ sessionRecords
   records-are = ap bytes (the-session .1) ∙ records-spelled
 
@@ -50,7 +50,7 @@ module _ (records totals : List ℕ) (room : 60 ≤ length records) (totals-room
       × (recordsInto session (length totals) records ≡ sets records 0 sessionRecords)
       × (totalsInto session (length records) totals ≡ sets totals 0 sessionTotals)
   the-session-crosses =
-      let few : 12 * length (replay session .replay .events) ≤ length records = omega (arith, room, ap length (the-session .1)) in
+      let few : recordLength * length (replay session .replay .events) ≤ length records = omega (arith, room, ap length (the-session .1)) in
       let none = nothing-refused session (length records) (length totals) (the-session .0) few totals-room in
       let all =
       crosses session records totals (answered (replay session)) (sets records 0 sessionRecords) (fitted (numbers (crossing (answered (replay session)))) totals) none refl

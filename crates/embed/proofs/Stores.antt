@@ -8,24 +8,24 @@ use lib.Seq.{sets}
 use Rattle.bits.specs.Numbers.{digits}
 use Rattle.bits.proofs.Lists.{flatMap-append, length-flatMap}
 use Rattle.bits.proofs.Numbers.{sets-append, length-digits}
-use Rattle.embed.specs.Crossing.{numbers, fitted}
+use Rattle.embed.specs.Crossing.{numberBytes, numbers, fitted}
 
 -- ## Numbers of 8 bytes
 
-pub length-numbers : (vs : List ℕ) → length (numbers vs) ≡ 8 * length vs
-length-numbers = length-flatMap (digits 8) 8 (length-digits 8)
+pub length-numbers : (vs : List ℕ) → length (numbers vs) ≡ numberBytes * length vs
+length-numbers = length-flatMap (digits numberBytes) numberBytes (length-digits numberBytes)
 
-pub one-number : (v : ℕ) → digits 8 v ≡ numbers (v ∷ [])
+pub one-number : (v : ℕ) → digits numberBytes v ≡ numbers (v ∷ [])
 unfolding flatMap
 one-number v = refl
 
 -- numbers behind numbers
-pub numbers-then : (l l′ l″ : List ℕ) (at n : ℕ) (us vs : List ℕ) → l′ ≡ sets l at (numbers us) → l″ ≡ sets l′ n (numbers vs) → n ≡ at + 8 * length us → l″ ≡ sets l at (numbers (us ++ vs))
+pub numbers-then : (l l′ l″ : List ℕ) (at n : ℕ) (us vs : List ℕ) → l′ ≡ sets l at (numbers us) → l″ ≡ sets l′ n (numbers vs) → n ≡ at + numberBytes * length us → l″ ≡ sets l at (numbers (us ++ vs))
 numbers-then l l′ l″ at n us vs p q e =
     q
     ∙ (λ j. sets (p j) ((e ∙ ap (λ (k : ℕ). at + k) (sym (length-numbers us))) j) (numbers vs))
     ∙ sym (sets-append l at (numbers us) (numbers vs))
-    ∙ ap (sets l at) (sym (flatMap-append (digits 8) us vs))
+    ∙ ap (sets l at) (sym (flatMap-append (digits numberBytes) us vs))
 
 -- ## A piece that fits, and one that does not
 

@@ -9,7 +9,7 @@ use native.Mathlib.Omega.{arith}
 use lib.Dec.{leb}
 use lib.ListN.{length}
 use lib.Seq.{sets}
-use Rattle.effects.specs.Records.{bytes}
+use Rattle.effects.specs.Records.{recordLength, bytes, mostRowBytes}
 use Rattle.settings.specs.Refusals.{unless, orElse, roomNumber}
 use Rattle.settings.proofs.Refusals.{granted-refused, granted-either, granted-number, room-enough, room-short, or-else-alone, or-else-first, or-else-next, or-else-none}
 use Rattle.recording.specs.Answers.{number, rowCount}
@@ -18,20 +18,20 @@ use Rattle.recording.specs.Accepted.{Accepted}
 use Rattle.rerun.specs.Replay.{Outcome, replay, answered}
 use Rattle.rerun.proofs.Files.{most-effects, whole-so-far}
 use Rattle.rerun.proofs.Theorems.{a-refused-file-is-not-run, a-replay-is-all-its-rows, two-records-an-effect-and-row}
-use Rattle.embed.specs.Crossing.{refusal, checkNumber, replayNumber, recordsInto, totalsOrRefusal}
+use Rattle.embed.specs.Crossing.{checkBytes, totalsBytes, mostEffectBytes, refusal, checkNumber, replayNumber, recordsInto, totalsOrRefusal}
 
 -- ## A check
 
 -- a refused file has the reader's number, whatever the room
 pub check-ten-is-last : (s : List ℕ) (room : ℕ) → (Accepted s → ⊥) → checkNumber s room ≡ number (reading s .answer)
-check-ten-is-last s room h = let n = number (reading s .answer) in sym (or-else-first n (roomNumber 24 room) n refl h)
+check-ten-is-last s room h = let n = number (reading s .answer) in sym (or-else-first n (roomNumber checkBytes room) n refl h)
 
 -- and so has every file where the answer fits; where it does not, an accepted one has 10
-pub check-with-room : (s : List ℕ) (room : ℕ) → 24 ≤ room → checkNumber s room ≡ number (reading s .answer)
-check-with-room s room h = ap (orElse (number (reading s .answer))) (room-enough 24 room h) ∙ or-else-alone (number (reading s .answer)) 0 (λ z. refl)
+pub check-with-room : (s : List ℕ) (room : ℕ) → checkBytes ≤ room → checkNumber s room ≡ number (reading s .answer)
+check-with-room s room h = ap (orElse (number (reading s .answer))) (room-enough checkBytes room h) ∙ or-else-alone (number (reading s .answer)) 0 (λ z. refl)
 
-pub check-without-room : (s : List ℕ) (room : ℕ) → Accepted s → room < 24 → checkNumber s room ≡ 10
-check-without-room s room a h = let n = number (reading s .answer) in sym (or-else-next n (roomNumber 24 room) n 10 refl a (sym (room-short 24 room h)))
+pub check-without-room : (s : List ℕ) (room : ℕ) → Accepted s → room < checkBytes → checkNumber s room ≡ 10
+check-without-room s room a h = let n = number (reading s .answer) in sym (or-else-next n (roomNumber checkBytes room) n 10 refl a (sym (room-short checkBytes room h)))
 
 -- ## A replay
 
@@ -43,46 +43,50 @@ whole-is-accepted s z = go (number (reading s .answer)) refl
     go zero e = e
     go (suc n) e = sym (ap (λ (o : Outcome). o .number) (a-refused-file-is-not-run s (λ a. omega (arith, a, e)))) ∙ z
 
+-- two records an effect and row are the most that can be due
+pub most-due : (s : List ℕ) → Accepted s → recordLength * length (replay s .replay .events) ≤ mostEffectBytes * reading s .settings .count * rowCount (reading s .answer)
+most-due s a =
+    let n = reading s .settings .count in
+    let rows = rowCount (reading s .answer) in
+    omega (arith, two-records-an-effect-and-row s a, mul-assoc 2 n rows, mul-assoc mostEffectBytes n rows)
+
 module _ (s : List ℕ) (room totalsRoom : ℕ) where
   -- 1 to 7 and 9 come first, whatever the room
   pub ten-is-last : (replay s .number ≡ 0 → ⊥) → replayNumber s room totalsRoom ≡ replay s .number
   ten-is-last h = sym (or-else-first (replay s .number) _ (replay s .number) refl h)
 
   abbrev due : ℕ
-  due = 12 * length (replay s .replay .events)
+  due = recordLength * length (replay s .replay .events)
 
-  by-room : replay s .number ≡ 0 → replayNumber s room totalsRoom ≡ orElse (roomNumber due room) (roomNumber 56 totalsRoom)
+  by-room : replay s .number ≡ 0 → replayNumber s room totalsRoom ≡ orElse (roomNumber due room) (roomNumber totalsBytes totalsRoom)
   by-room z = sym (or-else-next (replay s .number) _ (replay s .number) _ refl z refl)
 
   -- and then 10 is given exactly if the records due or the totals do not fit
   pub ten-for-the-records : replay s .number ≡ 0 → room < due → replayNumber s room totalsRoom ≡ 10
-  ten-for-the-records z h = by-room z ∙ ap (λ (n : ℕ). orElse n (roomNumber 56 totalsRoom)) (room-short due room h)
+  ten-for-the-records z h = by-room z ∙ ap (λ (n : ℕ). orElse n (roomNumber totalsBytes totalsRoom)) (room-short due room h)
 
-  pub ten-for-the-totals : replay s .number ≡ 0 → totalsRoom < 56 → replayNumber s room totalsRoom ≡ 10
-  ten-for-the-totals z h = by-room z ∙ ap (orElse (roomNumber due room)) (room-short 56 totalsRoom h) ∙ either (leb due room)
+  pub ten-for-the-totals : replay s .number ≡ 0 → totalsRoom < totalsBytes → replayNumber s room totalsRoom ≡ 10
+  ten-for-the-totals z h = by-room z ∙ ap (orElse (roomNumber due room)) (room-short totalsBytes totalsRoom h) ∙ either (leb due room)
     where
       either : (b : Bool) → orElse (unless b 10) 10 ≡ 10
       either true = refl
       either false = refl
 
-  room-for-both : due ≤ room → 56 ≤ totalsRoom → orElse (roomNumber due room) (roomNumber 56 totalsRoom) ≡ 0
-  room-for-both h k = λ j. orElse (room-enough due room h j) (room-enough 56 totalsRoom k j)
+  room-for-both : due ≤ room → totalsBytes ≤ totalsRoom → orElse (roomNumber due room) (roomNumber totalsBytes totalsRoom) ≡ 0
+  room-for-both h k = λ j. orElse (room-enough due room h j) (room-enough totalsBytes totalsRoom k j)
 
-  pub nothing-refused : replay s .number ≡ 0 → due ≤ room → 56 ≤ totalsRoom → replayNumber s room totalsRoom ≡ 0
+  pub nothing-refused : replay s .number ≡ 0 → due ≤ room → totalsBytes ≤ totalsRoom → replayNumber s room totalsRoom ≡ 0
   nothing-refused z h k = by-room z ∙ room-for-both h k
 
   -- room for what is due suffices
-  with-room : (replay s .number ≡ 0 → due ≤ room) → 56 ≤ totalsRoom → replayNumber s room totalsRoom ≡ replay s .number
+  with-room : (replay s .number ≡ 0 → due ≤ room) → totalsBytes ≤ totalsRoom → replayNumber s room totalsRoom ≡ replay s .number
   with-room h k = or-else-alone (replay s .number) _ (λ z. room-for-both (h z) k)
 
   -- so room of 24 bytes for each effect and row does, and room of 384 for each row
-  pub always-room : 24 * reading s .settings .count * rowCount (reading s .answer) ≤ room → 56 ≤ totalsRoom → replayNumber s room totalsRoom ≡ replay s .number
-  always-room h =
-      let n = reading s .settings .count in
-      let rows = rowCount (reading s .answer) in
-      with-room (λ z. omega (arith, two-records-an-effect-and-row s (whole-is-accepted s z), h, mul-assoc 2 n rows, mul-assoc 24 n rows))
+  pub always-room : mostEffectBytes * reading s .settings .count * rowCount (reading s .answer) ≤ room → totalsBytes ≤ totalsRoom → replayNumber s room totalsRoom ≡ replay s .number
+  always-room h = with-room (λ z. omega (arith, most-due s (whole-is-accepted s z), h))
 
-  pub room-of-384-a-row : 384 * rowCount (reading s .answer) ≤ room → 56 ≤ totalsRoom → replayNumber s room totalsRoom ≡ replay s .number
+  pub room-of-384-a-row : mostRowBytes * rowCount (reading s .answer) ≤ room → totalsBytes ≤ totalsRoom → replayNumber s room totalsRoom ≡ replay s .number
   room-of-384-a-row h =
       let n = reading s .settings .count in
       let rows = rowCount (reading s .answer) in

@@ -16,8 +16,18 @@ use Rattle.rerun.specs.declared.Replayed.{Replayed}
 use Rattle.rerun.specs.Replay.{replay, answered}
 
 -- every number that crosses is 8 bytes, big-endian
+abbrev pub numberBytes : ℕ
+numberBytes = 8
+
 abbrev pub numbers : List ℕ → List ℕ
-numbers vs = flatMap (digits 8) vs
+numbers vs = flatMap (digits numberBytes) vs
+
+-- the answer to a check is three of them, and totals are seven
+abbrev pub checkBytes : ℕ
+checkBytes = numberBytes * 3
+
+abbrev pub totalsBytes : ℕ
+totalsBytes = numberBytes * 7
 
 -- a piece at the front of the lent bytes, if it fits; else they stay as they were
 abbrev pub fitted : List ℕ → List ℕ → List ℕ
@@ -30,7 +40,7 @@ abbrev pub checked : Answer → List ℕ
 checked answer = number answer ∷ place answer ∷ rowCount answer ∷ []
 
 abbrev pub checkNumber : List ℕ → (room : ℕ) → ℕ
-checkNumber s room = orElse (number (reading s .answer)) (roomNumber 24 room)
+checkNumber s room = orElse (number (reading s .answer)) (roomNumber checkBytes room)
 
 abbrev pub checkInto : List ℕ → List ℕ → List ℕ
 checkInto s out = fitted (numbers (checked (reading s .answer))) out
@@ -45,10 +55,14 @@ crossing r = r .records ∷ r .rows ∷ r .scans ∷ r .live ∷ r .exercised �
 abbrev pub refusal : (place number : ℕ) → Replayed
 refusal place number = record { number = number; place = place; records = 0; rows = 0; scans = 0; live = 0; exercised = 0 }
 
+-- the most bytes of records that an effect has in a row: two records
+abbrev pub mostEffectBytes : ℕ
+mostEffectBytes = recordLength * 2
+
 -- the reader's number or 9; else 10 if the records due or the totals do not fit
 abbrev pub replayNumber : List ℕ → (room totalsRoom : ℕ) → ℕ
 replayNumber s room totalsRoom =
-    orElse (replay s .number) (orElse (roomNumber (recordLength * length (replay s .replay .events)) room) (roomNumber 56 totalsRoom))
+    orElse (replay s .number) (orElse (roomNumber (recordLength * length (replay s .replay .events)) room) (roomNumber totalsBytes totalsRoom))
 
 -- on 0 all records, and on any other number nothing
 abbrev pub recordsInto : List ℕ → (totalsRoom : ℕ) → List ℕ → List ℕ

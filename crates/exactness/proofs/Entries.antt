@@ -16,7 +16,7 @@ use Rattle.bits.proofs.Numbers.{total, fieldsAt, Fit, pack-fields, fields-pack}
 use Rattle.settings.specs.declared.Effect.{Effect}
 use Rattle.settings.specs.declared.Row.{Row}
 use Rattle.settings.specs.declared.Known.{Known}
-use Rattle.settings.specs.Limits.{mostDelay, mostHold}
+use Rattle.rules.specs.Limits.{mostDelay, mostHold}
 use Rattle.settings.specs.Right.{blockOk, effectOk, effectNumber, wordsOk, fieldsNumber, apartNumber, severalNumber, wordsNumber, holdNumber, rowNumber}
 use Rattle.settings.specs.Refusals.{orElse}
 use Rattle.settings.proofs.Refusals.{or-else-none, unless-none}

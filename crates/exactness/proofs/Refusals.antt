@@ -13,7 +13,7 @@ use Rattle.bits.specs.Numbers.{numAt}
 use Rattle.settings.specs.declared.Row.{Row}
 use Rattle.settings.specs.declared.Known.{Known}
 use Rattle.settings.specs.Refusals.{unless, orElse}
-use Rattle.settings.specs.Limits.{mostHold}
+use Rattle.rules.specs.Limits.{mostHold}
 use Rattle.settings.specs.Right.{knownOf, blockOk, effectOk, holdNumber, wordsOk, fieldsNumber, apart, apartNumber, several, severalNumber, wordsNumber, rowNumber}
 use Rattle.bits.specs.Words.{bitOf}
 use Rattle.recording.specs.declared.Section.{Section}

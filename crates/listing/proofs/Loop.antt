@@ -1,61 +1,82 @@
 -- What a caller's loop over the rows has after each of them: it goes on, ends after the last row, or stops at a refusal.
-use mathlib.Core.Path.{_≡_, refl, sym, ap, _∙_}
-use mathlib.Core.Bool.{Bool, true, false, cond}
-use mathlib.Core.List.{List}
+use mathlib.Core.Path.{_≡_, refl, sym, _∙_}
+use mathlib.Core.Bool.{true, false}
+use mathlib.Core.List.{List, []}
 use Prim.Native.Nat.{ℕ, _+_, _≤_, _<_}
-use borrow.Author.Tests.{le-leb}
-use Rattle.settings.specs.declared.Settings.{Settings}
+use native.Mathlib.Omega.{arith}
+use borrow.Author.Tests.{not-true, not-false, leb-true}
+use lib.ListN.{length}
+use Rattle.settings.proofs.Refusals.{granted-refused}
 use Rattle.recording.specs.Answers.{rowCount}
 use Rattle.recording.specs.Reader.{reading}
-use Rattle.rerun.specs.declared.Totals.{Totals}
-use Rattle.rerun.specs.declared.Turn.{Turn}
-use Rattle.rerun.specs.Replay.{Outcome}
-use Rattle.rerun.specs.Turn.{totalsOf, Going, turnOf}
-use Rattle.rerun.proofs.Files.{ends-at-refusal}
+use Rattle.rerun.specs.declared.Run.{Run}
+use Rattle.rerun.specs.Replay.{firstRows, rowRun}
+use Rattle.rerun.specs.Turn.{Going, rowInto, RowDone}
 use Rattle.rerun.proofs.Turns as turns
 use Rattle.listing.specs.declared.Printed.{Printed}
-use Rattle.listing.specs.Room.{mostPiece}
-use Rattle.listing.specs.Printed.{hasRoom, printed, Last}
+use Rattle.text.specs.Room.{mostPiece}
+use Rattle.text.specs.Text.{lines}
+use Rattle.listing.specs.Printed.{hasRoom, rowLines, PrintedRow, Last}
+use Rattle.text.proofs.Puts.{Put}
 
-either : (b : Bool) (x y : Printed) (P : Printed → Type 0) → P x → P y → P (cond b x y)
-either true x y P h f = h
-either false x y P h f = f
-
-module _ (s : List ℕ) (st : Settings) (width : ℕ) (t : Totals) (g : Going s st width t) where
+module _ {s : List ℕ} {run : Run} {array : List ℕ} (g : Going s run array) where
   -- no row is left
-  pub ends : t .rows ≡ rowCount (reading s .answer) → Last s 0 t
-  ends e =
-      let o = turns.ends s st width t g e in
-      (sym (ap (λ (o : Outcome). o .number) o), g .totals ∙ sym (ap (λ (o : Outcome). totalsOf s (o .replay)) o))
+  pub ends : run .rows ≡ rowCount (reading s .answer) → Last s (record { number = 0; records = 0; run = run })
+  ends = turns.ends-answered g 0
 
-  module _ (more : t .rows < rowCount (reading s .answer)) (n at : ℕ) (p : Printed) (is : p ≡ printed s t n at) where
-    abbrev turn : Turn
-    turn = turnOf s (t .rows)
+  module _ {at : ℕ} {out : List ℕ} {r : Printed} {array′ out′ : List ℕ} (p : PrintedRow s run at out r array′ out′) where
+    -- ## The buffer was full: all is as it was
 
-    by-room : (P : ℕ → Totals → Type 0) → P 0 t → P (turn .number) (turn .totals) → P (p .number) (p .totals)
-    unfolding printed
-    by-room P f h = rw is (either (hasRoom n at) _ _ (λ q. P (q .number) (q .totals)) h f)
+    module _ (h : r .full ≡ true) where
+      pub no-room : hasRoom (length out) at ≡ false
+      no-room = not-true (hasRoom (length out) at) (sym (p .full-is) ∙ h)
 
-    -- without refusal the loop goes on, also where the buffer was full
-    pub goes-on : p .number ≡ 0 → Going s st width (p .totals)
-    goes-on = by-room (λ k u. k ≡ 0 → Going s st width u) (λ z. g) (λ z. turns.goes-on s st width t g more turn refl z)
+      pub same-rows : r .turn .run .rows ≡ run .rows
+      same-rows = rw no-room at (p .rows-are)
 
-    module _ (room : at + mostPiece ≤ n) where
-      with-room : (p .number ≡ turn .number) × (p .totals ≡ turn .totals)
-      unfolding printed
-      with-room = rw (is, le-leb (at + mostPiece) n room) (refl, refl)
+      pub same-place : r .at ≡ at
+      same-place = rw no-room at (p .at-is)
 
-      -- with room, by one row
-      pub one-row : p .number ≡ 0 → p .totals .rows ≡ t .rows + 1
-      one-row z =
-          ap (λ (u : Totals). u .rows) (with-room .1) ∙ turns.one-row s st width t g more turn refl (sym (with-room .0) ∙ z)
+      pub same-bytes : out′ ≡ out
+      same-bytes = rw no-room at (p .text)
 
-      -- a refusal is the last
-      pub stops : (p .number ≡ 0 → ⊥) → Last s (p .number) (p .totals)
-      stops h =
-          let o = ends-at-refusal s (g .accepted) (t .rows + 1) (λ z. h (with-room .0 ∙ z)) in
-          (with-room .0 ∙ sym (ap (λ (o : Outcome). o .number) o), with-room .1 ∙ sym (ap (λ (o : Outcome). totalsOf s (o .replay)) o))
+    -- ## The row was run
 
-      -- and leaves the totals as they were
-      pub kept : (p .number ≡ 0 → ⊥) → p .totals ≡ t
-      kept h = with-room .1 ∙ turns.unchanged s st width t g more turn refl (λ z. h (with-room .0 ∙ z))
+    module _ (h : r .full ≡ false) where
+      room : hasRoom (length out) at ≡ true
+      room = not-false (hasRoom (length out) at) (sym (p .full-is) ∙ h)
+
+      -- its lines were put
+      pub lines-put : Put out out′ at (r .at) (rowLines s (run .rows))
+      lines-put = (rw room at (p .at-is), rw room at (p .text))
+
+      pub put-within : r .at ≤ length out
+      put-within = p .within (omega (arith, leb-true (at + mostPiece) (length out) room))
+
+      -- what it came to, in a space of no bytes
+      done : RowDone s run [] (r .turn) array′ (rowInto s (run .rows) 0 [])
+      done =
+          record {
+            number-is = rw room at (p .number-is);
+            records-are = rw room at (p .records-are);
+            going = p .going;
+            rows-are = rw room at (p .rows-are);
+            laid = refl;
+          }
+
+      module _ (more : run .rows < rowCount (reading s .answer)) where
+        -- without refusal the loop goes on, by one row, whose lines are those of its records
+        pub one-row : r .turn .number ≡ 0 → r .turn .run .rows ≡ run .rows + 1
+        one-row = turns.one-row g more done
+
+        module _ (refused : r .turn .number ≡ 0 → ⊥) where
+          -- a refused row leaves the run as it was, and has no lines
+          pub unchanged : r .turn .run .rows ≡ run .rows
+          unchanged = turns.unchanged g more done refused
+
+          pub no-lines : rowLines s (run .rows) ≡ []
+          no-lines = granted-refused (lines (rowRun s (run .rows) .events)) (λ n. []) (firstRows s (run .rows + 1) .number) (λ z. refused (done .number-is ∙ z))
+
+          -- it is the last
+          pub stops : Last s (r .turn)
+          stops = turns.stops-answered g more done refused

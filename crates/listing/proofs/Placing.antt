@@ -1,5 +1,5 @@
 -- A piece at a place of a lent buffer: what is answered where the buffer is full, and where it is not.
-use mathlib.Core.Path.{_≡_, refl, sym, ap, _∙_}
+use mathlib.Core.Path.{_≡_, refl, sym, _∙_}
 use mathlib.Core.Bool.{Bool, true, false, not}
 use mathlib.Core.List.{List, [], flatMap}
 use Prim.Native.Nat.{ℕ, zero, suc, _+_, _-_, _*_, _≤_, _<_}
@@ -9,18 +9,18 @@ use lib.Dec.{leb}
 use lib.ListN.{length, drop}
 use lib.Seq.{sets, sets-eq}
 use Rattle.effects.specs.declared.Event.{Event}
-use Rattle.effects.specs.Records.{bytes, eventsAt}
+use Rattle.effects.specs.Records.{recordLength, bytes, eventsAt, mostRecords, mostRowBytes}
 use Rattle.effects.proofs.Records.{length-bytes, events-of-bytes}
 use Rattle.settings.specs.Refusals.{granted}
-use Rattle.rerun.specs.declared.Totals.{Totals}
+use Rattle.rerun.specs.declared.Run.{Run}
 use Rattle.rerun.specs.declared.Turn.{Turn}
 use Rattle.rerun.specs.Replay.{firstRows, rowRun}
-use Rattle.rerun.specs.Turn.{turnOf, turnInto}
+use Rattle.rerun.specs.Turn.{Going, RowDone}
 use Rattle.listing.specs.declared.Piece.{Piece}
-use Rattle.listing.specs.declared.Printed.{Printed}
-use Rattle.listing.specs.Room.{mostPiece}
-use Rattle.listing.specs.Text.{lines}
-use Rattle.listing.specs.Printed.{hasRoom, placed, written, printed, rowLines}
+use Rattle.text.specs.Room.{mostPiece}
+use Rattle.text.specs.Text.{lines}
+use Rattle.listing.specs.Printed.{hasRoom, placed, written, rowLines, PrintedRow}
+use Rattle.text.proofs.Puts.{Put}
 
 -- ## The test
 
@@ -51,21 +51,33 @@ module _ (out : List ℕ) (at : ℕ) (b : Bool) (is : b ≡ hasRoom (length out)
 
   -- ## A row
 
-  module _ (s : List ℕ) (t : Totals) where
-    pub full-row : not b ≡ true
-        → (_≡_ {A = Printed} (record { full = true; at = at; number = 0; totals = t }) (printed s t (length out) at)) × (out ≡ placed out at (rowLines s (t .rows)))
-    unfolding printed
-    full-row h = let e = sym is ∙ not-true b h in (rw e, rw e)
+  module _ {s : List ℕ} {run : Run} where
+    -- it was not run
+    pub full-row : {array : List ℕ} → Going s run array → not b ≡ true
+        → PrintedRow s run at out (record { full = true; at = at; turn = record { number = 0; records = 0; run = run } }) array out
+    full-row g h =
+        let e = sym is ∙ not-true b h in
+        record { full-is = rw e; at-is = rw e; within = λ l. l; text = rw e; number-is = rw e; records-are = rw e; going = g; rows-are = rw e }
 
-    pub whole-row : not b ≡ false → (u : Turn) → u ≡ turnOf s (t .rows) → (out′ : List ℕ) (r : ℕ)
-        → r ≡ at + length (rowLines s (t .rows)) → out′ ≡ sets out at (rowLines s (t .rows))
-        → (_≡_ {A = Printed} (record { full = false; at = r; number = u .number; totals = u .totals }) (printed s t (length out) at)) × (out′ ≡ placed out at (rowLines s (t .rows)))
-    unfolding printed
-    whole-row h u v out′ r p q = let e = sym is ∙ not-false b h in (rw (e, p, v), rw e q)
+    -- it came to u
+    pub whole-row : {space space′ array′ out′ : List ℕ} {u : Turn} {r : ℕ} → RowDone s run space u array′ space′ → not b ≡ false
+        → Put out out′ at r (rowLines s (run .rows)) → r ≤ length out → PrintedRow s run at out (record { full = false; at = r; turn = u }) array′ out′
+    whole-row d h p l =
+        let e = sym is ∙ not-false b h in
+        record {
+          full-is = rw e;
+          at-is = rw e (p .0);
+          within = λ k. l;
+          text = rw e (p .1);
+          number-is = rw e (d .number-is);
+          records-are = rw e (d .records-are);
+          going = d .going;
+          rows-are = rw e (d .rows-are);
+        }
 
 -- ## The records that a row leaves in the space that it was lent
 
-read-back : (n : ℕ) (es : List Event) (space : List ℕ) → 12 * granted n (length es) (λ k. 0) ≤ length space
+read-back : (n : ℕ) (es : List Event) (space : List ℕ) → recordLength * granted n (length es) (λ k. 0) ≤ length space
     → lines (eventsAt (granted n (sets space 0 (bytes es)) (λ k. space)) (granted n (length es) (λ k. 0)) 0) ≡ granted n (lines es) (λ k. [])
 unfolding flatMap
 read-back zero es space h =
@@ -73,8 +85,8 @@ read-back zero es space h =
 read-back (suc k) es space h = refl
 
 -- they are those whose lines the row has
-pub lines-of-turn : (s : List ℕ) (i : ℕ) (u : Turn) → u ≡ turnOf s i → (space space′ : List ℕ) → space′ ≡ turnInto s i space → u .records ≤ 32 → 384 ≤ length space
-    → lines (eventsAt space′ (u .records) 0) ≡ rowLines s i
-lines-of-turn s i u e space space′ f few room =
-    let n = ap (λ (v : Turn). v .records) e in
-    rw (n, f) (read-back (firstRows s (i + 1) .number) (rowRun s i .events) space (omega (arith, n)))
+pub lines-of-turn : {s : List ℕ} {run : Run} {space : List ℕ} {u : Turn} {array′ space′ : List ℕ} → RowDone s run space u array′ space′
+    → u .records ≤ mostRecords → mostRowBytes ≤ length space → lines (eventsAt space′ (u .records) 0) ≡ rowLines s (run .rows)
+lines-of-turn {s} {run} {space} d few room =
+    rw (d .records-are, d .laid)
+    (read-back (firstRows s (run .rows + 1) .number) (rowRun s (run .rows) .events) space (omega (arith, d .records-are)))

@@ -8,7 +8,7 @@ use Rattle.recording.specs.declared.Answer.{Answer}
 use Rattle.rerun.specs.Replay.{replay}
 use Rattle.rerun.specs.Session.{session, sessionEvents}
 use Rattle.rerun.proofs.Session.{the-session-is-read, the-session}
-use Rattle.listing.specs.Text.{header, name, line, lines, lastLine}
+use Rattle.text.specs.Text.{header, name, line, lines, lastLine}
 use Rattle.listing.specs.Listing.{closing, listed, listing}
 use Rattle.listing.specs.Session.{sessionText}
 

@@ -1,9 +1,8 @@
 -- What is promised of a listing: the pieces that the code gives, joined, are the listing of the definition. Document 01, "One
--- session, whole". `Loop` has the laws for a caller's loop: it goes on, ends and stops with the number and totals that the
--- closing is made of.
+-- session, whole". `Loop` has the laws for a caller's loop: it goes on, ends and stops with the answer that the closing is
+-- made of.
 use mathlib.Core.Path.{_≡_, refl, sym, ap, ap₂, _∙_}
 use mathlib.Core.List.{List, [], _++_, flatMap}
-use mathlib.Core.Logic.{⊎-elim}
 use Prim.Native.Nat.{ℕ}
 use native.Mathlib.Numerals.{add-one}
 use native.Mathlib.Omega.{arith}
@@ -12,15 +11,15 @@ use Rattle.settings.specs.Refusals.{granted}
 use Rattle.recording.specs.Answers.{number, place, rowCount}
 use Rattle.recording.specs.Reader.{reading}
 use Rattle.recording.specs.Accepted.{Accepted}
-use Rattle.rerun.specs.declared.Totals.{Totals}
+use Rattle.rerun.specs.declared.Replayed.{Replayed}
+use Rattle.rerun.specs.declared.Turn.{Turn}
 use Rattle.rerun.specs.Replay.{Outcome, whole, started, joined, replay, answered, firstRows, rowRun}
-use Rattle.rerun.specs.Turn.{totalsOf}
+use Rattle.rerun.specs.Turn.{answerOf}
 use Rattle.settings.proofs.Refusals.{granted-refused}
 use Rattle.rerun.proofs.Files.{Before, by-rows, all-the-rows, numberAt, next-number}
-use Rattle.rerun.proofs.Theorems.{whole-or-stopped}
-use Rattle.listing.specs.Text.{header, line, lines, refusalLine}
+use Rattle.text.specs.Text.{header, line, lines, refusalLine}
 use Rattle.listing.specs.Listing.{closing, listing}
-use Rattle.listing.specs.Printed.{opening, closingBy, rowLines, rowsLines, Last}
+use Rattle.listing.specs.Printed.{opening, rowLines, rowsLines, Last}
 
 -- a refused file: the opening is all
 pub a-refused-file-is-its-opening : (s : List ℕ) → (Accepted s → ⊥) → opening (reading s .answer) ≡ listing s
@@ -54,15 +53,9 @@ module _ (s : List ℕ) (accepted : Accepted s) where
   rows-joined =
       rw (all-the-rows s accepted) (by-rows s Joined starts runs (λ i b h. b .3) (rowCount (reading s .answer)) (omega arith))
 
-  -- the closing by the number and the totals of the whole is that of the replay
-  pub closing-of-the-replay : closingBy (replay s .number) (totalsOf s (replay s .replay)) ≡ closing (answered (replay s))
-  unfolding closing
-  closing-of-the-replay = ⊎-elim (λ h. rw (h .0)) (λ h. rw (h .0, h .1)) (whole-or-stopped s accepted)
-
   -- the opening, the lines of the rows and the closing are the listing
-  pub pieces-are-the-listing : (k : ℕ) (t : Totals) → Last s k t → opening (reading s .answer) ++ rowsLines s (t .rows) ++ closingBy k t ≡ listing s
+  pub pieces-are-the-listing : (t : Turn) → Last s t → opening (reading s .answer) ++ rowsLines s (t .run .rows) ++ closing (answerOf t) ≡ listing s
   unfolding listing
-  pieces-are-the-listing k t last =
-      let e : closingBy k t ≡ closing (answered (replay s)) = ap₂ closingBy (last .0) (last .1) ∙ closing-of-the-replay in
-      let r : rowsLines s (t .rows) ≡ lines (replay s .replay .events) = ap (λ (u : Totals). rowsLines s (u .rows)) (last .1) ∙ rows-joined in
-      rw (e, r, accepted)
+  pieces-are-the-listing t last =
+      let r : rowsLines s (t .run .rows) ≡ lines (replay s .replay .events) = ap (λ (a : Replayed). rowsLines s (a .rows)) last ∙ rows-joined in
+      rw (last, r, accepted)

@@ -7,7 +7,7 @@ use Rattle.recording.specs.Answers.{number, place}
 use Rattle.recording.specs.Reader.{reading}
 use Rattle.rerun.specs.declared.Replayed.{Replayed}
 use Rattle.rerun.specs.Replay.{Outcome, replay, answered}
-use Rattle.listing.specs.Text.{header, lines, lastLine, refusalLine}
+use Rattle.text.specs.Text.{header, lines, lastLine, refusalLine}
 
 -- what stands behind the records' lines: the last line; or on a refusal its line, with the row's first byte, and no last line
 unfoldable pub closing : Replayed → List ℕ

@@ -1,9 +1,9 @@
 -- A listing piece by piece, as the code gives it: the opening, the lines of each row, and the closing, each at a place of a
 -- lent buffer. Where fewer bytes are left than a piece may take, the buffer is full: nothing is written, and the caller goes
 -- on with more room. The pieces together are the listing of document 01, "One session, whole".
-use Prim.Native.Nat.{ℕ, zero, suc, _+_}
+use Prim.Native.Nat.{ℕ, zero, suc, _+_, _≤_}
 use mathlib.Core.Path.{_≡_}
-use mathlib.Core.Bool.{Bool, true, false, cond}
+use mathlib.Core.Bool.{Bool, true, false, not, cond}
 use mathlib.Core.List.{List, [], _++_}
 use lib.Dec.{leb}
 use lib.ListN.{length}
@@ -11,14 +11,14 @@ use lib.Seq.{sets}
 use Rattle.settings.specs.Refusals.{granted}
 use Rattle.recording.specs.declared.Answer.{Answer}
 use Rattle.recording.specs.Answers.{number, place}
-use Rattle.rerun.specs.declared.Totals.{Totals}
-use Rattle.rerun.specs.Replay.{replay, firstRows, rowRun}
-use Rattle.rerun.specs.Turn.{totalsOf}
+use Rattle.rerun.specs.declared.Run.{Run}
+use Rattle.rerun.specs.declared.Turn.{Turn}
+use Rattle.rerun.specs.Replay.{replay, answered, firstRows, rowRun}
+use Rattle.rerun.specs.Turn.{Going, recordsOf, answerOf}
 use Rattle.listing.specs.declared.Piece.{Piece}
 use Rattle.listing.specs.declared.Printed.{Printed}
-use Rattle.listing.specs.Room.{mostPiece}
-use Rattle.listing.specs.Text.{header, lines, refusalLine}
-use Rattle.listing.specs.Listing.{closing}
+use Rattle.text.specs.Room.{mostPiece}
+use Rattle.text.specs.Text.{header, lines, refusalLine}
 
 -- ## The pieces
 
@@ -29,20 +29,6 @@ opening a = granted (number a) header (λ n. refusalLine n (place a))
 -- the lines of row i, from 0; a row that is refused has none
 abbrev pub rowLines : List ℕ → ℕ → List ℕ
 rowLines s i = granted (firstRows s (i + 1) .number) (lines (rowRun s i .events)) (λ n. [])
-
--- by the number of the row that came last, and the totals, whose place is that of the row
-abbrev pub closingBy : (number : ℕ) → Totals → List ℕ
-closingBy number t =
-    closing
-    (record {
-      number = number;
-      place = t .place;
-      records = t .records;
-      rows = t .rows;
-      scans = t .board .done;
-      live = t .live;
-      exercised = t .exercised;
-    })
 
 -- the lines of the first n rows, joined
 abbrev pub rowsLines : List ℕ → (n : ℕ) → List ℕ
@@ -63,21 +49,20 @@ placed out at text = cond (hasRoom (length out) at) (sets out at text) out
 abbrev pub written : (n at : ℕ) → List ℕ → Piece
 written n at text = cond (hasRoom n at) (record { full = false; at = at + length text }) (record { full = true; at = at })
 
--- the answer for the row after those that the totals count: its number and the totals after it; those given where the buffer
--- was full
-unfoldable pub printed : List ℕ → Totals → (n at : ℕ) → Printed
-printed s t n at =
-    cond (hasRoom n at)
-    (record {
-      full = false;
-      at = at + length (rowLines s (t .rows));
-      number = firstRows s (t .rows + 1) .number;
-      totals = totalsOf s (firstRows s (t .rows + 1) .replay);
-    })
-    (record { full = true; at = at; number = 0; totals = t })
+-- a row's lines at a place, and what the row came to. Where the buffer was full the row was not run
+pub record PrintedRow (s : List ℕ) (run : Run) (at : ℕ) (out : List ℕ) (r : Printed) (array′ out′ : List ℕ) : Type 0 where
+  pub full-is : r .full ≡ not (hasRoom (length out) at)
+  pub at-is : r .at ≡ cond (hasRoom (length out) at) (at + length (rowLines s (run .rows))) at
+  pub within : at ≤ length out → r .at ≤ length out
+  pub text : out′ ≡ placed out at (rowLines s (run .rows))
+  pub number-is : r .turn .number ≡ cond (hasRoom (length out) at) (firstRows s (run .rows + 1) .number) 0
+  pub records-are : r .turn .records ≡ cond (hasRoom (length out) at) (recordsOf s (run .rows)) 0
+  pub going : Going s (r .turn .run) array′
+  pub rows-are : r .turn .run .rows
+      ≡ cond (hasRoom (length out) at) (granted (firstRows s (run .rows + 1) .number) (run .rows + 1) (λ n. run .rows)) (run .rows)
 
 -- ## All pieces
 
--- what a caller's loop over the rows ends with: the number of the row that came last, and the totals, are those of the replay
-abbrev pub Last : List ℕ → ℕ → Totals → Type 0
-Last s number t = (number ≡ replay s .number) × (t ≡ totalsOf s (replay s .replay))
+-- what a caller's loop over the rows ends with: the answer is that of the whole replay
+abbrev pub Last : List ℕ → Turn → Type 0
+Last s t = answerOf t ≡ answered (replay s)

@@ -3,8 +3,6 @@
 // written, and the caller goes on with more room. A place within the buffer stays within it, so that a caller need not show it.
 // It rests on `rerun` and what that rests on. How lines are put, and the records that a row leaves on the way, may change without
 // moving a contract; the text is specs/Text, and when a buffer is full is part of every contract.
-mod text;
-
 ghost use mathlib.Core.Path.{_≡_};
 ghost use Prim.Native.Nat.{_+_, _<_, _≤_};
 ghost use lib.ListN.{length};
@@ -12,14 +10,14 @@ ghost use lib.Seq.{sets};
 ghost use Rattle.recording.specs.Answers.{rowCount};
 ghost use Rattle.recording.specs.Reader.{reading as readingOf};
 ghost use Rattle.rerun.specs.Turn.{Going};
-ghost use Rattle.wiring.specs.Wiring.{Wired};
-ghost use Rattle.listing.specs.Room.{mostPiece};
-ghost use Rattle.listing.specs.Printed.{opening as openingOf, closingBy, rowLines, hasRoom, placed, written, printed};
+ghost use Rattle.text.specs.Room.{mostPiece};
+ghost use Rattle.listing.specs.Listing.{closing as closingOf};
+ghost use Rattle.listing.specs.Printed.{opening as openingOf, hasRoom, placed, written, PrintedRow};
 use recording::Answer;
 use recording::Reading;
-use rerun::Totals;
-use settings::Settings;
-use wiring::Wiring;
+use rerun::Replayed;
+use rerun::Run;
+use rerun::Turn;
 
 // Whether the buffer was full, and the place after the piece.
 pub struct Piece {
@@ -27,12 +25,11 @@ pub struct Piece {
     pub at: usize,
 }
 
-// The same of a row's lines, with the row's number and the totals after it.
+// The same of a row's lines, with what the row came to; where the buffer was full the row was not run.
 pub struct Printed {
     pub full: bool,
     pub at: usize,
-    pub number: u8,
-    pub totals: Totals,
+    pub turn: Turn,
 }
 
 const MOST_PIECE: usize = 1568;
@@ -93,67 +90,55 @@ pub fn opening(reading: Reading, out: &mut [u8], at: usize) -> Piece
     }
 }
 
-// The lines of the row after those that the totals count.
-pub fn row(
-    s: &[u8],
-    st: Settings,
-    x: Wiring,
-    causes: &[u16; 16],
-    times: &[u32; 16],
-    width: usize,
-    t: Totals,
-    out: &mut [u8],
-    at: usize,
-) -> Printed
-    requires { ⌜ Going (now s) st width t × (t .rows < rowCount (readingOf (now s) .answer)) × Wired st x (now causes) (now times) ⌝ }
-    ensures { λ r. ⌜ r ≡ printed (now (s .entry)) t (length (now (out .entry))) at ⌝ }
-    ensures { λ _. ⌜ now (out .exit) ≡ placed (now (out .entry)) at (rowLines (now (s .entry)) (t .rows)) ⌝ }
-    ensures { λ r. ⌜ (at ≤ length (now (out .entry)) → r .at ≤ length (now (out .entry))) ⌝ }
+// The lines of the row that the run has come to.
+pub fn row(s: &[u8], run: Run, board: &mut [u32; 64], out: &mut [u8], at: usize) -> Printed
+    requires { ⌜ Going (now s) run (now board) × (run .rows < rowCount (readingOf (now s) .answer)) ⌝ }
+    ensures { λ r. ⌜ PrintedRow (now (s .entry)) run at (now (out .entry)) r (now (board .exit)) (now (out .exit)) ⌝ }
 {
     if !has_room(out.len(), at) {
+        let turn = Turn {
+            number: 0,
+            records: 0,
+            run: run,
+        };
         return Printed {
             full: true,
             at: at,
-            number: 0,
-            totals: t,
+            turn: turn,
         };
     }
-    let mut records = [0u8; 384];
-    let turn = rerun::row(s, st, x, causes, times, width, t, &mut records);
+    let mut records = [0u8; effects::MOST_ROW_BYTES];
+    let turn = rerun::row(s, run, board, &mut records);
     let next = text::put_lines(out, at, &records, turn.records);
-    let totals = turn.totals;
     Printed {
         full: false,
         at: next,
-        number: turn.number,
-        totals: totals,
+        turn: turn,
     }
 }
 
-fn put_closing(out: &mut [u8], at: usize, number: u8, t: Totals) -> usize
+fn put_closing(out: &mut [u8], at: usize, end: Replayed) -> usize
     requires { ⌜ at + mostPiece ≤ length (now out) ⌝ }
-    ensures { λ r. ⌜ (r ≡ at + length (closingBy number t)) × (now (out .exit) ≡ sets (now (out .entry)) at (closingBy number t)) ⌝ }
+    ensures { λ r. ⌜ (r ≡ at + length (closingOf end)) × (now (out .exit) ≡ sets (now (out .entry)) at (closingOf end)) ⌝ }
     ensures { λ r. ⌜ r ≤ length (now (out .entry)) ⌝ }
 {
-    if number == 0 {
-        let board = t.board;
-        text::put_last(out, at, t.rows, board.done, t.live, t.exercised)
+    if end.number == 0 {
+        text::put_last(out, at, end.rows, end.scans, end.live, end.exercised)
     } else {
-        text::put_refusal(out, at, number, t.place)
+        text::put_refusal(out, at, end.number, end.place)
     }
 }
 
-// The closing of a listing, by the number of the row that came last, and the totals after it: the last line, or the line of
-// that row's refusal.
-pub fn closing(number: u8, t: Totals, out: &mut [u8], at: usize) -> Piece
-    ensures { λ r. ⌜ r ≡ written (length (now (out .entry))) at (closingBy number t) ⌝ }
-    ensures { λ _. ⌜ now (out .exit) ≡ placed (now (out .entry)) at (closingBy number t) ⌝ }
+// The closing of a listing, by what the replay came to: the last line, or the line of a refusal.
+pub fn closing(end: Replayed, out: &mut [u8], at: usize) -> Piece
+    ensures { λ r. ⌜ r ≡ written (length (now (out .entry))) at (closingOf end) ⌝ }
+    ensures { λ _. ⌜ now (out .exit) ≡ placed (now (out .entry)) at (closingOf end) ⌝ }
     ensures { λ r. ⌜ (at ≤ length (now (out .entry)) → r .at ≤ length (now (out .entry))) ⌝ }
 {
     if !has_room(out.len(), at) {
         return Piece { full: true, at: at };
     }
-    let next = put_closing(out, at, number, t);
+    let next = put_closing(out, at, end);
     Piece {
         full: false,
         at: next,

@@ -10,8 +10,7 @@ use Rattle.rules.specs.Signals.{Asks}
 use Rattle.rules.specs.Rules.{same, rule}
 use Rattle.rules.proofs.Answers.{both, allStates, every, every-at, states-at}
 use Rattle.planes.specs.declared.Planes.{Planes}
-use Rattle.planes.specs.Table.{askedOf}
-use Rattle.planes.specs.Planes.{planesOf, planesAfter, changedOf, less16, toTripped, toWait, toReady, toStart, toNormal, toDelayed, differ}
+use Rattle.planes.specs.Planes.{askedOf, planesOf, planesAfter, changedOf, less16, toTripped, toWait, toReady, toStart, toNormal, toDelayed, differ}
 
 -- ## The formulas on one bit, computed at every case
 
@@ -78,7 +77,7 @@ delayed-all = refl
 -- ## The formulas on words of n effects
 
 abbrev planes : (T W R S N D : ℕ) → Planes
-planes T W R S N D = record { tripped = T; wait = W; ready = R; start = S; normal = N; delayed = D }
+planes T W R S N D = record { tripped = T; «wait_reset» = W; ready = R; «wait_start» = S; normal = N; delayed = D }
 
 planes-path : {T T′ W W′ R R′ S S′ N N′ D D′ : ℕ} → T ≡ T′ → W ≡ W′ → R ≡ R′ → S ≡ S′ → N ≡ N′ → D ≡ D′ → planes T W R S N D ≡ planes T′ W′ R′ S′ N′ D′
 planes-path a b c d e f = λ i. planes (a i) (b i) (c i) (d i) (e i) (f i)

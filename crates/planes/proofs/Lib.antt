@@ -1,14 +1,1 @@
-pub mod Bits
-pub mod Due
 pub mod ByWord
-pub mod Low
-pub mod Picked
-pub mod Records
-pub mod Step
-pub mod Rest
-pub mod Marks
-pub mod Quiet
-pub mod Scanned
-pub mod Slots
-pub mod Going
-pub mod Turn

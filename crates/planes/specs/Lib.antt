@@ -1,4 +1,1 @@
 pub mod Planes
-pub mod Picked
-pub mod Table
-pub mod Board

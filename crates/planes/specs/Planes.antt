@@ -5,6 +5,7 @@ use lib.Bits.{bitAnd, bitOr}
 use Rattle.bits.specs.Words.{bitOf, wordOf}
 use Rattle.rules.specs.declared.EffectState.{EffectState}
 use Rattle.rules.specs.declared.EffectState.the-variants.{Tripped, WaitReset, Ready, WaitStart, Normal, Delayed}
+use Rattle.rules.specs.Signals.{Asks}
 use Rattle.rules.specs.Rules.{same}
 use Rattle.planes.specs.declared.Asked.{Asked}
 use Rattle.planes.specs.declared.Planes.{Planes}
@@ -14,11 +15,26 @@ unfoldable pub planesOf : ℕ → (ℕ → EffectState) → Planes
 planesOf n f =
     record {
       tripped = wordOf (λ i. same (f i) Tripped) n;
-      wait = wordOf (λ i. same (f i) WaitReset) n;
+      «wait_reset» = wordOf (λ i. same (f i) WaitReset) n;
       ready = wordOf (λ i. same (f i) Ready) n;
-      start = wordOf (λ i. same (f i) WaitStart) n;
+      «wait_start» = wordOf (λ i. same (f i) WaitStart) n;
       normal = wordOf (λ i. same (f i) Normal) n;
       delayed = wordOf (λ i. same (f i) Delayed) n;
+    }
+
+-- and those of what n effects are asked
+unfoldable pub askedOf : ℕ → (ℕ → Asks) → Asked
+askedOf n a =
+    record {
+      «force_trip» = wordOf (λ i. a i .trip) n;
+      «force_normal» = wordOf (λ i. a i .normal) n;
+      «bad_trip» = wordOf (λ i. a i .bad) n;
+      active = wordOf (λ i. a i .active) n;
+      «require_reset» = wordOf (λ i. a i .require) n;
+      «reset_permit» = wordOf (λ i. a i .permit) n;
+      «start_permit» = wordOf (λ i. a i .start) n;
+      reset = wordOf (λ i. a i .reset) n;
+      «with_delay» = wordOf (λ i. a i .delayed) n;
     }
 
 -- ## The rules on a word, or on a bit: the same formulas over any and, or and less (the first without the second)
@@ -63,19 +79,19 @@ less16 v w = bitAnd v (65535 - w)
 unfoldable pub planesAfter : Asked → ℕ → Planes → Planes
 planesAfter w due p =
     record {
-      tripped = toTripped bitAnd bitOr less16 (w .trip) (w .normal) (w .bad) (w .active) (w .delayed) due (p .tripped) (p .wait) (p .ready) (p .start) (p .normal) (p .delayed);
-      wait = toWait bitAnd bitOr less16 (w .trip) (w .normal) (w .bad) (w .active) (w .require) (w .permit) (p .tripped) (p .wait) (p .ready);
-      ready = toReady bitAnd bitOr less16 (w .trip) (w .normal) (w .bad) (w .active) (w .require) (w .permit) (w .reset) (p .tripped) (p .wait) (p .ready);
-      start = toStart bitAnd bitOr less16 (w .trip) (w .normal) (w .bad) (w .active) (w .require) (w .permit) (w .start) (w .reset) (p .tripped) (p .ready) (p .start);
-      normal = toNormal bitAnd bitOr less16 (w .trip) (w .normal) (w .bad) (w .active) (w .require) (w .permit) (w .start) (w .reset) (p .tripped) (p .ready) (p .start) (p .normal);
-      delayed = toDelayed bitAnd bitOr less16 (w .trip) (w .normal) (w .bad) (w .active) (w .delayed) due (p .normal) (p .delayed);
+      tripped = toTripped bitAnd bitOr less16 (w .«force_trip») (w .«force_normal») (w .«bad_trip») (w .active) (w .«with_delay») due (p .tripped) (p .«wait_reset») (p .ready) (p .«wait_start») (p .normal) (p .delayed);
+      «wait_reset» = toWait bitAnd bitOr less16 (w .«force_trip») (w .«force_normal») (w .«bad_trip») (w .active) (w .«require_reset») (w .«reset_permit») (p .tripped) (p .«wait_reset») (p .ready);
+      ready = toReady bitAnd bitOr less16 (w .«force_trip») (w .«force_normal») (w .«bad_trip») (w .active) (w .«require_reset») (w .«reset_permit») (w .reset) (p .tripped) (p .«wait_reset») (p .ready);
+      «wait_start» = toStart bitAnd bitOr less16 (w .«force_trip») (w .«force_normal») (w .«bad_trip») (w .active) (w .«require_reset») (w .«reset_permit») (w .«start_permit») (w .reset) (p .tripped) (p .ready) (p .«wait_start»);
+      normal = toNormal bitAnd bitOr less16 (w .«force_trip») (w .«force_normal») (w .«bad_trip») (w .active) (w .«require_reset») (w .«reset_permit») (w .«start_permit») (w .reset) (p .tripped) (p .ready) (p .«wait_start») (p .normal);
+      delayed = toDelayed bitAnd bitOr less16 (w .«force_trip») (w .«force_normal») (w .«bad_trip») (w .active) (w .«with_delay») due (p .normal) (p .delayed);
     }
 
 -- the effects whose state differs
 unfoldable pub changedOf : Planes → Planes → ℕ
 changedOf p q =
-    differ bitAnd bitOr less16 (p .tripped) (p .wait) (p .ready) (p .start) (p .normal) (p .delayed)
-    (q .tripped) (q .wait) (q .ready) (q .start) (q .normal) (q .delayed)
+    differ bitAnd bitOr less16 (p .tripped) (p .«wait_reset») (p .ready) (p .«wait_start») (p .normal) (p .delayed)
+    (q .tripped) (q .«wait_reset») (q .ready) (q .«wait_start») (q .normal) (q .delayed)
 
 -- ## A state, from its bit in each word
 
@@ -84,10 +100,10 @@ oneOf w i = w / 2 ^ i % 2
 
 -- its code
 unfoldable pub codeAt : Planes → ℕ → ℕ
-codeAt p i = oneOf (p .wait) i + 2 * oneOf (p .ready) i + 3 * oneOf (p .start) i + 4 * oneOf (p .normal) i + 5 * oneOf (p .delayed) i
+codeAt p i = oneOf (p .«wait_reset») i + 2 * oneOf (p .ready) i + 3 * oneOf (p .«wait_start») i + 4 * oneOf (p .normal) i + 5 * oneOf (p .delayed) i
 
 -- the state itself
 unfoldable pub stateAt : Planes → ℕ → EffectState
 stateAt p i =
-    cond (bitOf (p .tripped) i) Tripped (cond (bitOf (p .wait) i) WaitReset (cond (bitOf (p .ready) i) Ready
-    (cond (bitOf (p .start) i) WaitStart (cond (bitOf (p .normal) i) Normal Delayed))))
+    cond (bitOf (p .tripped) i) Tripped (cond (bitOf (p .«wait_reset») i) WaitReset (cond (bitOf (p .ready) i) Ready
+    (cond (bitOf (p .«wait_start») i) WaitStart (cond (bitOf (p .normal) i) Normal Delayed))))

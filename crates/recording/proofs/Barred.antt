@@ -16,7 +16,7 @@ use Rattle.bits.specs.Numbers.{Bytes, numAt}
 use Rattle.bits.specs.Words.{bitOf}
 use Rattle.bits.proofs.Numbers.{num-lt, num-parts}
 use Rattle.settings.specs.declared.Known.{Known}
-use Rattle.settings.specs.Limits.{mostHold}
+use Rattle.rules.specs.Limits.{mostHold}
 use Rattle.settings.specs.Refusals.{unless, orElse}
 use Rattle.settings.specs.Right.{wordsOk, apart, several, wordsNumber, rowNumber}
 use Rattle.recording.specs.declared.quick.Bars.{Bars}

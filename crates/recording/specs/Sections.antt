@@ -6,7 +6,7 @@ use lib.Dec.{leb}
 use lib.ListN.{length}
 use Rattle.bits.specs.Numbers.{numAt}
 use Rattle.settings.specs.declared.Known.{Known}
-use Rattle.settings.specs.Limits.{between, mostEffects}
+use Rattle.rules.specs.Limits.{between, mostEffects}
 use Rattle.settings.specs.Refusals.{granted}
 use Rattle.settings.specs.Right.{effectNumber, rowNumber}
 use Rattle.recording.specs.declared.Section.{Section}

@@ -8,7 +8,7 @@ ghost use lib.Count.{ones};
 ghost use lib.Dec.{eqb, leb};
 ghost use lib.ListN.{length};
 ghost use Rattle.settings.specs.declared.Known.{Known};
-ghost use Rattle.settings.specs.Limits.{mostHold};
+ghost use Rattle.rules.specs.Limits.{mostHold};
 ghost use Rattle.settings.specs.Right.{rowNumber};
 ghost use Rattle.recording.specs.declared.Kind.the-variants.{Rows};
 ghost use Rattle.recording.specs.Entries.{rowAt};

@@ -2,7 +2,7 @@
 use mathlib.Core.Path.{_≡_, refl, sym, ap, _∙_}
 use mathlib.Core.List.{List, [], _∷_, _++_}
 use mathlib.Core.Logic.{_⊎_, inl, inr}
-use Prim.Native.Nat.{ℕ, zero, suc, _+_, _*_, _≤_, _<_}
+use Prim.Native.Nat.{ℕ, zero, suc, _+_, _-_, _*_, _≤_, _<_}
 use native.Mathlib.Nat.{zero-add}
 use native.Mathlib.Numerals.{add-one}
 use native.Mathlib.Omega.{arith}
@@ -10,7 +10,7 @@ use lib.Dec.{leb}
 use lib.ListN.{length, take, drop, take-append-drop}
 use lib.Seq.{take-suc, take-add, take-all, length-take-le}
 use Rattle.settings.specs.declared.Settings.{Settings}
-use Rattle.settings.specs.Limits.{mostScans}
+use Rattle.rules.specs.Limits.{mostScans}
 use Rattle.settings.specs.Refusals.{granted}
 use Rattle.settings.specs.Right.{knownOf, settingsNumber, rowNumber}
 use Rattle.settings.proofs.Right.{count-few}
@@ -20,7 +20,9 @@ use Rattle.recording.specs.declared.Answer.the-variants as A
 use Rattle.recording.specs.Answers.{number, place, rowCount, firstRow, rowWidth}
 use Rattle.settings.specs.Zeros.{noRow}
 use Rattle.recording.specs.Encode.{Right}
+use Rattle.recording.specs.declared.Kind.the-variants.{Rows}
 use Rattle.recording.specs.Reader.{reading}
+use Rattle.recording.specs.Sections.{mostOf}
 use Rattle.recording.specs.Steps.{rowPlace, rowsOf}
 use Rattle.recording.proofs.Cases.{not-accepted}
 use Rattle.exactness.proofs.Theorems.{accepted-case, accepted-is-right}
@@ -48,6 +50,10 @@ module _ (s : List ℕ) where
 
   length-first : (i : ℕ) → i ≤ count → length (take i (rowsOf s)) ≡ i
   length-first i l = length-take-le i (rowsOf s) (omega (arith, length-rowsOf s))
+
+  -- the first j rows are the first i and those between
+  in-two : (i j : ℕ) → i ≤ j → take j (rowsOf s) ≡ take i (rowsOf s) ++ take (j - i) (drop i (rowsOf s))
+  in-two i j l = let sum : j ≡ i + (j - i) = omega arith in ap (λ (n : ℕ). take n (rowsOf s)) sum ∙ take-add i (j - i) (rowsOf s)
 
   -- one row more
   pub one-row-more : (i : ℕ) → i < count → firstRows s i .number ≡ 0
@@ -100,16 +106,22 @@ module _ (s : List ℕ) where
   unfolding firstRows
   whole-so-far i z = none-refused-whole st width (take i (rowsOf s)) first started z
 
-  -- the replay has the events of first rows that none refused
-  pub events-in-all : number (reading s .answer) ≡ 0 → (i : ℕ) → firstRows s i .number ≡ 0 → length (firstRows s i .replay .events) ≤ length (replay s .replay .events)
+  -- more rows after first rows that none refused keep the events of these
+  pub events-grow : (i j : ℕ) → i ≤ j → firstRows s i .number ≡ 0 → length (firstRows s i .replay .events) ≤ length (firstRows s j .replay .events)
   unfolding firstRows
-  events-in-all a i z =
-      let all : replay s ≡ rowsFrom st width (first + width * length (take i (rowsOf s))) (drop i (rowsOf s)) (firstRows s i .replay) =
-      accepted-replay a
-      ∙ ap (replayRows s) (sym (take-append-drop i (rowsOf s)))
-      ∙ then-the-others st width (take i (rowsOf s)) (drop i (rowsOf s)) first started z
+  events-grow i j l z =
+      let others = take (j - i) (drop i (rowsOf s)) in
+      let all : firstRows s j ≡ rowsFrom st width (first + width * length (take i (rowsOf s))) others (firstRows s i .replay) =
+      ap (replayRows s) (in-two i j l) ∙ then-the-others st width (take i (rowsOf s)) others first started z
       in
-      rw all (events-stay st width (drop i (rowsOf s)) _ (firstRows s i .replay))
+      rw all (events-stay st width others _ (firstRows s i .replay))
+
+  -- after a refused row nothing changes
+  pub stays-refused : (i j : ℕ) → i ≤ j → (firstRows s i .number ≡ 0 → ⊥) → firstRows s j ≡ firstRows s i
+  unfolding firstRows
+  stays-refused i j l h =
+      ap (replayRows s) (in-two i j l)
+      ∙ refusal-ends st width (take i (rowsOf s)) (take (j - i) (drop i (rowsOf s))) first started h
 
   -- ## One row more, by its number
 
@@ -140,12 +152,21 @@ module _ (s : List ℕ) where
     pub stops-there : number (reading s .answer) ≡ 0 → (numberAt i ≡ 0 → ⊥) → replay s ≡ stopped-at (numberAt i)
     stops-there a h = ends-at-refusal a (i + 1) (λ z. h (sym next-number ∙ z)) ∙ next-refused h
 
-  -- after a refused row nothing changes
-  stays-refused : (i : ℕ) → (firstRows s i .number ≡ 0 → ⊥) → firstRows s (i + 1) ≡ firstRows s i
-  unfolding firstRows
-  stays-refused i h =
-      ap (replayRows s) (take-add i 1 (rowsOf s))
-      ∙ refusal-ends st width (take i (rowsOf s)) (take 1 (drop i (rowsOf s))) first started h
+  -- where a row is not refused none before it is
+  none-before : (i n : ℕ) → firstRows s i .number ≡ n → firstRows s (i + 1) .number ≡ 0 → n ≡ 0
+  none-before i zero e z = refl
+  none-before i (suc n) e z = sym e ∙ sym (ap (λ (o : Outcome). o .number) (stays-refused i (i + 1) (omega arith) (λ k. omega (arith, e, k)))) ∙ z
+
+  pub none-refused-before : (i : ℕ) → firstRows s (i + 1) .number ≡ 0 → firstRows s i .number ≡ 0
+  none-refused-before i z = none-before i (firstRows s i .number) refl z
+
+  -- a refused row gives nothing
+  gives-nothing : (i n : ℕ) → i < count → (firstRows s (i + 1) .number ≡ 0 → ⊥) → firstRows s i .number ≡ n → firstRows s (i + 1) .replay ≡ firstRows s i .replay
+  gives-nothing i zero l h e = ap (λ (o : Outcome). o .replay) (next-refused i l e (λ z. h (next-number i l e ∙ z)))
+  gives-nothing i (suc n) l h e = ap (λ (o : Outcome). o .replay) (stays-refused i (i + 1) (omega arith) (λ z. omega (arith, e, z)))
+
+  pub refused-gives-nothing : (i : ℕ) → i < count → (firstRows s (i + 1) .number ≡ 0 → ⊥) → firstRows s (i + 1) .replay ≡ firstRows s i .replay
+  refused-gives-nothing i l h = gives-nothing i (firstRows s i .number) l h refl
 
   -- what holds at the start, and then after each row that runs and at the row that is refused, holds of any first rows
   module _ (P : Outcome → Type 0) (at-start : P (whole started)) where
@@ -157,11 +178,26 @@ module _ (s : List ℕ) where
       next-row : (i : ℕ) → i < count → P (firstRows s i) → (n : ℕ) → firstRows s i .number ≡ n → (m : ℕ) → numberAt i ≡ m → P (firstRows s (i + 1))
       next-row i l p zero e zero z = rw (next-runs i l e z) (runs i (l, e, counted i (omega arith) e, p) z)
       next-row i l p zero e (suc m) f = let h : numberAt i ≡ 0 → ⊥ = λ z. omega (arith, f, z) in rw (next-refused i l e h) (refuses i (l, e, counted i (omega arith) e, p) h)
-      next-row i l p (suc n) e m f = rw (stays-refused i (λ z. omega (arith, e, z))) p
+      next-row i l p (suc n) e m f = rw (stays-refused i (i + 1) (omega arith) (λ z. omega (arith, e, z))) p
 
       pub by-rows : (i : ℕ) → i ≤ count → P (firstRows s i)
       by-rows zero l = rw no-rows at-start
       by-rows (suc i) l = rw (← add-one i) (next-row i (omega arith) (by-rows i (omega arith)) (firstRows s i .number) refl (numberAt i) refl)
+
+  -- what first rows come to, by its number and by how many of them ran
+  abbrev Told : Outcome → Type 0
+  Told o = o ≡ record { number = o .number; place = granted (o .number) 0 (λ n. rowPlace s (o .replay .rows)); replay = firstRows s (o .replay .rows) .replay }
+
+  pub told : (i : ℕ) → i ≤ count → Told (firstRows s i)
+  told =
+      by-rows Told (sym (ap (λ (o : Outcome). whole (o .replay)) no-rows))
+      (λ i b z.
+      let r = ap (λ (o : Outcome). o .replay) (sym (next-runs i (b .0) (b .1) z)) ∙ ap (λ (n : ℕ). firstRows s (n + 1) .replay) (sym (b .2)) in
+      λ j. whole (r j))
+      (λ i b h.
+      let p = ap (rowPlace s) (sym (b .2)) ∙ sym (granted-refused 0 (λ n. rowPlace s (firstRows s i .replay .rows)) (numberAt i) h) in
+      let r = ap (λ (n : ℕ). firstRows s n .replay) (sym (b .2)) in
+      λ j. refusedAt (p j) (r j) (numberAt i))
 
   -- ## How it ends
 
@@ -210,7 +246,7 @@ module _ (s : List ℕ) where
     pub row-right : (i : ℕ) → i < count → rowNumber (knownOf st) (rowOf s i) ≡ 0
     row-right i l = all-at (rowNumber (knownOf st)) i (rowsOf s) noRow (omega (arith, length-rowsOf s)) (right .each-row)
 
-    pub few-rows : count ≤ 2048
+    pub few-rows : count ≤ mostOf Rows
     few-rows = omega (arith, length-rowsOf s, right .rows-most)
 
     started-sound : Sound st started

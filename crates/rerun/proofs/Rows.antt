@@ -12,7 +12,7 @@ use Rattle.bits.specs.Words.{one}
 use Rattle.effects.specs.Scan.{anyExercised}
 use Rattle.settings.specs.declared.Settings.{Settings}
 use Rattle.settings.specs.declared.Row.{Row}
-use Rattle.settings.specs.Limits.{mostScans}
+use Rattle.rules.specs.Limits.{mostScans}
 use Rattle.settings.specs.Right.{knownOf, settingsNumber, rowNumber}
 use Rattle.settings.specs.Signals.{signals}
 use Rattle.settings.specs.Refusals.{granted}

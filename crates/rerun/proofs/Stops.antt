@@ -7,13 +7,15 @@ use native.Mathlib.Numerals.{add-one}
 use native.Mathlib.Omega.{arith}
 use lib.ListN.{length}
 use Rattle.settings.specs.declared.Row.{Row}
-use Rattle.settings.specs.Limits.{mostScans}
+use Rattle.rules.specs.Limits.{mostScans}
 use Rattle.settings.proofs.Refusals.{limit-kept}
 use Rattle.block.specs.Scan.{scansNumber}
 use Rattle.recording.specs.declared.Answer.the-variants as A
 use Rattle.recording.specs.Answers.{number, rowCount, firstRow, rowWidth}
 use Rattle.recording.specs.Entries.{rowAt}
+use Rattle.recording.specs.declared.Kind.the-variants.{Rows}
 use Rattle.recording.specs.Reader.{reading}
+use Rattle.recording.specs.Sections.{widthOf}
 use Rattle.recording.specs.Steps.{rowPlace}
 use Rattle.exactness.proofs.Theorems.{row-in-the-file}
 use Rattle.rerun.specs.declared.Stop.{Stop}
@@ -45,7 +47,7 @@ module _ (s : List ℕ) (width done place i : ℕ) (g : Reached s width done pla
   ends e = sym (ap stopOf (all-the-rows s (g .accepted) ∙ ap (firstRows s) (sym e) ∙ whole-so-far s i (g .none-refused)))
 
   module _ (more : i < rowCount (reading s .answer)) where
-    pub row-there : place + 24 ≤ length s
+    pub row-there : place + widthOf Rows ≤ length s
     row-there = rw (g .here) (row-in-the-file s i more .0)
 
     pub next-place : place + width ≤ length s

@@ -10,7 +10,8 @@ use native.Mathlib.Numerals.{add-one}
 use native.Mathlib.Omega.{arith}
 use lib.ListN.{length}
 use Rattle.effects.specs.declared.Event.{Event}
-use Rattle.settings.specs.Limits.{mostScans}
+use Rattle.effects.specs.Records.{recordLength, mostRowBytes}
+use Rattle.rules.specs.Limits.{mostScans}
 use Rattle.settings.specs.Refusals.{orElse, granted, roomNumber}
 use Rattle.settings.proofs.Refusals.{granted-refused, room-enough, or-else-alone}
 use Rattle.block.specs.State.{stateNumber}
@@ -63,21 +64,21 @@ module _ (s : List ℕ) (accepted : Accepted s) where
 
   -- ## What refuses a row
 
-  -- with 384 lent bytes, every row gets the answer of a held run that is right and has room: 9 is all that can refuse it, and
+  -- with the room of any row, every row gets the answer of a held run that is right and has room: 9 is all that can refuse it, and
   -- neither 8 nor 10 nor 2 to 6 comes up
   pub a-row-is-refused-by-9-alone : (i : ℕ) → i < rowCount (reading s .answer)
       → let st = reading s .settings in let x = firstRows s i .replay .state in
-      (stateNumber st x ≡ 0) × (heldOf st (rowOf s i) x 384 ≡ granted (scansNumber (x .done) (rowOf s i .hold)) (grantedHeld st (rowOf s i) x) (refusedHeld x))
+      (stateNumber st x ≡ 0) × (heldOf st (rowOf s i) x mostRowBytes ≡ granted (scansNumber (x .done) (rowOf s i .hold)) (grantedHeld st (rowOf s i) x) (refusedHeld x))
   unfolding heldOf heldNumber inputNumber rowRun
   a-row-is-refused-by-9-alone i l =
       let st = reading s .settings in
       let x = firstRows s i .replay .state in
       let n = scansNumber (x .done) (rowOf s i .hold) in
-      let due = 12 * length (run st (rowOf s i) x .events) in
+      let due = recordLength * length (run st (rowOf s i) x .events) in
       let state = files.sound s accepted i .state in
       let input : inputNumber st x (rowOf s i) ≡ n = rw (files.settings-right s accepted, state, files.row-right s accepted i l) in
-      let room : n ≡ 0 → roomNumber due 384 ≡ 0 = λ z. room-enough due 384 (omega (arith, files.records-next s accepted i l z, files.most-effects s accepted)) in
-      (state, ap (λ (k : ℕ). granted k (grantedHeld st (rowOf s i) x) (refusedHeld x)) (ap (λ (k : ℕ). orElse k (roomNumber due 384)) input ∙ or-else-alone n (roomNumber due 384) room))
+      let room : n ≡ 0 → roomNumber due mostRowBytes ≡ 0 = λ z. room-enough due mostRowBytes (omega (arith, files.records-next s accepted i l z, files.most-effects s accepted)) in
+      (state, ap (λ (k : ℕ). granted k (grantedHeld st (rowOf s i) x) (refusedHeld x)) (ap (λ (k : ℕ). orElse k (roomNumber due mostRowBytes)) input ∙ or-else-alone n (roomNumber due mostRowBytes) room))
 
   -- an accepted file is replayed whole, or stops at the row whose scans cannot be counted
   pub whole-or-stopped : let o = replay s in let r = replay s .replay in

@@ -1,278 +1,354 @@
 -- Turns: what the code carries from row to row is what the definitions say, and a caller's loop can begin, go on, stop and end.
-use mathlib.Core.Path.{_≡_, sym, ap, _∙_}
+use mathlib.Core.Path.{_≡_, refl, sym, ap, _∙_}
+use mathlib.Core.Bool.{Bool, true}
 use mathlib.Core.List.{List, _++_}
-use Prim.Native.Nat.{ℕ, _+_, _*_, _≤_, _<_}
+use Prim.Native.Nat.{ℕ, _+_, _-_, _*_, _/_, _≤_, _<_}
 use native.Mathlib.Nat.{mul-suc, mul-zero, mul-le-mul}
 use native.Mathlib.Numerals.{add-one}
 use native.Mathlib.Omega.{arith}
 use lib.Dec.{leb}
 use lib.ListN.{length, length-append}
 use lib.Seq.{sets}
-use Rattle.effects.specs.Records.{bytes}
+use Rattle.bits.specs.Words.{one}
+use Rattle.effects.specs.Records.{recordLength, bytes, mostRecords, mostRowBytes}
 use Rattle.settings.specs.declared.Row.{Row}
 use Rattle.settings.specs.declared.Settings.{Settings}
-use Rattle.settings.specs.Limits.{mostScans}
-use Rattle.settings.specs.Right.{knownOf, settingsNumber, rowNumber}
-use Rattle.settings.proofs.Refusals.{granted-refused, granted-either, unless-refused, limit-kept}
-use Rattle.planes.specs.Board.{boardOf}
-use Rattle.planes.specs.Table.{tableOf, slotsOf}
-use Rattle.wiring.specs.declared.Wiring.{Wiring}
-use Rattle.wiring.specs.Wiring.{wiringOf}
-use Rattle.wiring.proofs.Held.{count-of}
-use Rattle.block.specs.declared.State.{State}
-use Rattle.block.specs.State.{stateNumber}
+use Rattle.rules.specs.Limits.{mostScans}
+use Rattle.settings.specs.Refusals.{granted}
+use Rattle.settings.proofs.Refusals.{granted-none, granted-refused, granted-either, unless-refused, limit-kept}
+use Rattle.boards.specs.Board.{Board, boardOf}
+use Rattle.engine.specs.Marks.{boardAt}
+use Rattle.boards.specs.Table.{tableOf, slotsOf}
+use Rattle.wiring.specs.declared.Struck.{Struck}
 use Rattle.block.specs.Scan.{inputNumber, scansNumber}
-use Rattle.block.specs.Held.{Stepped, run}
-use Rattle.block.specs.Run.{KeptWords, startOf, reachedBy, keptOf}
+use Rattle.block.specs.Held.{Stepped, run as heldRun}
+use Rattle.block.specs.Run.{startOf, reachedBy, keptState, keptRun, Runs, Ran}
 use Rattle.block.proofs.Boards.{shows}
 use Rattle.block.proofs.Theorems.{right-input-is-accepted}
 use Rattle.recording.specs.declared.Answer.{Answer}
 use Rattle.recording.specs.declared.Answer.the-variants as A
 use Rattle.recording.specs.Answers.{number, rowCount, firstRow, rowWidth}
 use Rattle.recording.specs.Entries.{rowAt}
+use Rattle.recording.specs.declared.Kind.the-variants.{Rows}
 use Rattle.recording.specs.Reader.{reading}
+use Rattle.recording.specs.Sections.{widthOf, mostOf}
 use Rattle.recording.specs.Steps.{rowPlace}
 use Rattle.exactness.proofs.Theorems.{first-row-after-the-opening, row-in-the-file}
-use Rattle.rerun.specs.declared.Totals.{Totals}
+use Rattle.rerun.specs.declared.Begun.{Begun}
+use Rattle.rerun.specs.declared.Run.{Run}
 use Rattle.rerun.specs.declared.Turn.{Turn}
 use Rattle.rerun.specs.Replay.{Replay, Outcome, whole, joined, refusedAt, started, replay, answered, firstRows, rowOf, rowRun}
-use Rattle.rerun.specs.Turn.{Fits, tallyOf, answerBy, totalsAt, totalsOf, Going, turnOf, turnInto}
-use Rattle.rerun.proofs.Files.{no-rows, all-the-rows, whole-so-far, counted, numberAt, next-number, next-runs, next-refused, stops-there, settings-right, most-effects, row-right, few-rows, sound, sound-next, scans-next, records-next}
+use Rattle.rerun.specs.Turn.{Totals, totalsAt, totalsOf, totalsIn, Going, Begins, Fits, RowDone, runAfter, SmallSums, rowsInto, roomOf, RowsReady, RowsDone, answerOf}
+use Rattle.rerun.proofs.Files.{no-rows, all-the-rows, whole-so-far, counted, numberAt, next-number, next-runs, stops-there, told, settings-right, most-effects, row-right, few-rows, sound, sound-next, scans-next, records-next}
+use Rattle.rerun.proofs.Filling.{all-kept}
 
 -- ## The beginning: what the reader answers
 
 pub few-effects : (s : List ℕ) (st : Settings) (rows first width : ℕ) → reading s .answer ≡ A.Accepted rows first width → st ≡ reading s .settings → st .count ≤ 16
 few-effects s st rows first width a e = rw e (most-effects s (ap number a))
 
-pub begins : (s : List ℕ) (st : Settings) (x : Wiring) (rows first width : ℕ) (t : Totals) → reading s .answer ≡ A.Accepted rows first width → st ≡ reading s .settings
-    → x ≡ wiringOf st → t ≡ totalsAt (x .count) first started → Going s st width t
-begins s st x rows first width t a e w f =
-    let none : t .rows ≡ 0 = ap (λ (u : Totals). u .rows) f in
+pub begins : {s : List ℕ} {rows first width : ℕ} {r : Begun} → Begins (reading s .settings) rows first width r → reading s .answer ≡ A.Accepted rows first width → Going s (r .run) (r .board)
+begins {s} {rows} {first} {width} {r} b a =
+    let none : r .run .rows ≡ 0 = ap (λ (u : Totals). u .rows) (b .totals) in
     let o = ap (firstRows s) none ∙ no-rows s in
-    let n = count-of st x w ∙ ap (λ (z : Settings). z .count) e in
     let p : first ≡ rowPlace s 0 = omega (arith, ap firstRow a, mul-zero (rowWidth (reading s .answer))) in
     record {
       accepted = ap number a;
-      settings = e;
-      wide = sym (ap rowWidth a);
+      wired = b .wired;
+      wide = b .wide ∙ sym (ap rowWidth a);
+      many = b .many ∙ sym (ap rowCount a);
       counted = omega (arith, none);
       none-refused = ap (λ (v : Outcome). v .number) o;
-      totals = f ∙ (λ j. totalsAt (n j) (p j) started) ∙ sym (ap (λ (v : Outcome). totalsOf s (v .replay)) o);
+      totals = b .totals ∙ (λ j. totalsAt (reading s .settings .count) (p j) started) ∙ sym (ap (λ (v : Outcome). totalsOf s (v .replay)) o);
     }
 
--- `tallyAfter`, of totals
-abbrev totalsAfter : Totals → (width : ℕ) → KeptWords → Totals
-totalsAfter t width ran =
-    record {
-      board = ran .board;
-      place = t .place + width;
-      records = t .records + ran .records;
-      rows = t .rows + 1;
-      live = t .live + ran .live;
-      exercised = t .exercised + ran .exercised;
-    }
+-- and all its rows can be run
+pub ready-all : {s : List ℕ} {rows first width : ℕ} {r : Begun} → Begins (reading s .settings) rows first width r → reading s .answer ≡ A.Accepted rows first width
+    → {room : ℕ} {keep : Bool} → roomOf s rows keep ≤ room → RowsReady s (r .run) rows (r .board) room keep
+ready-all b a enough =
+    record { going = begins b a; onward = omega (arith, ap (λ (u : Totals). u .rows) (b .totals)); within = omega (arith, ap rowCount a); fits = enough }
 
-module _ (s : List ℕ) (st : Settings) (width : ℕ) (t : Totals) (g : Going s st width t) where
+-- what the rows so far have given
+abbrev soFar : List ℕ → Run → Replay
+soFar s run = firstRows s (run .rows) .replay
+
+module _ {s : List ℕ} {run : Run} {array : List ℕ} (g : Going s run array) where
+  -- the records so far are its events
+  pub records-so-far : run .records ≡ length (soFar s run .events)
+  records-so-far = ap (λ (u : Totals). u .records) (g .totals)
+
+  pub rows-so-far : soFar s run .rows ≡ run .rows
+  rows-so-far = counted s (run .rows) (g .counted) (g .none-refused)
+
+  pub place-is : run .place ≡ rowPlace s (run .rows)
+  place-is = ap (λ (u : Totals). u .place) (g .totals) ∙ ap (λ (n : ℕ). rowPlace s n) rows-so-far
+
+  -- the answer with a number, and the place that belongs to it
+  answered-by : (n k place : ℕ) → granted n 0 (λ m. run .place) ≡ place
+      → answerOf (record { number = n; records = k; run = run }) ≡ answered (refusedAt place (soFar s run) n)
+  answered-by n k place e =
+      λ j. record {
+        number = n;
+        place = e j;
+        records = g .totals j .records;
+        rows = g .totals j .rows;
+        scans = g .totals j .board .done;
+        live = g .totals j .live;
+        exercised = g .totals j .exercised;
+      }
+
+module _ {s : List ℕ} {run : Run} {array : List ℕ} (g : Going s run array) where
   abbrev answer : Answer
   answer = reading s .answer
 
-  -- what the rows before have given
+  abbrev st : Settings
+  st = reading s .settings
+
   abbrev so-far : Replay
-  so-far = firstRows s (t .rows) .replay
-
-  -- the records so far are its events
-  pub records-so-far : t .records ≡ length (so-far .events)
-  records-so-far = ap (λ (u : Totals). u .records) (g .totals)
-
-  rows-are : so-far .rows ≡ t .rows
-  rows-are = counted s (t .rows) (g .counted) (g .none-refused)
-
-  place-is : t .place ≡ rowPlace s (t .rows)
-  place-is = ap (λ (u : Totals). u .place) (g .totals) ∙ ap (λ (n : ℕ). rowPlace s n) rows-are
-
-  abbrev n : ℕ
-  n = reading s .settings .count
-
-  board-is : t .board ≡ boardOf n (startOf (so-far .state))
-  board-is = ap (λ (u : Totals). u .board) (g .totals)
-
-  count-is : st .count ≡ n
-  count-is = ap (λ (z : Settings). z .count) (g .settings)
-
-  -- the words show the slots of the state
-  slots-shown : slotsOf n (tableOf n (so-far .state .slots)) ≡ so-far .state .slots
-  slots-shown =
-      let z = sound s (g .accepted) (t .rows) in
-      shows (reading s .settings) (so-far .state) (z .state) (z .slots) (settings-right s (g .accepted))
-
-  -- so they show the state
-  abbrev shown : State
-  shown = reachedBy (st .count) (t .board)
-
-  state-is : shown ≡ so-far .state
-  state-is = rw (count-is, board-is) (λ j. record { done = so-far .state .done; next = so-far .state .next; slots = slots-shown j })
-
-  -- and are those of what they show
-  pub words-right : t .board .table ≡ tableOf (st .count) (slotsOf (st .count) (t .board .table))
-  words-right = rw (count-is, board-is) (ap (tableOf n) (sym slots-shown))
-
-  -- one row more in the totals is one row more in the replay
-  after-is : (ran : Stepped) → totalsAfter (totalsOf s so-far) (rowWidth answer) (keptOf n ran) ≡ totalsOf s (joined so-far ran)
-  after-is ran =
-      let p : rowPlace s (so-far .rows) + rowWidth answer ≡ rowPlace s (so-far .rows + 1) = rw add-one (omega (arith, mul-suc (rowWidth answer) (so-far .rows))) in
-      let r = sym (length-append (so-far .events) (ran .events)) in
-      λ j. record { board = boardOf n (startOf (ran .state)); place = p j; records = r j; rows = so-far .rows + 1; live = so-far .live + ran .live; exercised = so-far .exercised + ran .exercised }
+  so-far = soFar s run
 
   -- ## The end: no row is left
 
-  pub ends : t .rows ≡ rowCount answer → replay s ≡ whole so-far
-  ends e = all-the-rows s (g .accepted) ∙ ap (firstRows s) (sym e) ∙ whole-so-far s (t .rows) (g .none-refused)
+  pub ends : run .rows ≡ rowCount answer → replay s ≡ whole so-far
+  ends e = all-the-rows s (g .accepted) ∙ ap (firstRows s) (sym e) ∙ whole-so-far s (run .rows) (g .none-refused)
 
-  -- and the totals are the answer
-  pub ends-answered : t .rows ≡ rowCount answer → answerBy 0 0 (tallyOf t) ≡ answered (replay s)
-  ends-answered e = ap (λ (u : Totals). answerBy 0 0 (tallyOf u)) (g .totals) ∙ ap answered (sym (ends e))
+  -- and the run is the answer
+  pub ends-answered : (k : ℕ) → run .rows ≡ rowCount answer → answerOf (record { number = 0; records = k; run = run }) ≡ answered (replay s)
+  ends-answered k e = answered-by g 0 k 0 refl ∙ ap answered (sym (ends e))
 
   -- ## One row more
 
-  module _ (more : t .rows < rowCount answer) where
+  module _ (more : run .rows < rowCount answer) where
     -- its bytes are in the file
-    pub row-there : t .place + 24 ≤ length s
-    row-there = rw place-is (row-in-the-file s (t .rows) more .0)
+    pub row-there : run .place + widthOf Rows ≤ length s
+    row-there = rw (place-is g) (row-in-the-file s (run .rows) more .0)
 
-    number-next : firstRows s (t .rows + 1) .number ≡ numberAt s (t .rows)
-    number-next = next-number s (t .rows) more (g .none-refused)
+    number-next : firstRows s (run .rows + 1) .number ≡ numberAt s (run .rows)
+    number-next = next-number s (run .rows) more (g .none-refused)
 
-    -- where it runs, its records fit in 384 bytes, two an effect
-    pub fits-any : Fits s (t .rows) 384
-    fits-any none = omega (arith, records-next s (g .accepted) (t .rows) more (sym number-next ∙ none), most-effects s (g .accepted))
+    -- where it runs, its records fit in the room of any row, two an effect
+    pub fits-any : Fits s (run .rows) mostRowBytes
+    fits-any none = omega (arith, records-next s (g .accepted) (run .rows) more (sym number-next ∙ none), most-effects s (g .accepted))
 
     -- ## What a caller has after it
 
-    module _ (u : Turn) (is : u ≡ turnOf s (t .rows)) where
-      number-is : u .number ≡ firstRows s (t .rows + 1) .number
-      number-is = ap (λ (v : Turn). v .number) is
-
+    module _ {buf : List ℕ} {r : Turn} {array′ buf′ : List ℕ} (d : RowDone s run buf r array′ buf′) where
       -- its records are few
-      pub few-records : u .records ≤ 32
+      pub few-records : r .records ≤ mostRecords
       few-records =
-          rw (ap (λ (v : Turn). v .records) is)
-          (granted-either (length (rowRun s (t .rows) .events)) (λ k. 0) (λ m. m ≤ 32) (firstRows s (t .rows + 1) .number)
+          rw (d .records-are)
+          (granted-either (length (rowRun s (run .rows) .events)) (λ k. 0) (λ m. m ≤ mostRecords) (firstRows s (run .rows + 1) .number)
           (λ z. omega (arith, fits-any z))
           (λ k. omega arith))
 
       -- without refusal the loop goes on, by one row
-      module _ (z : u .number ≡ 0) where
-        pub one-row : u .totals .rows ≡ t .rows + 1
-        one-row = ap (λ (v : Turn). v .totals .rows) is ∙ counted s (t .rows + 1) (omega (arith, more)) (sym number-is ∙ z)
-
-        pub goes-on : Going s st width (u .totals)
-        goes-on =
-            record {
-              accepted = g .accepted;
-              settings = g .settings;
-              wide = g .wide;
-              counted = omega (arith, one-row, more);
-              none-refused = ap (λ (n : ℕ). firstRows s n .number) one-row ∙ sym number-is ∙ z;
-              totals = ap (λ (v : Turn). v .totals) is ∙ ap (λ (n : ℕ). totalsOf s (firstRows s n .replay)) (sym one-row);
-            }
+      pub one-row : r .number ≡ 0 → r .run .rows ≡ run .rows + 1
+      one-row z = d .rows-are ∙ granted-none (run .rows + 1) (λ n. run .rows) (firstRows s (run .rows + 1) .number) (sym (d .number-is) ∙ z)
 
       -- a refusal is 9, at the row's first byte, and the replay is what the rows before have given
-      module _ (h : u .number ≡ 0 → ⊥) where
-        refuses : numberAt s (t .rows) ≡ 0 → ⊥
-        refuses z = h (number-is ∙ number-next ∙ z)
+      module _ (h : r .number ≡ 0 → ⊥) where
+        refuses : numberAt s (run .rows) ≡ 0 → ⊥
+        refuses z = h (d .number-is ∙ number-next ∙ z)
 
-        nine : numberAt s (t .rows) ≡ 9
-        nine = unless-refused (leb (so-far .state .done + rowOf s (t .rows) .hold) mostScans) 9 refuses
+        nine : numberAt s (run .rows) ≡ 9
+        nine = unless-refused (leb (so-far .state .done + rowOf s (run .rows) .hold) mostScans) 9 refuses
 
-        pub unchanged : u .totals ≡ t
-        unchanged =
-            ap (λ (v : Turn). v .totals) is ∙ ap (λ (o : Outcome). totalsOf s (o .replay)) (next-refused s (t .rows) more (g .none-refused) refuses) ∙ sym (g .totals)
+        pub unchanged : r .run .rows ≡ run .rows
+        unchanged = d .rows-are ∙ granted-refused (run .rows + 1) (λ n. run .rows) (firstRows s (run .rows + 1) .number) (λ z. h (d .number-is ∙ z))
 
-        pub stops : replay s ≡ refusedAt (u .totals .place) so-far 9
+        pub stops : replay s ≡ refusedAt (r .run .place) so-far 9
         stops =
-            let place : u .totals .place ≡ rowPlace s (t .rows) = ap (λ (v : Totals). v .place) unchanged ∙ place-is in
-            stops-there s (t .rows) more (g .none-refused) (g .accepted) refuses ∙ (λ j. refusedAt (sym place j) so-far (nine j))
+            let place : rowPlace s (run .rows) ≡ r .run .place = ap (rowPlace s) (sym unchanged) ∙ sym (place-is (d .going)) in
+            stops-there s (run .rows) more (g .none-refused) (g .accepted) refuses ∙ (λ j. refusedAt (place j) so-far (nine j))
 
-        pub stops-answered : answerBy (u .number) (u .totals .place) (tallyOf (u .totals)) ≡ answered (replay s)
-        stops-answered = (λ j. answerBy ((number-is ∙ number-next ∙ nine) j) (u .totals .place) (tallyOf ((unchanged ∙ g .totals) j))) ∙ ap answered (sym stops)
+        pub stops-answered : answerOf r ≡ answered (replay s)
+        stops-answered =
+            let place = granted-refused 0 (λ m. r .run .place) (r .number) h in
+            answered-by (d .going) (r .number) (r .records) (r .run .place) place
+            ∙ (λ j. answered (refusedAt (r .run .place) (firstRows s (unchanged j) .replay) ((d .number-is ∙ number-next ∙ nine) j)))
+            ∙ ap answered (sym stops)
 
     -- ## What the code reads and computes of it
 
-    module _ (row : Row) (is : row ≡ rowAt s (t .place)) (v : ℕ) (number-is : v ≡ scansNumber (t .board .done) (row .hold)) where
-      row-is : row ≡ rowOf s (t .rows)
-      row-is = is ∙ rw place-is (row-in-the-file s (t .rows) more .1)
+    module _ (row : Row) (is : row ≡ rowAt s (run .place)) (v : ℕ) (number-is : v ≡ scansNumber (run .mark .done) (row .hold)) where
+      row-is : row ≡ rowOf s (run .rows)
+      row-is = is ∙ rw (place-is g) (row-in-the-file s (run .rows) more .1)
 
-      same-number : v ≡ numberAt s (t .rows)
-      same-number = number-is ∙ (λ j. scansNumber (board-is j .done) (row-is j .hold))
+      same-number : v ≡ numberAt s (run .rows)
+      same-number = number-is ∙ (λ j. scansNumber (g .totals j .board .done) (row-is j .hold))
 
-      -- a refused row
-      module _ (h : v ≡ 0 → ⊥) where
-        refused-is : firstRows s (t .rows + 1) ≡ refusedAt (rowPlace s (t .rows)) so-far v
-        refused-is = next-refused s (t .rows) more (g .none-refused) (λ z. h (same-number ∙ z)) ∙ ap (refusedAt (rowPlace s (t .rows)) so-far) (sym same-number)
-
-        pub refused-turn : (buf : List ℕ) → (_≡_ {A = Turn} (record { number = v; records = 0; totals = t }) (turnOf s (t .rows))) × (buf ≡ turnInto s (t .rows) buf)
-        refused-turn buf =
-            let none = granted-refused (length (rowRun s (t .rows) .events)) (λ k. 0) v h in
-            let same = granted-refused (sets buf 0 (bytes (rowRun s (t .rows) .events))) (λ k. buf) v h in
-            rw refused-is ((λ j. record { number = v; records = sym none j; totals = g .totals j }), sym same)
+      -- a refused row leaves all as it was
+      pub refused-done : (v ≡ 0 → ⊥) → (buf : List ℕ) → RowDone s run buf (record { number = v; records = 0; run = run }) array buf
+      refused-done h buf =
+          let n = firstRows s (run .rows + 1) .number in
+          let e : v ≡ n = same-number ∙ sym number-next in
+          let refused : n ≡ 0 → ⊥ = λ z. h (e ∙ z) in
+          record {
+            number-is = e;
+            records-are = sym (granted-refused (length (rowRun s (run .rows) .events)) (λ k. 0) n refused);
+            going = g;
+            rows-are = sym (granted-refused (run .rows + 1) (λ k. run .rows) n refused);
+            laid = sym (granted-refused (sets buf 0 (bytes (rowRun s (run .rows) .events))) (λ k. buf) n refused);
+          }
 
       -- a row that runs
       module _ (z : v ≡ 0) where
-        scans : t .board .done + row .hold ≤ mostScans
-        scans = limit-kept (t .board .done + row .hold) mostScans 8 (sym number-is ∙ z)
+        none : numberAt s (run .rows) ≡ 0
+        none = sym same-number ∙ z
 
-        right-settings : settingsNumber st ≡ 0
-        right-settings = rw (g .settings) (settings-right s (g .accepted))
+        board-is : boardAt (run .mark) array ≡ boardOf (st .count) (startOf (so-far .state))
+        board-is = ap (λ (u : Totals). u .board) (g .totals)
 
-        right-state : stateNumber st shown ≡ 0
-        right-state = rw (state-is, g .settings) (sound s (g .accepted) (t .rows) .state)
+        -- the words show the slots of the state
+        slots-shown : slotsOf (st .count) (tableOf (st .count) (so-far .state .slots)) ≡ so-far .state .slots
+        slots-shown =
+            let x = sound s (g .accepted) (run .rows) in
+            shows st (so-far .state) (x .state) (x .slots) (settings-right s (g .accepted))
 
-        right-row : rowNumber (knownOf st) row ≡ 0
-        right-row = rw (g .settings, row-is) (row-right s (g .accepted) (t .rows) more)
+        -- so they show the state
+        state-is : keptState st (run .mark) array ≡ so-far .state
+        state-is = ap (reachedBy (st .count)) board-is ∙ (λ j. record { done = so-far .state .done; next = so-far .state .next; slots = slots-shown j })
 
-        pub right-input : inputNumber st shown row ≡ 0
-        right-input = right-input-is-accepted st row shown right-settings right-state right-row scans
-
-        run-is : run st row shown ≡ rowRun s (t .rows)
+        run-is : keptRun st row (run .mark) array ≡ rowRun s (run .rows)
         unfolding rowRun
-        run-is = λ j. run (g .settings j) (row-is j) (state-is j)
+        run-is = λ j. heldRun st (row-is j) (state-is j)
 
-        granted-is : firstRows s (t .rows + 1) ≡ whole (joined so-far (rowRun s (t .rows)))
-        granted-is = next-runs s (t .rows) more (g .none-refused) (sym same-number ∙ z)
+        next-is : firstRows s (run .rows + 1) ≡ whole (joined so-far (rowRun s (run .rows)))
+        next-is = next-runs s (run .rows) more (g .none-refused) none
 
-        -- its records fit where those of the row do
-        pub run-fits : (room : ℕ) → Fits s (t .rows) room → 12 * length (run st row shown .events) ≤ room
-        run-fits room f = rw run-is (f (ap (λ (o : Outcome). o .number) granted-is))
+        right-input : inputNumber st (keptState st (run .mark) array) row ≡ 0
+        right-input =
+            right-input-is-accepted st row (keptState st (run .mark) array) (settings-right s (g .accepted)) (rw state-is (sound s (g .accepted) (run .rows) .state))
+            (rw row-is (row-right s (g .accepted) (run .rows) more)) (limit-kept (run .mark .done + row .hold) mostScans 8 (sym number-is ∙ z))
 
-        module _ (ran : KeptWords) (ran-is : ran ≡ keptOf (st .count) (run st row shown)) where
-          ran-row : ran ≡ keptOf n (rowRun s (t .rows))
-          ran-row = ran-is ∙ (λ j. keptOf (count-is j) (run-is j))
+        -- it can run, with its records in the room of the row's
+        pub row-runs : (room : ℕ) → Fits s (run .rows) room → Runs st (run .plan) row (run .mark) array room
+        row-runs room f =
+            let table = ap (λ (b : Board). b .table) board-is in
+            record {
+              wired = g .wired;
+              shown = table ∙ ap (tableOf (st .count)) (sym (ap (slotsOf (st .count)) table ∙ slots-shown));
+              input = right-input;
+              fits = rw run-is (f (ap (λ (o : Outcome). o .number) next-is));
+            }
+
+        module _ {buf : List ℕ} {ran : Struck} {array′ buf′ : List ℕ} (x : Ran st (run .plan) row (run .mark) array buf ran array′ buf′) where
+          abbrev given : Stepped
+          given = rowRun s (run .rows)
+
+          at-is : ran .mark .at ≡ recordLength * length (given .events)
+          at-is = x .records ∙ ap (λ (r : Stepped). recordLength * length (r .events)) run-is
+
+          records-are : ran .mark .at / recordLength ≡ length (given .events)
+          records-are = omega (arith, at-is)
+
+          live-is : ran .mark .live ≡ given .live
+          live-is = x .live ∙ ap (λ (r : Stepped). r .live) run-is
+
+          exercised-is : row .hold * one (ran .exercised) ≡ given .exercised
+          exercised-is = x .exercised ∙ ap (λ (r : Stepped). r .exercised) run-is
 
           -- the counts stay small
-          pub sums : (t .place + width ≤ 1000000) × (t .records + ran .records ≤ 1000000) × (t .rows ≤ 2048) × (t .live + ran .live ≤ 1000000) × (t .exercised + ran .exercised ≤ 1000000000)
+          pub sums : SmallSums run (row .hold) ran
           sums =
-              let kept = sound-next s (g .accepted) (t .rows) more (sym same-number ∙ z) in
-              let most = scans-next s (g .accepted) (t .rows) more (sym same-number ∙ z) in
+              let kept = sound-next s (g .accepted) (run .rows) more none in
+              let most = scans-next s (g .accepted) (run .rows) more none in
               let rows = few-rows s (g .accepted) in
-              let c : t .records + ran .records ≡ length (so-far .events ++ rowRun s (t .rows) .events) =
-              (λ j. g .totals j .records + ran-row j .records) ∙ sym (length-append (so-far .events) (rowRun s (t .rows) .events))
-              in
-              let l : t .live + ran .live ≡ so-far .live + rowRun s (t .rows) .live = λ j. g .totals j .live + ran-row j .live in
-              let x : t .exercised + ran .exercised ≡ so-far .exercised + rowRun s (t .rows) .exercised = λ j. g .totals j .exercised + ran-row j .exercised in
               let first = first-row-after-the-opening s (g .accepted) in
               let few = most-effects s (g .accepted) in
-              let wide = row-in-the-file s (t .rows) more .2 in
-              let place : rowPlace s (t .rows) ≡ 10 + 6 * reading s .settings .count + 24 * t .rows = λ j. first j + wide j * t .rows in
-              let events : 2 * n * (so-far .rows + 1) ≤ 32 * 2048 = mul-le-mul {n₂ = 32} {m₂ = 2048} (omega (arith, few)) (omega (arith, more, rows, rows-are)) in (
-                omega (arith, more, rows, place-is, place, few, g .wide, wide),
-                omega (arith, c, kept .events, events),
-                omega (arith, more, rows),
-                omega (arith, more, rows, l, kept .live, rows-are),
-                omega (arith, x, kept .exercised, most),
-              )
+              let wide = row-in-the-file s (run .rows) more .2 in
+              let place : rowPlace s (run .rows) ≡ firstRow answer + widthOf Rows * run .rows = ap (λ (n : ℕ). firstRow answer + n * run .rows) wide in
+              let events : 2 * st .count * (so-far .rows + 1) ≤ mostRecords * mostOf Rows =
+              mul-le-mul {n₂ = mostRecords} {m₂ = mostOf Rows} (omega (arith, few)) (omega (arith, more, rows, rows-so-far g))
+              in
+              let l : run .live ≡ so-far .live = ap (λ (u : Totals). u .live) (g .totals) in
+              let e : run .exercised ≡ so-far .exercised = ap (λ (u : Totals). u .exercised) (g .totals) in
+              record {
+                place = omega (arith, more, rows, place-is g, place, first, few, g .wide, wide);
+                rows = omega (arith, more, rows);
+                records =
+                    omega (
+                      arith,
+                      records-so-far g,
+                      length-append (so-far .events) (given .events),
+                      kept .events,
+                      events,
+                      at-is,
+                      few,
+                      records-next s (g .accepted) (run .rows) more none,
+                    );
+                live = omega (arith, more, rows, l, live-is, kept .live, rows-so-far g);
+                exercised = omega (arith, e, exercised-is, kept .exercised, most);
+              }
 
-          pub granted-turn : (buf buf′ : List ℕ) → buf′ ≡ sets buf 0 (bytes (run st row shown .events))
-              → (_≡_ {A = Turn} (record { number = 0; records = ran .records; totals = totalsAfter t width ran }) (turnOf s (t .rows))) × (buf′ ≡ turnInto s (t .rows) buf)
-          granted-turn buf buf′ f =
-              let et = (λ j. totalsAfter (g .totals j) (g .wide j) (ran-row j)) ∙ after-is (rowRun s (t .rows)) in
-              rw granted-is ((λ j. record { number = 0; records = ran-row j .records; totals = et j }), f ∙ ap (λ (q : Stepped). sets buf 0 (bytes (q .events))) run-is)
+          -- one row more in the run is one row more in the replay
+          totals-are : totalsIn (runAfter run (row .hold) ran) array′ ≡ totalsOf s (joined so-far given)
+          totals-are =
+              let board = x .board ∙ ap (λ (r : Stepped). boardOf (st .count) (startOf (r .state))) run-is in
+              let place : run .place + run .width ≡ rowPlace s (so-far .rows + 1) =
+              rw add-one (omega (arith, place-is g, g .wide, ap (λ (n : ℕ). rowWidth answer * n) (rows-so-far g), mul-suc (rowWidth answer) (so-far .rows)))
+              in
+              let records : run .records + ran .mark .at / recordLength ≡ length (so-far .events ++ given .events) =
+              omega (arith, records-so-far g, records-are, length-append (so-far .events) (given .events))
+              in
+              λ j. record {
+                board = board j;
+                place = place j;
+                records = records j;
+                rows = sym (rows-so-far g) j + 1;
+                live = g .totals j .live + live-is j;
+                exercised = g .totals j .exercised + exercised-is j;
+              }
+
+          pub ran-done : RowDone s run buf (record { number = 0; records = ran .mark .at / recordLength; run = runAfter run (row .hold) ran }) array′ buf′
+          ran-done =
+              let zero-is = ap (λ (o : Outcome). o .number) next-is in
+              let n = firstRows s (run .rows + 1) .number in
+              record {
+                number-is = sym zero-is;
+                records-are = records-are ∙ sym (granted-none (length (given .events)) (λ k. 0) n zero-is);
+                going = record {
+                  accepted = g .accepted;
+                  wired = x .wired;
+                  wide = g .wide;
+                  many = g .many;
+                  counted = omega (arith, more);
+                  none-refused = zero-is;
+                  totals = totals-are ∙ ap (λ (o : Outcome). totalsOf s (o .replay)) (sym next-is);
+                };
+                rows-are = sym (granted-none (run .rows + 1) (λ k. run .rows) n zero-is);
+                laid =
+                    x .laid
+                    ∙ ap (λ (r : Stepped). sets buf 0 (bytes (r .events))) run-is
+                    ∙ sym (granted-none (sets buf 0 (bytes (given .events))) (λ k. buf) n zero-is);
+              }
+
+-- ## What a caller has after some rows
+
+module _ {s : List ℕ} {run : Run} {until : ℕ} {keep : Bool} {buf : List ℕ} {r : Turn} {array′ buf′ : List ℕ} (d : RowsDone s run until keep buf r array′ buf′) where
+  pub answered-until : until ≤ rowCount (reading s .answer) → answerOf r ≡ answered (firstRows s until)
+  answered-until l =
+      let o = firstRows s until in
+      let place : granted (r .number) 0 (λ m. r .run .place) ≡ granted (o .number) 0 (λ n. rowPlace s (o .replay .rows)) =
+      λ j. granted (d .number-is j) 0 (λ n. (place-is (d .going) ∙ ap (rowPlace s) (d .rows-are)) j)
+      in
+      answered-by (d .going) (r .number) (r .records) _ place
+      ∙ (λ j. answered (record { number = d .number-is j; place = granted (o .number) 0 (λ n. rowPlace s (o .replay .rows)); replay = firstRows s (d .rows-are j) .replay }))
+      ∙ ap answered (sym (told s until l))
+
+  module _ (all : until ≡ rowCount (reading s .answer)) where
+    all-rows : firstRows s until ≡ replay s
+    all-rows = ap (firstRows s) all ∙ sym (all-the-rows s (d .going .accepted))
+
+    -- the answer is that of the whole file
+    pub answered-all : answerOf r ≡ answered (replay s)
+    answered-all = answered-until (omega (arith, all)) ∙ ap answered all-rows
+
+    -- and the records that were kept from the first row on are all
+    pub kept-all : keep ≡ true → run .rows ≡ 0 → buf′ ≡ sets buf 0 (bytes (replay s .replay .events))
+    kept-all kept none =
+        let n : until - run .rows ≡ until = omega (arith, none) in
+        d .laid
+        ∙ (λ j. rowsInto s (kept j) (none j) (n j) buf)
+        ∙ all-kept s buf until (omega (arith, all))
+        ∙ ap (λ (o : Outcome). sets buf 0 (bytes (o .replay .events))) all-rows

@@ -1,29 +1,43 @@
 -- What the code carries from row to row, and what one row more comes to. No entry point's contract
 -- cites this page.
-use Prim.Native.Nat.{ℕ, _+_, _*_, _≤_}
+use Prim.Native.Nat.{ℕ, zero, suc, _+_, _-_, _*_, _/_, _≤_, _<_}
 use mathlib.Core.Bool.{Bool, cond}
 use mathlib.Core.Path.{_≡_}
 use mathlib.Core.List.{List}
 use lib.ListN.{length}
 use lib.Seq.{sets}
-use Rattle.effects.specs.Records.{recordLength, bytes}
+use Rattle.bits.specs.Words.{one}
+use Rattle.effects.specs.Records.{recordLength, mostRowBytes, bytes}
+use Rattle.boards.specs.Board.{Board, boardOf}
+use Rattle.engine.specs.Marks.{boardAt, begun}
 use Rattle.settings.specs.declared.Settings.{Settings}
-use Rattle.planes.specs.Board.{boardAt, boardOf, markOf}
-use Rattle.block.specs.declared.Kept.{Kept}
-use Rattle.block.specs.Run.{startOf}
+use Rattle.rules.specs.Limits.{mostEffects, mostScans}
 use Rattle.settings.specs.Refusals.{granted}
+use Rattle.wiring.specs.declared.Struck.{Struck}
+use Rattle.wiring.specs.Wiring.{Wired}
+use Rattle.block.specs.Run.{startOf}
 use Rattle.recording.specs.Answers.{number, rowCount, rowWidth}
 use Rattle.recording.specs.Reader.{reading}
 use Rattle.recording.specs.Steps.{rowPlace}
-use Rattle.rerun.specs.declared.Tally.{Tally}
-use Rattle.rerun.specs.declared.Totals.{Totals}
-use Rattle.rerun.specs.declared.Went.{Went}
+use Rattle.rerun.specs.declared.Begun.{Begun}
+use Rattle.rerun.specs.declared.Run.{Run}
 use Rattle.rerun.specs.declared.Turn.{Turn}
 use Rattle.rerun.specs.declared.Replayed.{Replayed}
 use Rattle.rerun.specs.declared.Stop.{Stop}
-use Rattle.rerun.specs.Replay.{Replay, Outcome, replay, firstRows, rowRun}
+use Rattle.rerun.specs.Replay.{Replay, Outcome, started, firstRows, rowRun}
 
--- what rows have given, by the words of n effects, and the place of the row after them
+-- ## What is carried
+
+-- what rows have given, by the words of the effects, and the place of the row after them
+pub record Totals : Type 0 where
+  pub board : Board
+  pub place : ℕ
+  pub records : ℕ
+  pub rows : ℕ
+  pub live : ℕ
+  pub exercised : ℕ
+
+-- of n effects
 abbrev pub totalsAt : (n place : ℕ) → Replay → Totals
 totalsAt n place r =
     record {
@@ -39,96 +53,133 @@ totalsAt n place r =
 abbrev pub totalsOf : List ℕ → Replay → Totals
 totalsOf s r = totalsAt (reading s .settings .count) (rowPlace s (r .rows)) r
 
--- the answer by the refusal's number and place, or 0 and 0, and what the rows so far have given
-abbrev pub answerBy : (number place : ℕ) → Tally → Replayed
-answerBy number place t =
+-- as the code carries them, with the array that is lent beside
+abbrev pub totalsIn : Run → (array : List ℕ) → Totals
+totalsIn run array =
     record {
-      number = number;
-      place = place;
-      records = t .records;
-      rows = t .rows;
-      scans = t .mark .done;
-      live = t .live;
-      exercised = t .exercised;
+      board = boardAt (run .mark) array;
+      place = run .place;
+      records = run .records;
+      rows = run .rows;
+      live = run .live;
+      exercised = run .exercised;
     }
 
--- where a replay stops: its number and place alone
-abbrev pub stopOf : Outcome → Stop
-stopOf o = record { number = o .number; place = o .place }
-
--- in an accepted file with these settings and rows of this width: the totals are those of as many first rows as they count,
--- none of which was refused
-pub record Going (s : List ℕ) (st : Settings) (width : ℕ) (t : Totals) : Type 0 where
+-- run and array are those after as many first rows of an accepted file as the run counts, none of which was refused
+pub record Going (s : List ℕ) (run : Run) (array : List ℕ) : Type 0 where
   pub accepted : number (reading s .answer) ≡ 0
-  pub settings : st ≡ reading s .settings
-  pub wide : width ≡ rowWidth (reading s .answer)
-  pub counted : t .rows ≤ rowCount (reading s .answer)
-  pub none-refused : firstRows s (t .rows) .number ≡ 0
-  pub totals : t ≡ totalsOf s (firstRows s (t .rows) .replay)
+  pub wired : Wired (reading s .settings) (run .plan) array
+  pub wide : run .width ≡ rowWidth (reading s .answer)
+  pub many : run .«row_count» ≡ rowCount (reading s .answer)
+  pub counted : run .rows ≤ rowCount (reading s .answer)
+  pub none-refused : firstRows s (run .rows) .number ≡ 0
+  pub totals : totalsIn run array ≡ totalsOf s (firstRows s (run .rows) .replay)
 
--- row i: its number, its records, and the totals after it. A refused row gives no record, and leaves the totals as they were:
--- their place is its first byte
-abbrev pub turnOf : List ℕ → ℕ → Turn
-turnOf s i =
-    record {
-      number = firstRows s (i + 1) .number;
-      records = granted (firstRows s (i + 1) .number) (length (rowRun s i .events)) (λ n. 0);
-      totals = totalsOf s (firstRows s (i + 1) .replay);
-    }
+-- ## The beginning
 
--- the lent bytes after it
-abbrev pub turnInto : List ℕ → ℕ → List ℕ → List ℕ
-turnInto s i buf = granted (firstRows s (i + 1) .number) (sets buf 0 (bytes (rowRun s i .events))) (λ n. buf)
+-- by the settings, and the rows' number, first place and width
+pub record Begins (st : Settings) (rows first width : ℕ) (r : Begun) : Type 0 where
+  pub wired : Wired st (r .run .plan) (r .board)
+  pub wide : r .run .width ≡ width
+  pub many : r .run .«row_count» ≡ rows
+  pub totals : totalsIn (r .run) (r .board) ≡ totalsAt (st .count) first started
 
--- ## Room
+-- ## One row more
 
 -- the records of row i fit, if it runs
 abbrev pub Fits : List ℕ → (i room : ℕ) → Type 0
 Fits s i room = firstRows s (i + 1) .number ≡ 0 → recordLength * length (rowRun s i .events) ≤ room
 
--- the room of all rows: that of their records where they are kept, one after the other, and else that of any one row
-abbrev pub roomOf : List ℕ → (keep : Bool) → ℕ
-roomOf s keep = cond keep (recordLength * length (replay s .replay .events)) 384
+-- a row is left, and its records fit in so many bytes
+pub record RowReady (s : List ℕ) (run : Run) (array : List ℕ) (room : ℕ) : Type 0 where
+  pub going : Going s run array
+  pub more : run .rows < rowCount (reading s .answer)
+  pub fits : Fits s (run .rows) room
 
--- ## Where the timers and first-outs are lent
+-- the number of records of row i; a refused row gives none
+abbrev pub recordsOf : List ℕ → ℕ → ℕ
+recordsOf s i = granted (firstRows s (i + 1) .number) (length (rowRun s i .events)) (λ n. 0)
 
--- the totals of a tally, with the timers and first-outs beside it
-abbrev pub totalsWith : Tally → (timers firsts : List ℕ) → Totals
-totalsWith t timers firsts =
+-- the lent bytes after it, whose records go to a place
+abbrev pub rowInto : List ℕ → (i at : ℕ) → List ℕ → List ℕ
+rowInto s i at buf = granted (firstRows s (i + 1) .number) (sets buf at (bytes (rowRun s i .events))) (λ n. buf)
+
+-- what row number run .rows comes to; a refused row leaves the run as it was: its place is the row's first byte
+pub record RowDone (s : List ℕ) (run : Run) (buf : List ℕ) (r : Turn) (array′ buf′ : List ℕ) : Type 0 where
+  pub number-is : r .number ≡ firstRows s (run .rows + 1) .number
+  pub records-are : r .records ≡ recordsOf s (run .rows)
+  pub going : Going s (r .run) array′
+  pub rows-are : r .run .rows ≡ granted (firstRows s (run .rows + 1) .number) (run .rows + 1) (λ n. run .rows)
+  pub laid : buf′ ≡ rowInto s (run .rows) 0 buf
+
+-- the run after a row of this hold that ran so
+abbrev pub runAfter : Run → (hold : ℕ) → Struck → Run
+runAfter run hold ran =
     record {
-      board = boardAt (t .mark) timers firsts;
-      place = t .place;
-      records = t .records;
-      rows = t .rows;
-      live = t .live;
-      exercised = t .exercised;
+      plan = run .plan;
+      mark = begun (ran .mark);
+      width = run .width;
+      «row_count» = run .«row_count»;
+      place = run .place + run .width;
+      rows = run .rows + 1;
+      records = run .records + ran .mark .at / recordLength;
+      live = run .live + ran .mark .live;
+      exercised = run .exercised + hold * one (ran .exercised);
     }
 
--- and a turn of it
-abbrev pub turnWith : Went → (timers firsts : List ℕ) → Turn
-turnWith u timers firsts =
-    record { number = u .number; records = u .records; totals = totalsWith (u .tally) timers firsts }
+-- whose sums are no more than the scans that are counted, which every number of the code can hold
+pub record SmallSums (run : Run) (hold : ℕ) (ran : Struck) : Type 0 where
+  pub place : run .place + run .width ≤ mostScans
+  pub rows : run .rows ≤ mostScans
+  pub records : run .records + ran .mark .at ≤ mostScans
+  pub live : run .live + ran .mark .live ≤ mostScans
+  pub exercised : run .exercised + hold * one (ran .exercised) ≤ mostScans
 
--- one row more, which ran so
-abbrev pub tallyAfter : Tally → (width : ℕ) → Kept → Tally
-tallyAfter t width ran =
+-- ## Some rows
+
+-- where the records of a row go, after so many
+abbrev pub placeOf : (keep : Bool) → (records : ℕ) → ℕ
+placeOf keep records = cond keep (recordLength * records) 0
+
+-- the lent bytes after n rows, from row i on
+unfoldable pub rowsInto : List ℕ → (keep : Bool) → (i n : ℕ) → List ℕ → List ℕ
+rowsInto s keep i zero buf = buf
+rowsInto s keep i (suc n) buf =
+    rowInto s (i + n) (placeOf keep (length (firstRows s (i + n) .replay .events))) (rowsInto s keep i n buf)
+
+-- the room of all rows before one: that of their records where they are kept, one after the other, and else that of any one row
+abbrev pub roomOf : List ℕ → (until : ℕ) → (keep : Bool) → ℕ
+roomOf s until keep = cond keep (recordLength * length (firstRows s until .replay .events)) mostRowBytes
+
+pub record RowsReady (s : List ℕ) (run : Run) (until : ℕ) (array : List ℕ) (room : ℕ) (keep : Bool) : Type 0 where
+  pub going : Going s run array
+  pub onward : run .rows ≤ until
+  pub within : until ≤ rowCount (reading s .answer)
+  pub fits : roomOf s until keep ≤ room
+
+-- the rows before `until`, up to a refused one
+pub record RowsDone (s : List ℕ) (run : Run) (until : ℕ) (keep : Bool) (buf : List ℕ) (r : Turn) (array′ buf′ : List ℕ) : Type 0 where
+  pub number-is : r .number ≡ firstRows s until .number
+  pub records-are : r .records ≡ 0
+  pub going : Going s (r .run) array′
+  pub rows-are : r .run .rows ≡ firstRows s until .replay .rows
+  pub laid : buf′ ≡ rowsInto s keep (run .rows) (until - run .rows) buf
+
+-- ## The answer
+
+-- of a replay that ended so
+abbrev pub answerOf : Turn → Replayed
+answerOf t =
     record {
-      mark = ran .mark;
-      place = t .place + width;
-      records = t .records + ran .records;
-      rows = t .rows + 1;
-      live = t .live + ran .live;
-      exercised = t .exercised + ran .exercised;
+      number = t .number;
+      place = granted (t .number) 0 (λ n. t .run .place);
+      records = t .run .records;
+      rows = t .run .rows;
+      scans = t .run .mark .done;
+      live = t .run .live;
+      exercised = t .run .exercised;
     }
 
--- the tally of totals
-abbrev pub tallyOf : Totals → Tally
-tallyOf t =
-    record {
-      mark = markOf (t .board);
-      place = t .place;
-      records = t .records;
-      rows = t .rows;
-      live = t .live;
-      exercised = t .exercised;
-    }
+-- where a replay stops: its number and place alone
+abbrev pub stopOf : Outcome → Stop
+stopOf o = record { number = o .number; place = o .place }

@@ -1,60 +1,50 @@
 // A whole recording, replayed row by row from a fresh state. Document 01, "One session, whole". What the reader has checked
 // is not checked again: settings and rows are right, and so is every state that a replay comes to.
-// It rests on `recording` for the reader and the rows and on `block` for the runs. What is carried from row to row (`Totals`,
-// `Tally`) may change without moving the contract of `replay`; callers that go row by row see it through `Going` and the laws of
-// proofs/Turns alone.
+// It rests on `recording` for the reader and the rows and on `block` for the runs. What is carried from row to row (`Run`, and the
+// array that is lent beside it) may change without moving the contract of `replay`; callers that go row by row see it through `Going`
+// and the laws of proofs/Turns alone.
 ghost use mathlib.Core.Path.{_≡_};
-ghost use mathlib.Core.Bool.{cond, true};
-ghost use Prim.Native.Nat.{_+_, _*_, _≤_, _<_};
+ghost use Prim.Native.Nat.{_≤_};
 ghost use lib.ListN.{length};
-ghost use lib.Seq.{sets};
-ghost use Rattle.effects.specs.Records.{recordLength, bytes};
 ghost use Rattle.recording.specs.declared.Answer.the-variants.{Accepted};
-ghost use Rattle.recording.specs.Answers.{rowCount};
 ghost use Rattle.recording.specs.Reader.{reading};
-ghost use Rattle.wiring.specs.Wiring.{Wired};
+ghost use Rattle.settings.specs.Refusals.{granted};
 ghost use Rattle.rerun.specs.Replay.{started, refusedAt, replay as wholeReplay, answered};
-ghost use Rattle.rerun.specs.Turn.{answerBy, totalsAt, tallyAfter, tallyOf, totalsWith, turnWith, stopOf, Going, Fits, roomOf, turnOf, turnInto};
-use block::Kept;
-use planes::Board;
-use planes::Mark;
+ghost use Rattle.rerun.specs.Turn.{Begins, RowReady, RowDone, RowsReady, RowsDone, SmallSums, placeOf, runAfter, answerOf, stopOf};
+use block::State;
+use cells::Plan;
+use engine::Mark;
 use recording::Answer;
 use settings::Settings;
-use wiring::Wiring;
+use wiring::Struck;
 
-// What the rows so far have given, by the words of the effects, and the place of the row after them.
-pub struct Totals {
-    pub board: Board,
-    pub place: usize,
-    pub records: u32,
-    pub rows: u32,
-    pub live: u32,
-    pub exercised: u32,
-}
-
-// The same without the effects' timers and first-outs, which are lent beside it and changed in place.
-pub struct Tally {
+// What is carried from row to row: what stays the same, how far the effects have come, the width and number of the file's rows, the
+// place of the next row, and what the rows so far have given. Associations, delays, timers and first-outs are in one array that is
+// lent beside it and changed in place.
+pub struct Run {
+    pub plan: Plan,
     pub mark: Mark,
+    pub width: usize,
+    pub row_count: u32,
     pub place: usize,
-    pub records: u32,
     pub rows: u32,
+    pub records: u32,
     pub live: u32,
     pub exercised: u32,
 }
 
-// What one row more comes to: 0, its records and the totals after it; or 9 and the totals before it, whose place is the
-// row's first byte.
+// A replay before its first row, with its array.
+pub struct Begun {
+    pub run: Run,
+    pub board: [u32; 64],
+}
+
+// What one row more, or some, come to: 0 and the run after them; or 9 and the run before the row that is refused, whose place is that
+// row's first byte. records: those of the last row.
 pub struct Turn {
     pub number: u8,
     pub records: usize,
-    pub totals: Totals,
-}
-
-// The same of a tally.
-pub struct Went {
-    pub number: u8,
-    pub records: usize,
-    pub tally: Tally,
+    pub run: Run,
 }
 
 // What a whole file comes to: 0 and 0, or the refusal's number and place; and what the rows before it have given.
@@ -76,140 +66,107 @@ pub struct Stop {
 
 // ---- row by row
 
-// Before the first row, which stands at `first`, with so many effects.
-pub fn start(count: usize, first: usize) -> Totals
-    requires { ⌜ count ≤ 16 ⌝ }
-    ensures { λ r. ⌜ r ≡ totalsAt count first started ⌝ }
+// A replay before its first row, by what the reader has answered.
+pub fn begin(st: Settings, rows: u16, first: usize, width: usize) -> Begun
+    requires { ⌜ st .count ≤ 16 ⌝ }
+    ensures { λ r. ⌜ Begins st rows first width r ⌝ }
 {
-    Totals {
-        board: block::fresh_board(count),
+    let loaded = block::load(st, State::fresh());
+    let mark = loaded.mark;
+    let board = loaded.board;
+    let plan = wiring::plan_of(st);
+    let run = Run {
+        plan,
+        mark,
+        width,
+        row_count: rows as u32,
         place: first,
-        records: 0,
         rows: 0,
+        records: 0,
         live: 0,
         exercised: 0,
-    }
+    };
+    Begun { run, board }
 }
 
-// The tally after a row that ran so.
-fn after_row(t: Tally, width: usize, ran: Kept) -> Tally
-    requires { ⌜ (t .place + width ≤ 1000000) × (t .records + ran .records ≤ 1000000) × (t .rows ≤ 2048) × (t .live + ran .live ≤ 1000000) × (t .exercised + ran .exercised ≤ 1000000000) ⌝ }
-    ensures { λ r. ⌜ r ≡ tallyAfter t width ran ⌝ }
+// The run after a row of this hold that ran so.
+fn after_row(run: Run, hold: u32, ran: Struck) -> Run
+    requires { ⌜ SmallSums run hold ran ⌝ }
+    ensures { λ r. ⌜ r ≡ runAfter run hold ran ⌝ }
 {
+    let plan = run.plan;
     let mark = ran.mark;
-    Tally {
-        mark,
-        place: t.place + width,
-        records: t.records + ran.records as u32,
-        rows: t.rows + 1,
-        live: t.live + ran.live,
-        exercised: t.exercised + ran.exercised,
+    Run {
+        plan,
+        mark: engine::begin(mark),
+        width: run.width,
+        row_count: run.row_count,
+        place: run.place + run.width,
+        rows: run.rows + 1,
+        records: run.records + (mark.at / effects::RECORD_LENGTH) as u32,
+        live: run.live + mark.live,
+        exercised: run.exercised + block::exercised_scans(hold, ran.exercised),
     }
 }
 
-// One row more: the one at the tally's place. Its records go to the front of `buf`, and the timers and first-outs are those
-// after it. What the settings give is made once.
-pub fn row_in_place(
-    s: &[u8],
-    st: Settings,
-    x: Wiring,
-    causes: &[u16; 16],
-    times: &[u32; 16],
-    width: usize,
-    t: Tally,
-    timers: &mut [u32; 16],
-    firsts: &mut [u16; 16],
-    buf: &mut [u8],
-) -> Went
-    requires { ⌜ Going (now s) st width (totalsWith t (now timers) (now firsts)) × (t .rows < rowCount (reading (now s) .answer)) × Fits (now s) (t .rows) (length (now buf)) × Wired st x (now causes) (now times) ⌝ }
-    ensures { λ r. ⌜ turnWith r (now (timers .exit)) (now (firsts .exit)) ≡ turnOf (now (s .entry)) (t .rows) ⌝ }
-    ensures { λ _. ⌜ now (buf .exit) ≡ turnInto (now (s .entry)) (t .rows) (now (buf .entry)) ⌝ }
+// One row more: the one at the run's place. Its records go to the front of `buf`.
+pub fn row(s: &[u8], run: Run, board: &mut [u32; 64], buf: &mut [u8]) -> Turn
+    requires { ⌜ RowReady (now s) run (now board) (length (now buf)) ⌝ }
+    ensures { λ r. ⌜ RowDone (now (s .entry)) run (now (buf .entry)) r (now (board .exit)) (now (buf .exit)) ⌝ }
 {
-    let row = recording::row_at(s, t.place);
-    let mark = t.mark;
+    let row = recording::row_at(s, run.place);
+    let mark = run.mark;
     let number = block::scans_number(mark.done, row.hold);
     if number != 0 {
-        return Went {
+        return Turn {
             number: number,
             records: 0,
-            tally: t,
+            run: run,
         };
     }
-    let ran = block::run_kept(buf, st, x, causes, times, row, mark, timers, firsts);
-    Went {
-        number: 0,
-        records: ran.records,
-        tally: after_row(t, width, ran),
-    }
-}
-
-// ---- totals and their tally
-
-pub fn tally_of(t: Totals) -> Tally
-    ensures { λ r. ⌜ r ≡ tallyOf t ⌝ }
-{
-    let board = t.board;
-    Tally {
-        mark: planes::mark_of(board),
-        place: t.place,
-        records: t.records,
-        rows: t.rows,
-        live: t.live,
-        exercised: t.exercised,
-    }
-}
-
-fn totals_with(t: Tally, timers: [u32; 16], firsts: [u16; 16]) -> Totals
-    ensures { λ r. ⌜ r ≡ totalsWith t timers firsts ⌝ }
-{
-    let mark = t.mark;
-    Totals {
-        board: planes::board_at(mark, timers, firsts),
-        place: t.place,
-        records: t.records,
-        rows: t.rows,
-        live: t.live,
-        exercised: t.exercised,
-    }
-}
-
-// One row more, by value: for callers to whom a copy of the timers and first-outs matters less than the text of a row.
-pub fn row(
-    s: &[u8],
-    st: Settings,
-    x: Wiring,
-    causes: &[u16; 16],
-    times: &[u32; 16],
-    width: usize,
-    t: Totals,
-    buf: &mut [u8],
-) -> Turn
-    requires { ⌜ Going (now s) st width t × (t .rows < rowCount (reading (now s) .answer)) × Fits (now s) (t .rows) (length (now buf)) × Wired st x (now causes) (now times) ⌝ }
-    ensures { λ r. ⌜ r ≡ turnOf (now (s .entry)) (t .rows) ⌝ }
-    ensures { λ _. ⌜ now (buf .exit) ≡ turnInto (now (s .entry)) (t .rows) (now (buf .entry)) ⌝ }
-{
-    let board = t.board;
-    let table = board.table;
-    let mut timers = table.timers;
-    let mut firsts = table.firsts;
-    let tally = tally_of(t);
-    let u = row_in_place(
-        s,
-        st,
-        x,
-        causes,
-        times,
-        width,
-        tally,
-        &mut timers,
-        &mut firsts,
-        buf,
-    );
-    let next = u.tally;
+    let plan = run.plan;
+    let ran = block::run_kept(buf, board, plan, row, mark);
+    let end = ran.mark;
     Turn {
-        number: u.number,
-        records: u.records,
-        totals: totals_with(next, timers, firsts),
+        number: 0,
+        records: end.at / effects::RECORD_LENGTH,
+        run: after_row(run, row.hold, ran),
+    }
+}
+
+// Where the records of the next row go: after those so far where they are kept, else over them.
+fn place_of(keep: bool, records: u32) -> usize
+    ensures { λ r. ⌜ r ≡ placeOf keep records ⌝ }
+{
+    if keep {
+        effects::RECORD_LENGTH * records as usize
+    } else {
+        0
+    }
+}
+
+// The rows from the one that the run has come to, before row `until` or up to one that is refused. Their records go to the front of
+// `buf`, one after the other, if they are to be kept; else each row's go over those of the row before. A caller starts at the
+// beginning, stops at a row and goes on. This is the one loop that runs rows without text, so that all below it is compiled
+// into it.
+pub fn go(s: &[u8], run: Run, until: u32, board: &mut [u32; 64], buf: &mut [u8], keep: bool) -> Turn
+    requires { ⌜ RowsReady (now s) run until (now board) (length (now buf)) keep ⌝ }
+    ensures { λ r. ⌜ RowsDone (now (s .entry)) run until keep (now (buf .entry)) r (now (board .exit)) (now (buf .exit)) ⌝ }
+{
+    let mut t = run;
+    while t.rows < until {
+        let at = place_of(keep, t.records);
+        let turn = row(s, t, board, &mut buf[at..]);
+        if turn.number != 0 {
+            return turn;
+        }
+        let next = turn.run;
+        t = next;
+    }
+    Turn {
+        number: 0,
+        records: 0,
+        run: t,
     }
 }
 
@@ -244,19 +201,27 @@ pub fn stop_of(s: &[u8], rows: u16, first: usize, width: usize) -> Stop
 
 // ---- a whole file
 
-// What the tally says, with the refusal's number and place, or 0 and 0.
-pub fn answer_by(number: u8, place: usize, t: Tally) -> Replayed
-    ensures { λ r. ⌜ r ≡ answerBy number place t ⌝ }
+// The place of a refusal: that of the row after the run, or 0 where nothing was refused.
+fn place_at(number: u8, place: usize) -> usize
+    ensures { λ r. ⌜ r ≡ granted number 0 (λ n. place) ⌝ }
 {
-    let mark = t.mark;
+    if number == 0 { 0 } else { place }
+}
+
+// The answer of a replay that ended so.
+pub fn answer_of(turn: Turn) -> Replayed
+    ensures { λ r. ⌜ r ≡ answerOf turn ⌝ }
+{
+    let run = turn.run;
+    let mark = run.mark;
     Replayed {
-        number: number,
-        place: place,
-        records: t.records,
-        rows: t.rows,
+        number: turn.number,
+        place: place_at(turn.number, run.place),
+        records: run.records,
+        rows: run.rows,
         scans: mark.done,
-        live: t.live,
-        exercised: t.exercised,
+        live: run.live,
+        exercised: run.exercised,
     }
 }
 
@@ -264,87 +229,28 @@ pub fn answer_by(number: u8, place: usize, t: Tally) -> Replayed
 fn not_run(number: u8, place: usize) -> Replayed
     ensures { λ r. ⌜ r ≡ answered (refusedAt place started number) ⌝ }
 {
-    answer_by(number, place, tally_of(start(0, 0)))
-}
-
-// Where the records of the next row go: after those so far where they are kept, else over them.
-fn place_of(keep: bool, records: u32) -> usize
-    ensures { λ r. ⌜ r ≡ cond keep (recordLength * records) 0 ⌝ }
-{
-    if keep { 12 * records as usize } else { 0 }
-}
-
-// A file that the reader accepted: its rows, up to one that is refused. Their records go to the front of `buf`, one after the
-// other, if they are to be kept; else each row's go over those of the row before. This is the one loop that runs rows
-// without text, so that all below it is compiled into it.
-pub fn replay_rows(
-    s: &[u8],
-    st: Settings,
-    x: Wiring,
-    causes: &[u16; 16],
-    times: &[u32; 16],
-    rows: u16,
-    first: usize,
-    width: usize,
-    buf: &mut [u8],
-    keep: bool,
-) -> Replayed
-    requires { ⌜ (reading (now s) .answer ≡ Accepted rows first width) × (st ≡ reading (now s) .settings) × Wired st x (now causes) (now times) × (roomOf (now s) keep ≤ length (now buf)) ⌝ }
-    ensures { λ r. ⌜ r ≡ answered (wholeReplay (now (s .entry))) ⌝ }
-    ensures { λ _. ⌜ (keep ≡ true → now (buf .exit) ≡ sets (now (buf .entry)) 0 (bytes (wholeReplay (now (s .entry)) .replay .events))) ⌝ }
-{
-    let begun = start(x.count, first);
-    let board = begun.board;
-    let table = board.table;
-    let mut timers = table.timers;
-    let mut firsts = table.firsts;
-    let mut t = tally_of(begun);
-    let mut i = 0;
-    while i < rows {
-        let at = place_of(keep, t.records);
-        let u = row_in_place(
-            s,
-            st,
-            x,
-            causes,
-            times,
-            width,
-            t,
-            &mut timers,
-            &mut firsts,
-            &mut buf[at..],
-        );
-        let next = u.tally;
-        if u.number != 0 {
-            return answer_by(u.number, next.place, next);
-        }
-        t = next;
-        i += 1;
+    Replayed {
+        number: number,
+        place: place,
+        records: 0,
+        rows: 0,
+        scans: 0,
+        live: 0,
+        exercised: 0,
     }
-    answer_by(0, 0, t)
 }
 
-// A file that the reader accepted, with what its settings give.
+// A file that the reader accepted.
 fn replay_accepted(s: &[u8], st: Settings, rows: u16, first: usize, width: usize) -> Replayed
     requires { ⌜ (reading (now s) .answer ≡ Accepted rows first width) × (st ≡ reading (now s) .settings) ⌝ }
     ensures { λ r. ⌜ r ≡ answered (wholeReplay (now (s .entry))) ⌝ }
 {
-    let causes = wiring::associations(st);
-    let times = wiring::delays(st);
-    let x = wiring::wiring_of(st, &times);
-    let mut space = [0u8; 384];
-    replay_rows(
-        s,
-        st,
-        x,
-        &causes,
-        &times,
-        rows,
-        first,
-        width,
-        &mut space,
-        false,
-    )
+    let begun = begin(st, rows, first, width);
+    let run = begun.run;
+    let mut board = begun.board;
+    let mut space = [0u8; effects::MOST_ROW_BYTES];
+    let end = go(s, run, rows as u32, &mut board, &mut space, false);
+    answer_of(end)
 }
 
 // Replays a whole recording: where it stopped, and what it gave. Its records go nowhere.

@@ -10,6 +10,7 @@ use lib.ListN.{length}
 use Rattle.bits.specs.Lists.{tabulate}
 use Rattle.bits.specs.Words.{one}
 use Rattle.bits.proofs.Lists.{or-none}
+use Rattle.rules.specs.Limits.{mostPeriod}
 use Rattle.rules.specs.declared.Slot.{Slot}
 use Rattle.rules.specs.Signals.{Signals}
 use Rattle.rules.specs.Rules.{asks, moved}
@@ -22,13 +23,13 @@ use Rattle.rounds.proofs.Effect as each
 -- every period is 1 to 1,000
 abbrev pub Timed : List Signals → Type 0
 Timed [] = Unit {0}
-Timed (s ∷ ss) = (0 < s .period) × (s .period ≤ 1000) × Timed ss
+Timed (s ∷ ss) = (0 < s .period) × (s .period ≤ mostPeriod) × Timed ss
 
 timed-append : (ss ts : List Signals) → Timed ss → Timed ts → Timed (ss ++ ts)
 timed-append [] ts h k = k
 timed-append (s ∷ ss) ts h k = (h .0, h .1, timed-append ss ts (h .2) k)
 
-pub timed-tabulate : (f : ℕ → Signals) (n : ℕ) → ((i : ℕ) → (0 < f i .period) × (f i .period ≤ 1000)) → Timed (tabulate f n)
+pub timed-tabulate : (f : ℕ → Signals) (n : ℕ) → ((i : ℕ) → (0 < f i .period) × (f i .period ≤ mostPeriod)) → Timed (tabulate f n)
 unfolding tabulate
 timed-tabulate f zero h = tt
 timed-tabulate f (suc n) h = timed-append (tabulate f n) (f n ∷ []) (timed-tabulate f n h) (h n .0, h n .1, tt)

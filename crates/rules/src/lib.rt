@@ -3,7 +3,6 @@
 // A rule that changes in specs/ changes what every crate above promises, and its formula in `planes` with it, but no proof of theirs:
 // what they need of the rules is tested by computing.
 ghost use mathlib.Core.Path.{_≡_};
-ghost use Prim.Native.Nat.{_-_};
 ghost use Rattle.rules.specs.Rules.{code as codeOf, stateOf, same as sameAs};
 
 // The state of one effect.
@@ -60,11 +59,4 @@ pub fn same(p: EffectState, q: EffectState) -> bool
     ensures { λ r. ⌜ r ≡ sameAs p q ⌝ }
 {
     code(p) == code(q)
-}
-
-// a - b, or 0
-pub fn less(a: u32, b: u32) -> u32
-    ensures { λ r. ⌜ r ≡ a - b ⌝ }
-{
-    if b < a { a - b } else { 0 }
 }

@@ -15,7 +15,7 @@ use Rattle.settings.specs.declared.Settings.{Settings}
 use Rattle.settings.specs.declared.Known.{Known}
 use Rattle.settings.specs.declared.Row.{Row}
 use Rattle.settings.specs.declared.Words.{Words}
-use Rattle.settings.specs.Limits.{mostHold}
+use Rattle.rules.specs.Limits.{mostHold}
 use Rattle.settings.specs.Right.{blockOk, wordsOk, fieldsNumber, wordsNumber, holdNumber, rowNumber, blockNumber, countOk, effectOk, effectsNumber, knownOf, settingsNumber, slotOk}
 use Rattle.settings.specs.Signals.{noEffect}
 use Rattle.settings.proofs.Refusals.{or-else-none, unless-none}

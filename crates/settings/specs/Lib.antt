@@ -1,4 +1,3 @@
-pub mod Limits
 pub mod Refusals
 pub mod Right
 pub mod Signals

@@ -11,7 +11,7 @@ use Rattle.settings.specs.declared.Settings.{Settings}
 use Rattle.settings.specs.declared.Words.{Words}
 use Rattle.settings.specs.declared.Row.{Row}
 use Rattle.settings.specs.declared.Known.{Known}
-use Rattle.settings.specs.Limits.{between, mostCauses, mostEffects, mostPeriod, mostDelay, mostHold}
+use Rattle.rules.specs.Limits.{between, mostCauses, mostEffects, mostPeriod, mostDelay, mostHold}
 use Rattle.settings.specs.Refusals.{unless, orElse}
 
 -- ## Settings: 2, then 3

@@ -3,7 +3,7 @@ use lib.ListN.{replicate}
 use Rattle.settings.specs.declared.Settings.{Settings}
 use Rattle.settings.specs.declared.Words.{Words}
 use Rattle.settings.specs.declared.Row.{Row}
-use Rattle.settings.specs.Limits.{mostEffects}
+use Rattle.rules.specs.Limits.{mostEffects}
 use Rattle.settings.specs.Signals.{noEffect}
 
 abbrev pub noWords : Words

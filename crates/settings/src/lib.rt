@@ -9,7 +9,7 @@ ghost use lib.Bits.{bitAnd};
 ghost use lib.Count.{ones};
 ghost use lib.Dec.{eqb, leb, ltb};
 ghost use Rattle.bits.specs.Lists.{allFrom};
-ghost use Rattle.settings.specs.Limits.{mostDelay, mostHold};
+ghost use Rattle.rules.specs.Limits.{mostDelay, mostHold};
 ghost use Rattle.settings.specs.Right.{knownOf, blockNumber, effectOk, effectNumber, countOk, slotOk, effectsNumber, settingsNumber, wordsOk, fieldsNumber, apart, apartNumber, several, severalNumber, wordsNumber, holdNumber, rowNumber};
 ghost use Rattle.settings.specs.Signals.{forcesCount, badTrip};
 

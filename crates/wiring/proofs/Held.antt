@@ -2,25 +2,33 @@
 use mathlib.Core.Path.{_≡_, ap, _∙_}
 use mathlib.Core.Bool.{Bool, not}
 use mathlib.Core.List.{List}
-use Prim.Native.Nat.{ℕ}
+use Prim.Native.Nat.{ℕ, _≤_}
+use native.Mathlib.Omega.{arith}
 use lib.Bits.{bitAnd, bitOr}
 use lib.Dec.{eqb}
+use lib.Seq.{sets}
 use Rattle.rules.specs.Signals.{Signals}
 use Rattle.rules.specs.Rules.{asks}
+use Rattle.effects.specs.Records.{bytes}
 use Rattle.effects.specs.Scan.{latentWord, anyExercised}
-use Rattle.rounds.specs.Steps.{Run, held}
+use Rattle.rounds.specs.Steps.{Run}
 use Rattle.planes.specs.declared.Asked.{Asked}
-use Rattle.planes.specs.declared.Board.{Board}
-use Rattle.planes.specs.Table.{askedOf}
-use Rattle.planes.specs.Board.{signalsBy, signalsIn, runOf, Shown, Right, boardOf}
+use Rattle.engine.specs.declared.Mark.{Mark}
+use Rattle.cells.specs.declared.Plan.{Plan}
+use Rattle.engine.specs.declared.Task.{Task}
+use Rattle.cells.specs.Array.{associationsIn, delaysIn}
+use Rattle.planes.specs.Planes.{askedOf}
+use Rattle.boards.specs.Board.{Board, boardOf, signalsBy}
+use Rattle.engine.specs.Marks.{boardAt}
+use Rattle.engine.specs.Stroke.{seenBy, heldBy, StrokeReady, StrokeDone}
 use Rattle.settings.specs.declared.Row.{Row}
 use Rattle.settings.specs.declared.Settings.{Settings}
 use Rattle.settings.specs.declared.Words.{Words}
-use Rattle.settings.specs.Right.{knownOf, settingsNumber, rowNumber, wordsNumber}
+use Rattle.settings.specs.Right.{knownOf, wordsNumber}
 use Rattle.settings.specs.Signals.{signals}
-use Rattle.settings.proofs.Right.{row-words}
-use Rattle.wiring.specs.declared.Wiring.{Wiring}
-use Rattle.wiring.specs.Wiring.{Stroked, wiringOf, Wired, trippedOf, askedBy, strokedBy}
+use Rattle.settings.proofs.Right.{row-words, count-few, period-some, period-most, hold-most}
+use Rattle.wiring.specs.declared.Struck.{Struck}
+use Rattle.wiring.specs.Wiring.{Stroked, strokedAt, planOf, taskOf, heldOf, Runs, Ran}
 use Rattle.wiring.proofs.Signals.{signals-are, asked-right, effect-is, latent-is, exercised-is}
 
 abbrev stroked : Board → ℕ → ℕ → Bool → Stroked
@@ -29,58 +37,84 @@ stroked b e l x = record { board = b; effect = e; latent = l; exercised = x }
 stroked-path : {b b′ : Board} {e e′ l l′ : ℕ} {x x′ : Bool} → b ≡ b′ → e ≡ e′ → l ≡ l′ → x ≡ x′ → stroked b e l x ≡ stroked b′ e′ l′ x′
 stroked-path p q r s = λ i. stroked (p i) (q i) (r i) (s i)
 
--- what is made of the settings
-pub count-of : (st : Settings) (x : Wiring) → x ≡ wiringOf st → x .count ≡ st .count
-unfolding wiringOf
-count-of st x e = ap (λ (y : Wiring). y .count) e
+-- what the plan has of the settings
+pub count-of : (st : Settings) (plan : Plan) → plan ≡ planOf st → plan .count ≡ st .count
+unfolding planOf
+count-of st plan e = ap (λ (y : Plan). y .count) e
 
-pub period-of : (st : Settings) (x : Wiring) → x ≡ wiringOf st → x .period ≡ st .period
-unfolding wiringOf
-period-of st x e = ap (λ (y : Wiring). y .period) e
+period-of : (st : Settings) (plan : Plan) → plan ≡ planOf st → plan .period ≡ st .period
+unfolding planOf
+period-of st plan e = ap (λ (y : Plan). y .period) e
 
-module _ {st : Settings} {x : Wiring} {causes delays : List ℕ} {asked : Asked} {t : ℕ} (right : settingsNumber st ≡ 0)
-    (row : Row) (row-right : rowNumber (knownOf st) row ≡ 0) (wired : Wired st x causes delays)
-    (ea : asked ≡ askedBy (st .options) x causes (row .words)) (et : t ≡ trippedOf (row .words)) (from : Board) where
+module _ {st : Settings} {plan : Plan} {row : Row} {x : Mark} {array : List ℕ} {room : ℕ} (runs : Runs st plan row x array room) where
   abbrev w : Words
   w = row .words
 
   words : wordsNumber (knownOf st) w ≡ 0
-  words = row-words (knownOf st) row row-right
+  words = row-words (knownOf st) row (runs .row-right)
 
-  ex : x ≡ wiringOf st
-  ex = wired .wiring
+  ep : plan ≡ planOf st
+  ep = runs .wired .plan-is
 
-  abbrev s : ℕ → Signals
-  s = signalsBy causes delays (x .period) t asked
+  en : plan .count ≡ st .count
+  en = count-of st plan ep
 
-  abbrev ss : List Signals
-  ss = signalsIn (x .count) causes delays (x .period) t asked
+  pub few : plan .count ≤ 16
+  few = omega (arith, en, count-few st (runs .settings))
 
-  ss-are : ss ≡ signals st w
-  unfolding wiringOf
-  ss-are = rw (ea, et, wired .causes-are, wired .delays-are, ex) (signals-are st right w words)
+  module _ {task : Task} (et : task ≡ taskOf plan (associationsIn array) row) where
+    abbrev s : ℕ → Signals
+    s = signalsBy (associationsIn array) (delaysIn array) (plan .period) (task .tripped) (task .asked)
 
-  asked-is : asked ≡ askedOf (x .count) (λ i. asks (s i))
-  unfolding wiringOf
-  asked-is = rw (ea, et, wired .causes-are, wired .delays-are, ex) (asked-right st right w words)
+    seen-are : seenBy plan task array ≡ signals st w
+    unfolding planOf
+    seen-are = rw (et, runs .wired .associations-are, runs .wired .delays-are, ep) (signals-are st (runs .settings) w words)
 
-  pub right-words : Shown (st .count) (from .table) → Right (x .count) causes delays (x .period) t asked from
-  right-words shown = record { asked = asked-is; table = rw (count-of st x ex) shown }
+    asked-is : task .asked ≡ askedOf (plan .count) (λ i. asks (s i))
+    unfolding planOf
+    asked-is = rw (et, runs .wired .associations-are, runs .wired .delays-are, ep) (asked-right st (runs .settings) w words)
 
-  module _ {b : Board} (eb : b ≡ boardOf (x .count) (held ss (row .hold) (runOf (x .count) from))) where
-    abbrev run : Run
-    run = held (signals st w) (row .hold) (runOf (st .count) from)
+    hold-is : task .hold ≡ row .hold
+    hold-is = ap (λ (y : Task). y .hold) et
 
-    comes-to : b ≡ boardOf (st .count) run
-    comes-to = eb ∙ rw (ss-are, count-of st x ex)
+    held-is : heldBy plan task x array ≡ heldOf st row x array
+    held-is = rw (seen-are, hold-is, en)
 
-    pub stroked-is : stroked b (bitOr (b .table .planes .normal) (b .table .planes .delayed)) (bitAnd (asked .normal) (bitOr (asked .active) (asked .bad))) (not (eqb (asked .active) 0))
-        ≡ strokedBy st w run
-    stroked-is =
-        stroked-path comes-to
-        (ap (λ (y : Board). bitOr (y .table .planes .normal) (y .table .planes .delayed)) comes-to ∙ effect-is (st .count) (run .slots))
-        (ap (λ (a : Asked). bitAnd (a .normal) (bitOr (a .active) (a .bad))) asked-is ∙ latent-is (x .count) s ∙ ap latentWord ss-are)
-        (ap (λ (a : Asked). not (eqb (a .active) 0)) asked-is ∙ exercised-is (x .count) s ∙ ap anyExercised ss-are)
+    pub ready : StrokeReady plan task x array room
+    ready =
+        let p = period-of st plan ep in
+        record {
+          few = few;
+          long = runs .wired .long;
+          short = omega (arith, hold-is, hold-most (knownOf st) row (runs .row-right));
+          some = omega (arith, p, period-some st (runs .settings));
+          quick = omega (arith, p, period-most st (runs .settings));
+          countable = omega (arith, hold-is, runs .countable);
+          right = record { asked = asked-is; table = rw en (runs .shown) };
+          fits = rw held-is (runs .fits);
+        }
 
-  pub held-is : held ss (row .hold) (runOf (x .count) from) ≡ held (signals st w) (row .hold) (runOf (st .count) from)
-  held-is = rw (ss-are, count-of st x ex)
+    module _ {buf array′ buf′ : List ℕ} {y : Mark} (done : StrokeDone plan task x array buf y array′ buf′) where
+      abbrev run : Run
+      run = heldOf st row x array
+
+      comes-to : boardAt y array′ ≡ boardOf (st .count) run
+      comes-to = done .board ∙ rw (held-is, en)
+
+      -- the answer, by its words
+      pub ran : {r : Struck} → strokedAt r array′ ≡ stroked (boardAt y array′) (bitOr (y .planes .normal) (y .planes .delayed)) (bitAnd (task .asked .«force_normal») (bitOr (task .asked .active) (task .asked .«bad_trip»))) (not (eqb (task .asked .active) 0))
+          → Ran st plan row x array buf r array′ buf′
+      ran e =
+          record {
+            stroked = e ∙ stroked-path comes-to
+                (ap (λ (b : Board). bitOr (b .table .planes .normal) (b .table .planes .delayed)) comes-to ∙ effect-is (st .count) (run .slots))
+                (ap (λ (a : Asked). bitAnd (a .«force_normal») (bitOr (a .active) (a .«bad_trip»))) asked-is ∙ latent-is (plan .count) s ∙ ap latentWord seen-are)
+                (ap (λ (a : Asked). not (eqb (a .active) 0)) asked-is ∙ exercised-is (plan .count) s ∙ ap anyExercised seen-are);
+            laid = done .laid ∙ ap (λ (q : Run). sets buf 0 (bytes (q .events))) held-is;
+            wired = record {
+              plan-is = ep;
+              associations-are = done .same .associations ∙ runs .wired .associations-are;
+              delays-are = done .same .delays ∙ runs .wired .delays-are;
+              long = done .same .long;
+            };
+          }

@@ -1,2 +1,4 @@
+pub mod Wired
+pub mod Watched
 pub mod Signals
 pub mod Held

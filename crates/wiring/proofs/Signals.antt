@@ -5,7 +5,7 @@ use mathlib.Core.List.{List, [], _∷_, _++_}
 use Prim.Native.Nat.{ℕ, zero, suc, _-_, _^_, _<_, _≤_}
 use native.Mathlib.Nat.{lt-of-lt-of-le}
 use lib.Bits.{bitAnd, bitOr}
-use lib.Dec.{eqb}
+use lib.Dec.{eqb, ltb}
 use lib.ListN.{getD}
 use lib.Pow.{pow-pos}
 use Rattle.bits.specs.Lists.{tabulate}
@@ -19,16 +19,17 @@ use Rattle.rules.specs.declared.Slot.{Slot}
 use Rattle.rules.specs.Rules.{noSlot, noSignals, asks, same, isOn, isLatent, isExercised}
 use Rattle.effects.specs.Scan.{effectWord, latentWord, anyExercised}
 use Rattle.planes.specs.declared.Asked.{Asked}
-use Rattle.planes.specs.Planes.{planesOf}
-use Rattle.planes.specs.Table.{askedOf, tableOf}
-use Rattle.planes.specs.Board.{signalsBy, signalsIn}
-use Rattle.planes.proofs.Quiet.{anyTo, none-set}
+use Rattle.planes.specs.Planes.{planesOf, askedOf}
+use Rattle.boards.specs.Table.{activeAt, tableOf}
+use Rattle.boards.specs.Board.{signalsBy, signalsIn}
+use Rattle.boards.proofs.Quiet.{anyTo, none-set}
 use Rattle.settings.specs.declared.Settings.{Settings}
 use Rattle.settings.specs.declared.Words.{Words}
 use Rattle.settings.specs.Right.{knownOf, settingsNumber, wordsNumber}
 use Rattle.settings.specs.Signals.{badTrip, forcesCount, signals, signalsOf}
 use Rattle.settings.proofs.Right.{count-few, association-lt, inside}
-use Rattle.wiring.specs.Wiring.{associationAt, delayAt, causesOf, delaysOf, wiringOf, trippedOf, askedBy}
+use Rattle.wiring.specs.Wiring.{associationAt, delayAt, causesOf, delaysOf, unionTo, planOf, trippedOf, askedBy}
+use Rattle.wiring.proofs.Watched.{in-union, and-watched}
 
 -- a bit of a word that counts, or does not
 bit-if : (b : Bool) (w i : ℕ) → bitOf (cond b w 0) i ≡ (b && bitOf w i)
@@ -45,11 +46,11 @@ signals-path : {a a′ : ℕ} {b b′ t t′ m m′ q p s r : Bool} {d d′ e : 
 signals-path {q = q} {p = p} {s = s} {r = r} {e = e} ea eb et em ed =
     λ i. record { active = ea i; bad = eb i; trip = et i; normal = em i; require = q; permit = p; start = s; reset = r; delay = ed i; period = e }
 
-asked-path : {t t′ m m′ b b′ q q′ p p′ s s′ r r′ : ℕ} {a d : ℕ} → t ≡ t′ → m ≡ m′ → b ≡ b′ → q ≡ q′ → p ≡ p′ → s ≡ s′ → r ≡ r′
-    → _≡_ {A = Asked} (record { trip = t; normal = m; bad = b; active = a; require = q; permit = p; start = s; reset = r; delayed = d })
-    (record { trip = t′; normal = m′; bad = b′; active = a; require = q′; permit = p′; start = s′; reset = r′; delayed = d })
-asked-path {a = a} {d = d} et em eb eq ep es er =
-    λ i. record { trip = et i; normal = em i; bad = eb i; active = a; require = eq i; permit = ep i; start = es i; reset = er i; delayed = d }
+asked-path : {t t′ m m′ b b′ a a′ q q′ p p′ s s′ r r′ d d′ : ℕ} → t ≡ t′ → m ≡ m′ → b ≡ b′ → a ≡ a′ → q ≡ q′ → p ≡ p′ → s ≡ s′ → r ≡ r′ → d ≡ d′
+    → _≡_ {A = Asked} (record { «force_trip» = t; «force_normal» = m; «bad_trip» = b; active = a; «require_reset» = q; «reset_permit» = p; «start_permit» = s; reset = r; «with_delay» = d })
+    (record { «force_trip» = t′; «force_normal» = m′; «bad_trip» = b′; active = a′; «require_reset» = q′; «reset_permit» = p′; «start_permit» = s′; reset = r′; «with_delay» = d′ })
+asked-path et em eb ea eq ep es er ed =
+    λ i. record { «force_trip» = et i; «force_normal» = em i; «bad_trip» = eb i; active = ea i; «require_reset» = eq i; «reset_permit» = ep i; «start_permit» = es i; reset = er i; «with_delay» = ed i }
 
 lt-if : (b : Bool) (w n : ℕ) → w < 2 ^ n → cond b w 0 < 2 ^ n
 lt-if true w n h = h
@@ -60,7 +61,7 @@ module _ (st : Settings) (right : settingsNumber st ≡ 0) (w : Words) (words : 
   n = st .count
 
   abbrev asked : Asked
-  asked = askedBy (st .options) (wiringOf st) (causesOf st) w
+  asked = askedBy (planOf st) (causesOf st) w
 
   abbrev shown : ℕ → Signals
   shown = signalsBy (causesOf st) (delaysOf st) (st .period) (trippedOf w) asked
@@ -68,9 +69,16 @@ module _ (st : Settings) (right : settingsNumber st ≡ 0) (w : Words) (words : 
   few : n ≤ 16
   few = count-few st right
 
+  -- a cause that no effect watches makes no effect active
+  active-is : (i : ℕ) → i < n → activeAt (causesOf st) (bitAnd (trippedOf w) (unionTo (associationAt st) 16)) i ≡ activeAt (causesOf st) (trippedOf w) i
+  active-is i k =
+      let l : i < 16 = lt-of-lt-of-le k few in
+      let a = getD-tabulate (associationAt st) 16 i 0 l in
+      rw (a, and-watched (associationAt st i) (trippedOf w) (unionTo (associationAt st) 16) (association-lt st right i k) (λ j e. in-union (associationAt st) 16 i j l e))
+
   -- effect i sees what the words show
   sees : (i : ℕ) → i < n → shown i ≡ signalsOf st w i
-  unfolding signalsBy signalsOf askedBy wiringOf
+  unfolding signalsBy signalsOf askedBy planOf
   sees i k =
       let l : i < 16 = lt-of-lt-of-le k few in
       signals-path
@@ -85,7 +93,7 @@ module _ (st : Settings) (right : settingsNumber st ≡ 0) (w : Words) (words : 
 
   -- and the words are those of what they show
   pub asked-right : asked ≡ askedOf n (λ i. asks (shown i))
-  unfolding askedOf signalsBy askedBy wiringOf
+  unfolding askedOf signalsBy askedBy planOf
   asked-right =
       let h = inside (knownOf st) w words in
       let c = forcesCount (st .options) w in
@@ -93,10 +101,12 @@ module _ (st : Settings) (right : settingsNumber st ≡ 0) (w : Words) (words : 
       (sym (word-bits _ n (lt-if c (w .«force_trip») n (h .trip))))
       (sym (word-bits _ n (lt-if c (w .«force_normal») n (h .normal))))
       (sym (word-bits _ n (lt-if (badTrip (st .options) w) (wordOf (λ i. true) n) n (wordOf-lt _ n))))
+      (wordOf-ext _ _ n active-is)
       (sym (word-bits _ n (h .require)))
       (sym (word-bits _ n (h .permit)))
       (sym (word-bits _ n (h .start)))
       (sym (word-bits _ n (h .reset)))
+      (wordOf-ext _ _ n (λ i k. ap (ltb 0) (sym (getD-tabulate (delayAt st) 16 i 0 (lt-of-lt-of-le k few)))))
 
 -- ## The words that are reported
 
@@ -115,7 +125,7 @@ effect-is m xs = or-word _ _ m ∙ wordOf-ext _ _ m (λ i k. on-all (getD xs i n
 
 -- the latent word, of what is asked
 pub latent-is : (m : ℕ) (s : ℕ → Signals)
-    → bitAnd (askedOf m (λ i. asks (s i)) .normal) (bitOr (askedOf m (λ i. asks (s i)) .active) (askedOf m (λ i. asks (s i)) .bad)) ≡ latentWord (tabulate s m)
+    → bitAnd (askedOf m (λ i. asks (s i)) .«force_normal») (bitOr (askedOf m (λ i. asks (s i)) .active) (askedOf m (λ i. asks (s i)) .«bad_trip»)) ≡ latentWord (tabulate s m)
 unfolding askedOf
 latent-is m s =
     simp (or-word, and-word)

@@ -1,23 +1,31 @@
 -- What the settings and a row give to the words of effects. No entry point's contract cites this page.
-use Prim.Native.Nat.{ℕ, _-_}
+use Prim.Native.Nat.{ℕ, zero, suc, _+_, _-_, _*_, _≤_}
 use mathlib.Core.Path.{_≡_}
 use mathlib.Core.Bool.{Bool, true, cond}
 use mathlib.Core.List.{List}
-use lib.Bits.{bitAnd}
+use lib.Bits.{bitAnd, bitOr}
 use lib.Dec.{ltb}
-use lib.ListN.{getD}
+use lib.ListN.{getD, length}
+use lib.Seq.{sets}
 use Rattle.bits.specs.Lists.{tabulate}
 use Rattle.bits.specs.Words.{wordOf}
+use Rattle.effects.specs.Records.{recordLength, bytes}
 use Rattle.effects.specs.Scan.{effectWord, latentWord, anyExercised}
-use Rattle.rounds.specs.Steps.{Run}
+use Rattle.rounds.specs.Steps.{Run, held}
 use Rattle.planes.specs.declared.Asked.{Asked}
-use Rattle.planes.specs.Table.{activeAt}
-use Rattle.planes.specs.declared.Board.{Board}
-use Rattle.planes.specs.Board.{boardOf, boardAt}
+use Rattle.engine.specs.declared.Mark.{Mark}
+use Rattle.cells.specs.declared.Plan.{Plan}
+use Rattle.engine.specs.declared.Task.{Task}
+use Rattle.cells.specs.Array.{arrayLength, associationsAt, delaysAt, associationsIn, delaysIn}
+use Rattle.boards.specs.Table.{activeAt}
+use Rattle.boards.specs.Board.{Board, boardOf, runOf, Shown}
+use Rattle.engine.specs.Marks.{boardAt}
+use Rattle.settings.specs.declared.Row.{Row}
 use Rattle.settings.specs.declared.Settings.{Settings}
 use Rattle.settings.specs.declared.Words.{Words}
+use Rattle.rules.specs.Limits.{mostScans}
+use Rattle.settings.specs.Right.{knownOf, settingsNumber, rowNumber}
 use Rattle.settings.specs.Signals.{noEffect, forcesCount, badTrip, signals}
-use Rattle.wiring.specs.declared.Wiring.{Wiring}
 use Rattle.wiring.specs.declared.Struck.{Struck}
 
 -- ## The settings
@@ -35,20 +43,33 @@ causesOf st = tabulate (associationAt st) 16
 abbrev pub delaysOf : Settings → List ℕ
 delaysOf st = tabulate (delayAt st) 16
 
-unfoldable pub wiringOf : Settings → Wiring
-wiringOf st =
+-- the array with them
+unfoldable pub wiredInto : Settings → (array : List ℕ) → List ℕ
+wiredInto st array = sets (sets array associationsAt (causesOf st)) delaysAt (delaysOf st)
+
+-- the bits that are set in any of n words
+unfoldable pub unionTo : (ℕ → ℕ) → ℕ → ℕ
+unionTo f zero = 0
+unionTo f (suc n) = bitOr (unionTo f n) (f n)
+
+-- what stays the same from row to row
+unfoldable pub planOf : Settings → Plan
+planOf st =
     record {
       count = st .count;
       period = st .period;
+      options = st .options;
       all = wordOf (λ i. true) (st .count);
-      delayed = wordOf (λ i. ltb 0 (getD (delaysOf st) i 0)) (st .count);
+      «with_delay» = wordOf (λ i. ltb 0 (delayAt st i)) (st .count);
+      watched = unionTo (associationAt st) 16;
     }
 
--- all of it is that of the settings
-pub record Wired (st : Settings) (x : Wiring) (causes delays : List ℕ) : Type 0 where
-  pub wiring : x ≡ wiringOf st
-  pub causes-are : causes ≡ causesOf st
-  pub delays-are : delays ≡ delaysOf st
+-- plan and array are those of the settings
+pub record Wired (st : Settings) (plan : Plan) (array : List ℕ) : Type 0 where
+  pub plan-is : plan ≡ planOf st
+  pub associations-are : associationsIn array ≡ causesOf st
+  pub delays-are : delaysIn array ≡ delaysOf st
+  pub long : length array ≡ arrayLength
 
 -- ## A row
 
@@ -57,19 +78,24 @@ abbrev pub trippedOf : Words → ℕ
 trippedOf w = bitAnd (65535 - w .mask) (65535 - w .values)
 
 -- what the rules are asked
-unfoldable pub askedBy : (options : ℕ) → Wiring → (causes : List ℕ) → Words → Asked
-askedBy options x causes w =
+unfoldable pub askedBy : Plan → (causes : List ℕ) → Words → Asked
+askedBy plan causes w =
     record {
-      trip = cond (forcesCount options w) (w .«force_trip») 0;
-      normal = cond (forcesCount options w) (w .«force_normal») 0;
-      bad = cond (badTrip options w) (x .all) 0;
-      active = wordOf (activeAt causes (trippedOf w)) (x .count);
-      require = w .«require_reset»;
-      permit = w .«reset_permit»;
-      start = w .«start_permit»;
+      «force_trip» = cond (forcesCount (plan .options) w) (w .«force_trip») 0;
+      «force_normal» = cond (forcesCount (plan .options) w) (w .«force_normal») 0;
+      «bad_trip» = cond (badTrip (plan .options) w) (plan .all) 0;
+      active = wordOf (activeAt causes (bitAnd (trippedOf w) (plan .watched))) (plan .count);
+      «require_reset» = w .«require_reset»;
+      «reset_permit» = w .«reset_permit»;
+      «start_permit» = w .«start_permit»;
       reset = w .reset;
-      delayed = x .delayed;
+      «with_delay» = plan .«with_delay»;
     }
+
+-- what the row asks of a stroke
+abbrev pub taskOf : Plan → (causes : List ℕ) → Row → Task
+taskOf plan causes row =
+    record { hold = row .hold; tripped = trippedOf (row .words); asked = askedBy plan causes (row .words) }
 
 -- ## A held run
 
@@ -81,9 +107,9 @@ pub record Stroked : Type 0 where
   pub exercised : Bool
 
 -- as the code gives it
-abbrev pub strokedAt : Struck → (timers firsts : List ℕ) → Stroked
-strokedAt r timers firsts =
-    record { board = boardAt (r .mark) timers firsts; effect = r .effect; latent = r .latent; exercised = r .exercised }
+abbrev pub strokedAt : Struck → (array : List ℕ) → Stroked
+strokedAt r array =
+    record { board = boardAt (r .mark) array; effect = r .effect; latent = r .latent; exercised = r .exercised }
 
 -- as the run of slots gives it
 abbrev pub strokedBy : Settings → Words → Run → Stroked
@@ -94,3 +120,32 @@ strokedBy st w r =
       latent = latentWord (signals st w);
       exercised = anyExercised (signals st w);
     }
+
+-- the held run of what the effects see
+abbrev pub heldOf : Settings → Row → Mark → (array : List ℕ) → Run
+heldOf st row x array = held (signals st (row .words)) (row .hold) (runOf (st .count) (boardAt x array))
+
+-- the row can run by these settings, and its records fit in so many bytes
+pub record Runs (st : Settings) (plan : Plan) (row : Row) (x : Mark) (array : List ℕ) (room : ℕ) : Type 0 where
+  pub settings : settingsNumber st ≡ 0
+  pub wired : Wired st plan array
+  pub row-right : rowNumber (knownOf st) row ≡ 0
+  pub countable : x .done + row .hold ≤ mostScans
+  pub shown : Shown (st .count) (boardAt x array .table)
+  pub fits : recordLength * length (heldOf st row x array .events) ≤ room
+
+-- it can run by some settings
+pub record Runnable (plan : Plan) (row : Row) (x : Mark) (array : List ℕ) (room : ℕ) : Type 0 where
+  pub st : Settings
+  pub runs : Runs st plan row x array room
+
+-- what it comes to by these settings
+pub record Ran (st : Settings) (plan : Plan) (row : Row) (x : Mark) (array buf : List ℕ) (r : Struck) (array′ buf′ : List ℕ) : Type 0 where
+  pub stroked : strokedAt r array′ ≡ strokedBy st (row .words) (heldOf st row x array)
+  pub laid : buf′ ≡ sets buf 0 (bytes (heldOf st row x array .events))
+  pub wired : Wired st plan array′
+
+-- and by any by which it can run
+abbrev pub RunsBy : Plan → Row → Mark → (array buf : List ℕ) → Struck → (array′ buf′ : List ℕ) → Type 0
+RunsBy plan row x array buf r array′ buf′ =
+    (st : Settings) → Runs st plan row x array (length buf) → Ran st plan row x array buf r array′ buf′

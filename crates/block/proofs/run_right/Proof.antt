@@ -1,67 +1,86 @@
--- `block::run_right` meets its contract: the stroke is the run of single scans, and its records are those of the definitions.
+-- `block::run_right` meets its contract: the stroke is the run of single scans from the state, and its records are those of the definitions.
+use mathlib.Core.List.{List}
 use mathlib.Core.Path.{_≡_, refl, ap, _∙_}
-use Prim.Native.Nat.{_≤_}
+use Prim.Native.Nat.{ℕ, _≤_}
 use borrow.Author.Needs.{needs}
 use denote.Ref.{now}
 use lib.ListN.{length}
+use lib.Seq.{sets}
 use Rattle.bits.proofs.Lists.{length-mapped}
-use Rattle.block.specs.Run.{reachedBy}
-use Rattle.block.proofs.Answers.{settings-right, row-right, few, countable}
-use Rattle.block.proofs.Runs.{starts-right, starts-fits, laid, ran-is}
+use Rattle.effects.specs.Records.{bytes}
+use Rattle.settings.specs.declared.Row.{Row}
+use Rattle.settings.specs.declared.Settings.{Settings}
+use Rattle.wiring.proofs.Held.{few as few-planned}
+use Rattle.wiring.specs.Wiring.{Ran as Stroke-ran}
+use Rattle.block.specs.declared.State.{State}
+use Rattle.block.specs.declared.Loaded.{Loaded}
+use Rattle.block.specs.Held.{run, grantedHeld}
+use Rattle.block.specs.Run.{keptState, Runs}
+use Rattle.block.proofs.Answers.{few}
+use Rattle.block.proofs.Loads.{shows-state, runs-loaded}
+use Rattle.block.proofs.Runs.{strokes, laid, narrow-after, answers}
 use Rattle.block.proofs.run_right.Statement.{statement}
 use Rattle.block.proofs.run_right.Tie as tie
 
 few-effects : (s : tie.Start) → s .args .st .count ≤ 16
 few-effects s = few (s .args .st) (s .args .row) (s .args .x) _ refl (s .pre .0)
 
-long : (s : tie.Start) → length (s .args .x .slots) ≡ 16
-long s = search (needs, length-mapped)
+sixteen : (s : tie.Start) → length (s .args .x .slots) ≡ 16
+sixteen s = search (needs, length-mapped)
 
-wiring-of-requires : tie.Need-wiring-of-requires
-wiring-of-requires c κs = (few-effects (c .before .before .before .before .before), c .before .delays .ensures)
+-- what was loaded shows the state, and the row can run from it
+module _ (k : tie.After-plan-of) where
+  abbrev begin : tie.Start
+  begin = k .before .before .before .before .before
 
-board-of-requires : tie.Need-board-of-requires
-board-of-requires c κs = few-effects (c .before .before .before .before .before .before)
+  abbrev st : Settings
+  st = begin .args .st
+
+  abbrev row : Row
+  row = begin .args .row
+
+  abbrev buf : List ℕ
+  buf = now (begin .args .buf)
+
+  abbrev from : Loaded
+  from = k .before .before .before .load .result
+
+  shows-at : keptState st (from .mark) (from .board) ≡ begin .args .x
+  shows-at = shows-state (k .before .before .before .load .ensures) row (begin .pre .0) (sixteen begin)
+
+  runs : Runs st (k .plan-of .result) row (from .mark) (from .board) (length buf)
+  runs = runs-loaded (k .before .before .before .load .ensures) row (begin .pre .0) (sixteen begin) (k .plan-of .ensures) (begin .pre .1)
 
 stroke-requires : tie.Need-stroke-requires
-stroke-requires c κs =
-    let s = c .before .before .before .before .before .before .before .before .before .before .before .before .before .before .before .before in
-    let a = s .args in
-    let input = s .pre .0 in
-    rw (c .before .before .before .before .before .mark-of .ensures, c .before .before .before .before .before .before .before .before .before .board-of .ensures) (
-      settings-right (a .st) (a .row) (a .x) _ refl input,
-      record { wiring = c .before .before .before .before .before .before .before .before .before .before .wiring-of .ensures; causes-are = c .before .before .before .before .before .before .before .before .before .before .before .before .before .associations .ensures; delays-are = c .before .before .before .before .before .before .before .before .before .before .before .before .delays .ensures },
-      row-right (a .st) (a .row) (a .x) _ refl input,
-      countable (a .st) (a .row) (a .x) _ refl input,
-      starts-right (a .st) (a .row) (a .x) input (long s),
-      starts-fits (a .st) (a .row) (a .x) input (long s) _ (s .pre .1),
-    )
+stroke-requires c κs = record { st = st (c .before .before); runs = strokes (runs (c .before .before)) }
+
+ran-by : (t : tie.After-stroke) → let k = t .before .before .before in
+    Stroke-ran (st k) (k .plan-of .result) (row k) (from k .mark) (from k .board) (buf k) (t .stroke .result) (t .stroke .last .1 .0) (t .stroke .last .0)
+ran-by t = t .stroke .ensures _ (strokes (runs (t .before .before .before)))
 
 reached-requires : tie.Need-reached-requires
-reached-requires c κs = few-effects (c .before .before .before .before .before .before .before .before .before .before .before .before .before .before .before .before .before .before .before .before .before)
+reached-requires c κs =
+    let t = c .before .before .before .before in
+    let k = t .before .before .before in
+    (few-planned (strokes (runs k)), narrow-after (runs k) (ran-by t))
 
 returns : tie.Need-returns
 returns c =
-    let s = c .before .before .before .before .before .before .before .before .before .before .before .before .before .before .before .before .before .before .before .before .before .before .before .before in
-    let a = s .args in
-    let input = s .pre .0 in
-    let e = rw (c .before .before .before .before .before .before .before .before .before .before .before .before .before .mark-of .ensures, c .before .before .before .before .before .before .before .before .before .before .before .before .before .before .before .before .before .board-of .ensures) at (c .before .before .before .before .before .before .before .stroke .ensures) in (
-      ran-is (a .st) (a .row) (a .x) input (long s) _ (e .0) _ _ (c .before .before .reached .ensures ∙ ap (reachedBy _) (c .before .before .before .board-at .ensures)) (c .exercised-scans .ensures),
-      laid (a .st) (a .row) (a .x) input (long s) (now (a .buf)) _ (e .1),
+    let t = c .before .before .before .before .before .before .before in
+    let k = t .before .before .before in
+    let same = shows-at k in (
+      answers (runs k) (ran-by t) _ _ (c .before .before .reached .ensures) (c .exercised-scans .ensures)
+          ∙ ap (grantedHeld (st k) (row k)) same,
+      laid (runs k) (ran-by t) ∙ ap (λ (x : State). sets (buf k) 0 (bytes (run (st k) (row k) x .events))) same,
     )
 
 pub run-right-spec : {M : Type 1} → statement M
 run-right-spec =
     tie.close
     (tie.spec
-    (λ c. search needs)
-    (λ c κs. search needs)
-    (λ c κs. search needs)
-    wiring-of-requires
-    board-of-requires
-    (λ c κs. search needs)
+    (λ c κs. few-effects (c .before))
+    (λ c κs. few-effects (c .before .before .before .before))
     stroke-requires
-    (λ c κs. search needs)
     reached-requires
     (λ c κs. search needs)
     (λ c. search needs)

@@ -1,25 +1,51 @@
 -- `embed::pohandira_replay` meets its contract: a file is accepted and replayed, or refused.
-use mathlib.Core.Path.{sym, ap, _∙_}
+use mathlib.Core.Path.{_≡_, sym, ap, _∙_}
 use denote.Ref.{now}
 use borrow.Author.Needs.{needs}
 use Rattle.recording.specs.declared.Reading.{Reading}
+use Rattle.recording.specs.Reader.{reading}
+use Rattle.rerun.specs.Turn.{Totals}
+use Rattle.rerun.proofs.Turns.{few-effects, begins}
 use Rattle.embed.proofs.Answers.{refused-file}
 use Rattle.embed.proofs.pohandira_replay.Statement.{statement}
 use Rattle.embed.proofs.pohandira_replay.Tie as tie
 
+-- ## The reading
+
+abbrev start-of : tie.After-st → tie.Start
+start-of k = k .before .before .before .before .before
+
+same-answer : (k : tie.After-st) → reading (now (start-of k .args .recording)) .answer ≡ k .before .read .result .answer
+same-answer k = sym (ap (λ (r : Reading). r .answer) (k .before .read .ensures))
+
+same-settings : (k : tie.After-st) → k .before .read .result .settings ≡ reading (now (start-of k .args .recording)) .settings
+same-settings k = ap (λ (r : Reading). r .settings) (k .before .read .ensures)
+
+-- ## The two answers
+
+stop-of-requires : tie.Need-stop-of-requires
+stop-of-requires c κs = same-answer (c .before .before .before) ∙ c .before .answer .given .1
+
+begin-requires : tie.Need-begin-requires
+begin-requires c κs =
+    let k = c .before .before .before .before in
+    few-effects _ _ _ _ _ (same-answer k ∙ c .before .before .answer .given .1) (same-settings k)
+
 replay-accepted-requires : tie.Need-replay-accepted-requires
 replay-accepted-requires c κs =
-    let read = c .before .before .before .before .before .before .read .ensures in
-    (sym (ap (λ (x : Reading). x .answer) read) ∙ c .before .before .before .answer .given .1, ap (λ (x : Reading). x .settings) read)
-
-returns : tie.Need-returns
-returns c = c .before .before .before .before .replay-accepted .ensures
+    let begun = c .before .before .before .before .before in
+    let answered = begun .before .before .before in
+    let k = answered .before .before in
+    let b = rw (same-settings k) at (begun .begin .ensures) in
+    (begins b (same-answer k ∙ answered .answer .given .1), ap (λ (u : Totals). u .rows) (b .totals), begun .before .stop-of .ensures)
 
 returns-2 : tie.Need-returns-2
 returns-2 c =
-    let a = c .before .before .before .before .before .before .before .before .before .before .before .before .args in
-    let read = c .before .before .before .before .before .before .before .before .read .ensures in
-    refused-file (now (a .recording)) (now (a .records)) (now (a .totals)) _ _ _ _ (sym (ap (λ (x : Reading). x .answer) read) ∙ c .before .before .before .before .before .answer2 .given .1) (c .before .before .refuse .ensures .0) (c .before .before .refuse .ensures .1)
+    let answered = c .before .before .before .before .before in
+    let k = answered .before .before in
+    let a = start-of k .args in
+    let put = c .before .before .refuse .ensures in
+    refused-file (now (a .recording)) (now (a .records)) (now (a .totals)) _ _ _ _ (same-answer k ∙ answered .answer2 .given .1) (put .0) (put .1)
 
 pub pohandira-replay-spec : {M : Type 1} → statement M
 pohandira-replay-spec =
@@ -27,11 +53,13 @@ pohandira-replay-spec =
     (tie.spec
     (λ c κs. search needs)
     (λ c. search needs)
+    stop-of-requires
+    begin-requires
     replay-accepted-requires
     (λ c. search needs)
     (λ c κs. search needs)
     (λ c. search needs)
     (λ c. search needs)
-    returns
+    (λ c. search needs)
     (λ c. search needs)
     returns-2)

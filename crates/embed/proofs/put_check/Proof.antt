@@ -7,7 +7,7 @@ use lib.ListN.{length}
 use borrow.Author.Needs.{needs}
 use Rattle.settings.specs.Refusals.{orElse}
 use Rattle.settings.proofs.Refusals.{room-enough, room-short, or-else-alone}
-use Rattle.embed.specs.Crossing.{numbers}
+use Rattle.embed.specs.Crossing.{checkBytes, numbers}
 use Rattle.embed.proofs.Stores.{length-numbers, fits, stays}
 use Rattle.embed.proofs.put_check.Statement.{statement}
 use Rattle.embed.proofs.put_check.Tie as tie
@@ -16,7 +16,7 @@ returns : tie.Need-returns
 returns c =
     let g = c .before .before .before .args in
     let values = g .number ∷ g .place ∷ g .rows ∷ [] in (
-      c .or-ten .ensures ∙ ap (orElse (g .number)) (sym (room-short 24 (length (now (g .out))) (c .before .if1 .taken))),
+      c .or-ten .ensures ∙ ap (orElse (g .number)) (sym (room-short checkBytes (length (now (g .out))) (c .before .if1 .taken))),
       stays (numbers values) (now (g .out)) (omega (arith, c .before .if1 .taken, length-numbers values)),
     )
 
@@ -24,7 +24,7 @@ returns-2 : tie.Need-returns-2
 returns-2 c =
     let g = c .before .before .before .before .before .before .args in
     let values = g .number ∷ g .place ∷ g .rows ∷ [] in (
-      sym (ap (orElse (g .number)) (room-enough 24 (length (now (g .out))) (c .before .before .before .before .if1 .left)) ∙ or-else-alone (g .number) 0 (λ z. refl)),
+      sym (ap (orElse (g .number)) (room-enough checkBytes (length (now (g .out))) (c .before .before .before .before .if1 .left)) ∙ or-else-alone (g .number) 0 (λ z. refl)),
       c .before .before .put-three .ensures ∙ fits (numbers values) (now (g .out)) (omega (arith, c .before .before .before .before .if1 .left, length-numbers values)),
     )
 

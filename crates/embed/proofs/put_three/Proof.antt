@@ -10,8 +10,9 @@ use Rattle.embed.proofs.put_three.Tie as tie
 
 returns : tie.Need-returns
 returns c =
-    let g = c .before .before .before .before .before .before .before .before .before .args in
-    numbers-then (now (g .out)) _ _ (g .at) _ (g .a ∷ g .b ∷ []) (g .c ∷ []) (c .before .before .before .before .before .before .put-two .ensures) (c .before .before .put64 .ensures ∙ ap (sets _ _) (one-number (g .c))) refl
+    let two = c .before .before .before .before .before .before in
+    let g = two .before .before .before .args in
+    numbers-then (now (g .out)) _ _ (g .at) _ (g .a ∷ g .b ∷ []) (g .c ∷ []) (two .put-two .ensures) (c .before .before .put64 .ensures ∙ ap (sets _ _) (one-number (g .c))) refl
 
 pub put-three-spec : {M : Type 1} → statement M
-put-three-spec = tie.close (tie.spec (λ c κs. search needs) (λ c. search needs) (λ c κs. search needs) (λ c. search needs) returns)
+put-three-spec = tie.close (tie.spec (λ c κs. search needs) (λ c. search needs) (λ c. search needs) (λ c κs. search needs) (λ c. search needs) returns)

@@ -1,10 +1,11 @@
 -- `embed::put_totals` meets its contract: seven numbers if they fit, else nothing.
 use mathlib.Core.Path.{refl, _∙_}
 use mathlib.Core.List.{[], _∷_}
+use Prim.Native.Nat.{_*_}
 use native.Mathlib.Omega.{arith}
 use denote.Ref.{now}
 use borrow.Author.Needs.{needs}
-use Rattle.embed.specs.Crossing.{numbers, crossing}
+use Rattle.embed.specs.Crossing.{numberBytes, numbers, crossing}
 use Rattle.embed.proofs.Stores.{length-numbers, numbers-then, fits, stays}
 use Rattle.embed.proofs.put_totals.Statement.{statement}
 use Rattle.embed.proofs.put_totals.Tie as tie
@@ -16,11 +17,14 @@ returns c =
 
 returns-2 : tie.Need-returns-2
 returns-2 c =
-    let g = c .before .before .before .before .before .before .before .before .before .before .before .before .before .before .before .before .before .before .before .before .args in
-    let r = g .r in
-    let five = numbers-then (now (g .out)) _ _ 0 24 (r .records ∷ r .rows ∷ r .scans ∷ []) (r .live ∷ r .exercised ∷ []) (c .before .before .before .before .before .before .before .before .before .before .before .before .before .put-three .ensures) (c .before .before .before .before .before .before .before .put-two .ensures) refl in
-    numbers-then (now (g .out)) _ _ 0 40 (r .records ∷ r .rows ∷ r .scans ∷ r .live ∷ r .exercised ∷ []) (r .number ∷ r .place ∷ []) five (c .before .before .put-two2 .ensures) refl
-    ∙ fits (numbers (crossing r)) (now (g .out)) (omega (arith, c .before .before .before .before .before .before .before .before .before .before .before .before .before .before .before .before .before .before .if1 .left, length-numbers (crossing r)))
+    let five = c .before .before .before .before .before .before .before in
+    let three = five .before .before .before .before .before .before in
+    let tested = three .before .before .before .before .before in
+    let out = now (tested .before .before .args .out) in
+    let r = tested .before .before .args .r in
+    let first = numbers-then out _ _ 0 (numberBytes * 3) (r .records ∷ r .rows ∷ r .scans ∷ []) (r .live ∷ r .exercised ∷ []) (three .put-three .ensures) (five .put-two .ensures) refl in
+    numbers-then out _ _ 0 (numberBytes * 5) (r .records ∷ r .rows ∷ r .scans ∷ r .live ∷ r .exercised ∷ []) (r .number ∷ r .place ∷ []) first (c .before .before .put-two2 .ensures) refl
+    ∙ fits (numbers (crossing r)) out (omega (arith, tested .if1 .left, length-numbers (crossing r)))
 
 pub put-totals-spec : {M : Type 1} → statement M
 put-totals-spec =
@@ -33,7 +37,9 @@ put-totals-spec =
     (λ c κs. search needs)
     (λ c. search needs)
     (λ c. search needs)
+    (λ c. search needs)
     (λ c κs. search needs)
+    (λ c. search needs)
     (λ c. search needs)
     (λ c κs. search needs)
     (λ c. search needs)

@@ -11,31 +11,30 @@ use Rattle.embed.proofs.replay_accepted.Tie as tie
 
 returns : tie.Need-returns
 returns c =
-    let a = c .before .before .before .before .before .before .before .before .before .before .args in
+    let tested = c .before .before .before .before in
+    let start = tested .before .before .before .before .before in
+    let a = start .args in
     let s = now (a .s) in
-    let is = c .before .before .before .before .before .before .stop-of .ensures in
-    let number = ap (λ (x : Stop). x .number) is in
-    let not-0 = c .before .before .before .before .if1 .taken in
-    refused s (now (a .records)) (now (a .totals)) _ (c .before .before .before .before .before .before .stop-of .result .number) (c .before .before .before .before .before .before .stop-of .result .place) _ (c .before .before .refuse .ensures .0)
-    (number ∙ sym (ten-is-last s (length (now (a .records))) (length (now (a .totals))) (λ z. not-0 (number ∙ z)))) not-0 (ap (λ (x : Stop). x .place) is) (c .before .before .refuse .ensures .1)
+    let put = c .before .before .refuse .ensures in
+    let number = ap (λ (x : Stop). x .number) (start .pre .2) in
+    let not-0 = tested .if1 .taken in
+    let first = ten-is-last s (length (now (a .records))) (length (now (a .totals))) (λ z. not-0 (number ∙ z)) in
+    refused s (now (a .records)) (now (a .totals)) _ (a .stop .number) (a .stop .place) _ (put .0) (number ∙ sym first) not-0 (ap (λ (x : Stop). x .place) (start .pre .2)) (put .1)
 
 replay-whole-requires : tie.Need-replay-whole-requires
 replay-whole-requires c κs =
-    let p = c .before .before .before .before .before .before .before .before .pre in
-    (p .0, p .1, sym (ap (λ (x : Stop). x .number) (c .before .before .before .before .stop-of .ensures)) ∙ c .before .before .if1 .left)
-
-returns-2 : tie.Need-returns-2
-returns-2 c = c .before .before .before .before .replay-whole .ensures
+    let tested = c .before .before .before in
+    let p = tested .before .before .before .before .before .pre in
+    (p .0, p .1, sym (ap (λ (x : Stop). x .number) (p .2)) ∙ tested .if1 .left)
 
 pub replay-accepted-spec : {M : Type 1} → statement M
 replay-accepted-spec =
     tie.close
     (tie.spec
     (λ c κs. search needs)
-    (λ c κs. search needs)
     (λ c. search needs)
     returns
     replay-whole-requires
     (λ c. search needs)
     (λ c. search needs)
-    returns-2)
+    (λ c. search needs))

@@ -2,7 +2,7 @@
 use native.Mathlib.Omega.{arith}
 use denote.Ref.{now}
 use borrow.Author.Needs.{needs}
-use Rattle.listing.specs.Printed.{closingBy}
+use Rattle.listing.specs.Listing.{closing}
 use Rattle.listing.proofs.Placing.{fits, full, whole}
 use Rattle.listing.proofs.closing.Statement.{statement}
 use Rattle.listing.proofs.closing.Tie as tie
@@ -10,7 +10,7 @@ use Rattle.listing.proofs.closing.Tie as tie
 returns : tie.Need-returns
 returns c =
     let a = c .before .before .before .args in
-    let w = full (now (a .out)) (a .at) _ (c .before .has-room .ensures) (closingBy (a .number) (a .t)) (c .if1 .taken) in
+    let w = full (now (a .out)) (a .at) _ (c .before .has-room .ensures) (closing (a .end)) (c .if1 .taken) in
     (w .0, (w .1, (λ h. h)))
 
 put-closing-requires : tie.Need-put-closing-requires
@@ -23,7 +23,7 @@ returns-2 c =
     let k = c .before .before .before .before in
     let a = k .before .before .before .args in
     let p = c .before .before .put-closing .ensures in
-    let w = whole (now (a .out)) (a .at) _ (k .before .has-room .ensures) (closingBy (a .number) (a .t)) (k .if1 .left) _ _ (p .0 .0) (p .0 .1) in
+    let w = whole (now (a .out)) (a .at) _ (k .before .has-room .ensures) (closing (a .end)) (k .if1 .left) _ _ (p .0 .0) (p .0 .1) in
     (w .0, (w .1, (λ h. p .1)))
 
 pub closing-spec : {M : Type 1} → statement M

@@ -6,7 +6,7 @@ use Rattle.recording.specs.declared.Answer.{Answer}
 use Rattle.recording.specs.declared.Answer.the-variants.{Refused}
 use Rattle.settings.proofs.Refusals.{granted-refused}
 use Rattle.listing.specs.Printed.{opening}
-use Rattle.listing.specs.Text.{header, refusalLine}
+use Rattle.text.specs.Text.{header, refusalLine}
 use Rattle.listing.proofs.put_opening.Statement.{statement}
 use Rattle.listing.proofs.put_opening.Tie as tie
 

@@ -5,7 +5,7 @@ use Prim.Native.Nat.{_+_}
 use lib.ListN.{length}
 use borrow.Author.Needs.{needs}
 use borrow.Author.Tests.{leb-true}
-use Rattle.listing.specs.Room.{mostPiece}
+use Rattle.text.specs.Room.{mostPiece}
 use Rattle.printing.proofs.make_room.Statement.{statement}
 use Rattle.printing.proofs.make_room.Tie as tie
 

@@ -1,63 +1,74 @@
 -- `printing::print_rows` meets its contract: buffer after buffer, the loop goes on from the row that did not fit.
-use mathlib.Core.Path.{_≡_}
+use mathlib.Core.Path.{ap}
 use mathlib.Core.Logic.{inl}
-use mathlib.Core.Bool.{true, false}
-use Prim.Native.Nat.{_≤_}
 use native.Mathlib.Omega.{arith}
-use denote.Ref.{now}
 use lib.ListN.{length}
 use borrow.Author.Needs.{needs}
-use Rattle.rerun.specs.Turn.{Going}
-use Rattle.rerun.specs.Replay.{replay}
-use Rattle.printing.proofs.Turn.{left, falls}
+use Rattle.rerun.specs.declared.Replayed.{Replayed}
+use Rattle.printing.proofs.Turn.{Poured, left, falls}
 use Rattle.printing.proofs.Ended.{told-of}
 use Rattle.printing.proofs.print_rows.Statement.{statement}
 use Rattle.printing.proofs.print_rows.Tie as tie
 
 abbrev Inv-loop : tie.InvT-loop
-Inv-loop s st x causes times width rows out₀ at p₀ out p = (length out ≡ length out₀) × (p .at ≤ length out₀) × (p .full ≡ true → Going s st width (p .totals)) × (p .full ≡ false → p .number ≡ replay s .number)
+Inv-loop s board₀ out₀ at p₀ board out p = Poured s (length out₀) p board out
 
 abbrev μ-loop : tie.MeasureT-loop
-μ-loop s st x causes times width rows out₀ at p₀ out p = left s p
+μ-loop s board₀ out₀ at p₀ board out p = left s p
 
 fill-requires : tie.Need-fill-requires Inv-loop μ-loop
-fill-requires c κs = c .before .before .before .pre .0
+fill-requires c κs = c .before .before .before .before .pre .0
 
 loop-holds : tie.Need-loop-holds Inv-loop μ-loop
 loop-holds c =
     let f = c .before .before .fill .ensures in
-    (search needs, omega (arith, f .within (c .before .before .before .before .before .before .pre .1 .0)), f .going, λ h. f .last h .0)
+    let start = c .before .before .before .before .before .before .before in
+    record {
+      going = f .going;
+      long = search needs;
+      roomy = omega (arith, start .pre .2);
+      within = omega (arith, f .within (start .pre .1));
+      last = f .last;
+    }
 
 flush-requires : tie.Need-flush-requires Inv-loop μ-loop
-flush-requires c κs = omega (arith, c .before .before .loop .inv .0, c .before .before .loop .inv .1)
-
-fill-requires-2 : tie.Need-fill-requires-2 Inv-loop μ-loop
-fill-requires-2 c κs = (c .before .before .before .before .before .before .loop .inv .2 (c .before .before .before .before .before .loop-test .taken), c .before .before .before .before .before .before .before .before .before .before .before .before .before .pre .0 .1, c .before .before .before .before .before .before .before .before .before .before .before .before .before .pre .0 .2)
-
-loop-less : tie.Need-loop-less Inv-loop μ-loop
-loop-less c =
-    let a = c .before .before .before .before .before .before .before .before .before .before .before .before .before .before .before .before .args in
-    let l = c .before .before .before .before .before .before .before .before .before .loop in
-    falls (now (a .s)) (a .st) (a .width) (l .p) (l .out) _ _ (c .before .before .before .before .before .before .before .before .loop-test .taken) (omega (arith, c .before .before .before .before .before .before .before .before .before .before .before .before .before .before .before .before .pre .1 .1, l .inv .0)) (c .before .before .fill2 .ensures)
-
-loop-again : tie.Need-loop-again Inv-loop μ-loop
-loop-again c =
-    let l = c .before .before .before .before .before .before .before .before .before .loop in
-    let f = c .before .before .fill2 .ensures in
-    (search needs, omega (arith, f .within (omega arith), l .inv .0), f .going, λ h. f .last h .0)
-
-print-closing-requires : tie.Need-print-closing-requires Inv-loop μ-loop
-print-closing-requires c κs =
-    let l = c .before .before .loop in
-    (omega (arith, l .inv .0, l .inv .1), omega (arith, l .inv .0, c .before .before .before .before .before .before .before .before .before .pre .1 .1))
+flush-requires c κs = let i = c .before .before .before .loop .inv in omega (arith, i .long, i .within)
 
 returns : tie.Need-returns Inv-loop μ-loop
 returns c = inl (c .status .ensures)
 
+fill-requires-2 : tie.Need-fill-requires-2 Inv-loop μ-loop
+fill-requires-2 c κs =
+    let flushed = c .before .before .before .before in
+    flushed .before .before .before .before .loop .inv .going
+
+-- ## After the next buffer
+
+abbrev loop-of : tie.After-fill2 Inv-loop μ-loop → tie.In-loop Inv-loop μ-loop
+loop-of k = let flushed = k .before .before .before .before .before in flushed .before .before .before
+
+loop-less : tie.Need-loop-less Inv-loop μ-loop
+loop-less c =
+    let k = c .before .before in
+    let l = loop-of k in
+    let i = l .before .loop .inv in
+    falls (l .before .loop .p) (l .loop-test .taken) (omega (arith, i .long, i .roomy)) (k .fill2 .ensures)
+
+loop-again : tie.Need-loop-again Inv-loop μ-loop
+loop-again c =
+    let k = c .before .before in
+    let i = loop-of k .before .loop .inv in
+    let f = k .fill2 .ensures in
+    record { going = f .going; long = search needs; roomy = i .roomy; within = omega (arith, f .within (omega arith), i .long); last = f .last }
+
+print-closing-requires : tie.Need-print-closing-requires Inv-loop μ-loop
+print-closing-requires c κs = let i = c .before .before .loop .inv in (omega (arith, i .long, i .within), omega (arith, i .long, i .roomy))
+
 returns-2 : tie.Need-returns-2 Inv-loop μ-loop
 returns-2 c =
-    let l = c .before .before .before .before .before .loop in
-    told-of (l .p .number) (replay (now (c .before .before .before .before .before .before .before .before .before .before .before .before .args .s)) .number) _ (l .inv .3 (c .before .before .before .before .loop-test .left)) (c .before .before .print-closing .ensures)
+    let l = c .before .before .before .before in
+    let same = ap (λ (a : Replayed). a .number) (l .before .loop .inv .last (l .loop-test .left)) in
+    told-of _ _ _ same (c .before .before .print-closing .ensures)
 
 pub print-rows-spec : {M : Type 1} → statement M
 print-rows-spec =

@@ -1,24 +1,30 @@
--- `rerun::replay_accepted` meets its contract, from what its callees ensure.
+-- `rerun::replay_accepted` meets its contract: it begins, and goes through all rows.
+use mathlib.Core.Path.{sym, ap, _∙_}
 use native.Mathlib.Omega.{arith}
 use borrow.Author.Needs.{needs}
 use denote.Ref.{now}
-use Rattle.rerun.proofs.Turns.{few-effects}
+use Rattle.recording.specs.Answers.{rowCount}
+use Rattle.rerun.proofs.Turns.{few-effects, ready-all, answered-all}
 use Rattle.rerun.proofs.replay_accepted.Statement.{statement}
 use Rattle.rerun.proofs.replay_accepted.Tie as tie
 
-wiring-of-requires : tie.Need-wiring-of-requires
-wiring-of-requires c κs =
-    let s = c .before .before .before .before in
+begin-requires : tie.Need-begin-requires
+begin-requires c κs =
+    let s = c .before in
     let a = s .args in
-    (few-effects (now (a .s)) (a .st) (a .rows) (a .first) (a .width) (s .pre .0) (s .pre .1), c .before .delays .ensures)
+    few-effects (now (a .s)) (a .st) (a .rows) (a .first) (a .width) (s .pre .0) (s .pre .1)
 
-replay-rows-requires : tie.Need-replay-rows-requires
-replay-rows-requires c κs =
-    let s = c .before .before .before .before .before .before .before .before in
-    (s .pre .0, s .pre .1, record { wiring = c .before .before .before .wiring-of .ensures; causes-are = c .before .before .before .before .before .before .associations .ensures; delays-are = c .before .before .before .before .before .delays .ensures }, omega arith)
+go-requires : tie.Need-go-requires
+go-requires c κs =
+    let b = c .before .before .before .before in
+    let s = b .before .before in
+    ready-all (rw (s .pre .1) at (b .begin .ensures)) (s .pre .0) (omega arith)
 
 returns : tie.Need-returns
-returns c = c .before .replay-rows .ensures .0
+returns c =
+    let m = c .before .before in
+    let s = m .before .before .before .before .before .before .before in
+    c .answer-of .ensures ∙ answered-all (m .go .ensures) (sym (ap rowCount (s .pre .0)))
 
 pub replay-accepted-spec : {M : Type 1} → statement M
-replay-accepted-spec = tie.close (tie.spec (λ c κs. search needs) (λ c κs. search needs) wiring-of-requires (λ c. search needs) replay-rows-requires returns)
+replay-accepted-spec = tie.close (tie.spec begin-requires (λ c. search needs) go-requires (λ c κs. search needs) returns)

@@ -7,7 +7,10 @@ use Rattle.wiring.proofs.asked_by.Tie as tie
 returns : tie.Need-returns
 unfolding askedBy
 returns c =
-    rw (c .active-word .ensures, c .before .tripped-causes .ensures, c .before .before .word-if3 .ensures, c .before .before .before .bad-trip .ensures, c .before .before .before .before .word-if2 .ensures, c .before .before .before .before .before .word-if .ensures, c .before .before .before .before .before .before .forces-count .ensures)
+    let p = c .before .before in
+    let b = p .before .before in
+    let f = b .before .before .before in
+    rw (c .active-word .ensures, p .tripped-causes .ensures, p .before .pick163 .ensures, b .bad-trip .ensures, b .before .pick162 .ensures, b .before .before .pick16 .ensures, f .forces-count .ensures)
 
 pub asked-by-spec : {M : Type 1} → statement M
 asked-by-spec =

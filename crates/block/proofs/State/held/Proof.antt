@@ -7,6 +7,7 @@ use borrow.Author.Needs.{needs}
 use denote.Ref.{now}
 use lib.ListN.{length, replicate}
 use lib.Seq.{length-sets}
+use Rattle.effects.specs.Records.{recordLength, mostRowBytes}
 use Rattle.block.specs.declared.Held.{Held}
 use Rattle.block.specs.Scan.{inputNumber, atFront}
 use Rattle.block.specs.Held.{run, grantedHeld, refusedHeld, heldNumber, heldOf, heldInto}
@@ -21,7 +22,7 @@ unfolding heldOf heldInto heldNumber
 returns c =
     let i = c .before .before in
     let a = i .before .before .args in
-    answers-refused _ (12 * length (run (a .st) (a .row) (a .self) .events)) (now (a .out)) (atFront (run (a .st) (a .row) (a .self) .events) (now (a .out))) (grantedHeld (a .st) (a .row) (a .self)) (refusedHeld (a .self)) _ (i .input-number .ensures)
+    answers-refused _ (recordLength * length (run (a .st) (a .row) (a .self) .events)) (now (a .out)) (atFront (run (a .st) (a .row) (a .self) .events) (now (a .out))) (grantedHeld (a .st) (a .row) (a .self)) (refusedHeld (a .self)) _ (i .input-number .ensures)
     (c .refused-held .result) (c .refused-held .ensures) (c .before .if1 .taken)
 
 -- what the tests before the run found
@@ -35,7 +36,7 @@ run-right-requires c κs =
 
 -- the records that the run gave, and their bytes
 due : (c : tie.After-run-right) → let a = c .before .before .before .before .before .args in
-    (c .run-right .result .records ≡ length (run (a .st) (a .row) (a .self) .events)) × (12 * length (run (a .st) (a .row) (a .self) .events) ≤ 384)
+    (c .run-right .result .records ≡ length (run (a .st) (a .row) (a .self) .events)) × (recordLength * length (run (a .st) (a .row) (a .self) .events) ≤ mostRowBytes)
 due c =
     let a = c .before .before .before .before .before .args in
     (ap (λ (r : Held). r .records) (c .run-right .ensures .0), due-bytes (a .st) (a .row) (a .self) (input (c .before)))
@@ -49,14 +50,14 @@ returns-2 c =
     let k = c .before .before .before .before in
     let i = k .before .before .before in
     let a = i .before .before .args in
-    answers-no-room _ (12 * length (run (a .st) (a .row) (a .self) .events)) (now (a .out)) (atFront (run (a .st) (a .row) (a .self) .events) (now (a .out))) (grantedHeld (a .st) (a .row) (a .self)) (refusedHeld (a .self)) _ (i .input-number .ensures)
+    answers-no-room _ (recordLength * length (run (a .st) (a .row) (a .self) .events)) (now (a .out)) (atFront (run (a .st) (a .row) (a .self) .events) (now (a .out))) (grantedHeld (a .st) (a .row) (a .self)) (refusedHeld (a .self)) _ (i .input-number .ensures)
     (c .refused-held2 .result) (c .refused-held2 .ensures) (k .before .before .if1 .left) (omega (arith, due k .0, c .before .if2 .taken))
 
 copy-front-requires : tie.Need-copy-front-requires
 copy-front-requires c κs =
     let k = c .before .before .before .before .before in
     let d = due k in
-    let len : length (k .run-right .last .0) ≡ 384 = ap length (k .run-right .ensures .1) ∙ simp length-sets in
+    let len : length (k .run-right .last .0) ≡ mostRowBytes = ap length (k .run-right .ensures .1) ∙ simp length-sets in
     (omega (arith, d .0, d .1, len), omega arith)
 
 returns-3 : tie.Need-returns-3
@@ -66,10 +67,10 @@ returns-3 c =
     let i = k .before .before .before in
     let a = i .before .before .args in
     let d = due k in
-    let e : 12 * k .run-right .result .records ≡ 12 * length (run (a .st) (a .row) (a .self) .events) = ap (λ n. 12 * n) (d .0) in
-    answers-granted _ (12 * length (run (a .st) (a .row) (a .self) .events)) (now (a .out)) (atFront (run (a .st) (a .row) (a .self) .events) (now (a .out))) (grantedHeld (a .st) (a .row) (a .self)) (refusedHeld (a .self)) _ (i .input-number .ensures) _ _
+    let e : recordLength * k .run-right .result .records ≡ recordLength * length (run (a .st) (a .row) (a .self) .events) = ap (λ n. recordLength * n) (d .0) in
+    answers-granted _ (recordLength * length (run (a .st) (a .row) (a .self) .events)) (now (a .out)) (atFront (run (a .st) (a .row) (a .self) .events) (now (a .out))) (grantedHeld (a .st) (a .row) (a .self)) (refusedHeld (a .self)) _ (i .input-number .ensures) _ _
     (k .run-right .ensures .0)
-    (copied (run (a .st) (a .row) (a .self) .events) _ (replicate 384 0) _ (now (a .out)) _ e (d .1) (k .run-right .ensures .1) (c .before .before .copy-front .ensures))
+    (copied (run (a .st) (a .row) (a .self) .events) _ (replicate mostRowBytes 0) _ (now (a .out)) _ e (d .1) (k .run-right .ensures .1) (c .before .before .copy-front .ensures))
     (k .before .before .if1 .left) (omega (arith, d .0, c .before .before .before .before .before .if2 .left))
 
 pub held-spec : {M : Type 1} → statement M

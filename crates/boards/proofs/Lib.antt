@@ -1,0 +1,12 @@
+pub mod Bits
+pub mod Due
+pub mod Going
+pub mod Low
+pub mod Picked
+pub mod Quiet
+pub mod Records
+pub mod Rest
+pub mod Scanned
+pub mod Slots
+pub mod Step
+pub mod Turn

@@ -1,0 +1,105 @@
+-- A run by words: one scan more, scans that are not live, and the run of slots that it shows. No entry point's contract cites this page.
+use Prim.Native.Nat.{ℕ, _+_, _*_, _%_, _^_}
+use mathlib.Core.Path.{_≡_}
+use mathlib.Core.Bool.{not}
+use mathlib.Core.List.{List}
+use lib.Dec.{eqb}
+use lib.ListN.{length, getD}
+use Rattle.bits.specs.Lists.{tabulate}
+use Rattle.bits.specs.Words.{bitOf, one}
+use Rattle.rules.specs.Signals.{Signals}
+use Rattle.rules.specs.Rules.{asks}
+use Rattle.effects.specs.Records.{recordLength}
+use Rattle.rounds.specs.Steps.{Run, start}
+use Rattle.planes.specs.declared.Asked.{Asked}
+use Rattle.planes.specs.Planes.{changedOf, askedOf}
+use Rattle.boards.specs.Table.{Table, activeIn, tableAfter, tableLater, Settled, tableOf, slotsOf, entriesTo}
+
+-- how far a run of scans has come: the scans done, the next sequence number, the place after its records, the live scans so far, and
+-- what is kept of the effects
+pub record Board : Type 0 where
+  pub done : ℕ
+  pub next : ℕ
+  pub at : ℕ
+  pub live : ℕ
+  pub table : Table
+
+-- the records of a scan
+abbrev pub entriesOf : (n : ℕ) (causes delays : List ℕ) (period tripped : ℕ) → Asked → Board → List (List ℕ)
+entriesOf n causes delays period tripped w x =
+    let y = tableAfter n causes delays period tripped w (x .table) in
+    entriesTo (x .next) (x .done + 1) (changedOf (x .table .planes) (y .planes)) (x .table .planes) (y .planes) (y .firsts) 16
+
+-- one scan more
+unfoldable pub scanned : (n : ℕ) (causes delays : List ℕ) (period tripped : ℕ) → Asked → Board → Board
+scanned n causes delays period tripped w x =
+    let y = tableAfter n causes delays period tripped w (x .table) in
+    let es = entriesOf n causes delays period tripped w x in
+    record {
+      done = x .done + 1;
+      next = (x .next + length es) % 2 ^ 16;
+      at = x .at + recordLength * length es;
+      live = x .live + one (not (eqb (changedOf (x .table .planes) (y .planes)) 0));
+      table = y;
+    }
+
+-- k scans that are not live
+unfoldable pub later : (k n period : ℕ) → Board → Board
+later k n period x =
+    record { done = x .done + k; next = x .next; at = x .at; live = x .live; table = tableLater k n period (x .table) }
+
+-- what is asked in the scans after the first: the reset counts in the first scan and is zero afterwards
+abbrev pub unset : Asked → Asked
+unset w =
+    record {
+      «force_trip» = w .«force_trip»;
+      «force_normal» = w .«force_normal»;
+      «bad_trip» = w .«bad_trip»;
+      active = w .active;
+      «require_reset» = w .«require_reset»;
+      «reset_permit» = w .«reset_permit»;
+      «start_permit» = w .«start_permit»;
+      reset = 0;
+      «with_delay» = w .«with_delay»;
+    }
+
+-- ## What the words show
+
+-- the signals of effect i
+unfoldable pub signalsBy : (causes delays : List ℕ) (period tripped : ℕ) → Asked → ℕ → Signals
+signalsBy causes delays period tripped w i =
+    record {
+      active = activeIn causes tripped i;
+      bad = bitOf (w .«bad_trip») i;
+      trip = bitOf (w .«force_trip») i;
+      normal = bitOf (w .«force_normal») i;
+      require = bitOf (w .«require_reset») i;
+      permit = bitOf (w .«reset_permit») i;
+      start = bitOf (w .«start_permit») i;
+      reset = bitOf (w .reset) i;
+      delay = getD delays i 0;
+      period = period;
+    }
+
+-- and of all
+abbrev pub signalsIn : (n : ℕ) (causes delays : List ℕ) (period tripped : ℕ) → Asked → List Signals
+signalsIn n causes delays period tripped w = tabulate (signalsBy causes delays period tripped w) n
+
+-- the run that starts at a board
+abbrev pub runOf : ℕ → Board → Run
+runOf n x = start (x .done) (x .next) (slotsOf n (x .table))
+
+-- the board of a run: its place is after the records of its events
+abbrev pub boardOf : ℕ → Run → Board
+boardOf n r =
+    record { done = r .done; next = r .next; at = recordLength * length (r .events); live = r .live; table = tableOf n (r .slots) }
+
+-- what is kept is that of the slots it shows, and rests where it should
+pub record Shown (n : ℕ) (b : Table) : Type 0 where
+  pub slots : b ≡ tableOf n (slotsOf n b)
+  pub settled : Settled n b
+
+-- the words are those of what they show
+pub record Right (n : ℕ) (causes delays : List ℕ) (period tripped : ℕ) (w : Asked) (x : Board) : Type 0 where
+  pub asked : w ≡ askedOf n (λ i. asks (signalsBy causes delays period tripped w i))
+  pub table : Shown n (x .table)

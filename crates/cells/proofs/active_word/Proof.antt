@@ -1,0 +1,68 @@
+-- `planes::active_word` meets its contract. The loop's invariant: the word is that of the first i effects.
+use mathlib.Core.Path.{_≡_, refl, sym}
+use mathlib.Core.List.{List}
+use Prim.Native.Nat.{ℕ, zero, suc, _≤_, _-_}
+use native.Mathlib.Omega.{arith}
+use borrow.Author.Needs.{needs}
+use denote.Ref.{now}
+use lib.Bits.{and-zero-r}
+use Rattle.bits.specs.Words.{wordOf}
+use Rattle.bits.proofs.Words.{wordOf-lt, wordOf-more}
+use Rattle.cells.specs.Array.{associationsIn}
+use Rattle.boards.specs.Table.{activeAt}
+use Rattle.cells.proofs.Filled.{getD-association}
+use Rattle.cells.proofs.active_word.Statement.{statement}
+use Rattle.cells.proofs.active_word.Tie as tie
+
+abbrev Inv-loop : tie.InvT-loop
+Inv-loop count board tripped word₀ i₀ word i = (i ≤ count) × (word ≡ wordOf (activeAt (associationsIn board) tripped) i)
+
+abbrev μ-loop : tie.MeasureT-loop
+μ-loop count board tripped word₀ i₀ word i = count - i
+
+none-active : (causes : List ℕ) (n : ℕ) → wordOf (activeAt causes 0) n ≡ 0
+unfolding wordOf
+none-active causes zero = refl
+none-active causes (suc n) = rw (none-active causes n, and-zero-r)
+
+-- no cause is tripped
+returns : tie.Need-returns Inv-loop μ-loop
+returns c =
+    let a = c .before .args in
+    rw (c .if1 .taken) (sym (none-active (associationsIn (now (a .board))) (a .count)))
+
+loop-holds : tie.Need-loop-holds Inv-loop μ-loop
+unfolding wordOf
+loop-holds c = (search needs, refl)
+
+put-bit-requires : tie.Need-put-bit-requires Inv-loop μ-loop
+put-bit-requires c κs =
+    let k = c .before .before in
+    (omega arith, rw (k .loop .inv .1) (wordOf-lt _ (k .loop .i)))
+
+loop-again : tie.Need-loop-again Inv-loop μ-loop
+loop-again c =
+    let k = c .before .before .before in
+    let a = k .before .before .args in
+    (omega arith, rw (c .put-bit .ensures, k .loop .inv .1, wordOf-more, getD-association (now (a .board)) (k .loop .i) (omega arith)))
+
+returns-2 : tie.Need-returns-2 Inv-loop μ-loop
+returns-2 c =
+    let e : c .before .loop .i ≡ c .before .before .before .args .count = omega arith in
+    rw (c .before .loop .inv .1, e)
+
+pub active-word-spec : {M : Type 1} → statement M
+active-word-spec =
+    tie.close
+    (tie.spec
+    Inv-loop
+    μ-loop
+    returns
+    loop-holds
+    (λ c. search needs)
+    (λ c. search needs)
+    put-bit-requires
+    (λ c. search needs)
+    (λ c. search needs)
+    loop-again
+    returns-2)

@@ -1,0 +1,152 @@
+-- A scan of a mark, with the array that is lent beside it, is the scan of the board that they make; and so are scans that are not live.
+use mathlib.Core.Path.{_≡_, ap, sym, subst, _∙_}
+use mathlib.Core.Bool.{not}
+use mathlib.Core.List.{List, _++_}
+use Prim.Native.Nat.{ℕ, _+_, _-_, _*_, _/_, _%_, _^_, _<_, _≤_}
+use native.Mathlib.Nat.{mul-div-cancel, zero-lt-suc}
+use native.Mathlib.Omega.{arith}
+use lib.Dec.{eqb}
+use lib.ListN.{drop, getD, length}
+use lib.Seq.{sets}
+use Rattle.bits.specs.Lists.{tabulate}
+use Rattle.bits.specs.Words.{wordOf, one}
+use Rattle.effects.specs.Records.{recordLength}
+use Rattle.planes.specs.declared.Asked.{Asked}
+use Rattle.engine.specs.declared.Mark.{Mark}
+use Rattle.cells.specs.declared.Plan.{Plan}
+use Rattle.planes.specs.declared.Planes.{Planes}
+use Rattle.cells.specs.Array.{partLength, arrayLength, timersAt, firstsAt, associationsIn, delaysIn, timersIn, firstsIn, Same}
+use Rattle.planes.specs.Planes.{planesAfter, changedOf}
+use Rattle.boards.specs.Table.{Table, dueIn, timerBy, firstBy, Blank, Narrow, Settled, Within, tableAfter, tableLater, entriesTo, joined}
+use Rattle.boards.specs.Board.{Board, scanned, later}
+use Rattle.engine.specs.Marks.{boardAt, scanEntries}
+use Rattle.cells.specs.Loaded.{tableIn}
+use Rattle.engine.specs.Stroke.{scannedBy, entriesBy, ScanReady, ScanDone}
+use Rattle.boards.proofs.Due.{after-due}
+use Rattle.cells.proofs.Parts.{part-filled, part-before, same-put, same-then, timers-filled, firsts-kept, timers-same}
+use Rattle.boards.proofs.Rest.{settled-after}
+use Rattle.boards.proofs.Step.{table-path}
+
+-- the records between two places
+twelfth : (a l : ℕ) → (a + recordLength * l - a) / recordLength ≡ l
+twelfth a l =
+    let e : a + recordLength * l - a ≡ l * recordLength = omega arith in
+    ap (λ (n : ℕ). n / recordLength) e ∙ mul-div-cancel l (zero-lt-suc 11)
+
+pub between : (p a l : ℕ) → p ≡ a + recordLength * l → l ≤ 16 → (a ≤ p) × (p ≤ a + 192)
+between p a l e h = (omega arith, omega arith)
+
+-- ## A scan
+
+-- what it stores: the states, and the array with the timers and the first-outs
+pub record Stored (plan : Plan) (tripped : ℕ) (w : Asked) (x : Mark) (array : List ℕ) (is : Planes) (array′ : List ℕ) : Type 0 where
+  pub table : tableIn is array′ ≡ scannedBy plan tripped w x array .table
+  pub same : Same array array′
+
+module _ {plan : Plan} {tripped : ℕ} {w : Asked} {x : Mark} {array : List ℕ} {room : ℕ} (h : ScanReady plan tripped w x array room) where
+  abbrev n : ℕ
+  n = plan .count
+
+  module _ {due : ℕ} {is : Planes} (d : due ≡ wordOf (dueIn (timersIn array) (plan .period) (x .planes .delayed)) n) (p : is ≡ planesAfter w due (x .planes)) where
+    states : is ≡ scannedBy plan tripped w x array .table .planes
+    unfolding scanned tableAfter
+    states = after-due n (plan .period) (timersIn array) w (x .planes) (h .few) (h .within .0) due is d p
+
+    pub within-is : Within n is
+    within-is = rw states (h .within-then)
+
+    -- the timers are stored
+    module _ {mid : List ℕ} (t : mid ≡ sets array timersAt (tabulate (timerBy (timersIn array) (delaysIn array) (plan .period) (x .planes .delayed) (is .delayed)) n)) where
+      abbrev timer : ℕ → ℕ
+      timer = timerBy (timersIn array) (delaysIn array) (plan .period) (x .planes .delayed) (is .delayed)
+
+      firsts-mid : firstsIn mid ≡ firstsIn array
+      firsts-mid = firsts-kept timer n array t (h .few) (h .long)
+
+      same-mid : Same array mid
+      same-mid = timers-same timer n array t (h .few) (h .long)
+
+      pub blank-mid : Blank n (x .planes .normal) (firstsIn mid)
+      blank-mid = rw firsts-mid (h .settled .blank)
+
+      -- and the first-outs
+      pub stored : {then : List ℕ} → then ≡ sets mid firstsAt (tabulate (firstBy (firstsIn mid) (associationsIn mid) tripped (x .planes .normal) (is .normal)) n)
+          → Stored plan tripped w x array is then
+      unfolding scanned tableAfter
+      stored f =
+          let first = firstBy (firstsIn mid) (associationsIn mid) tripped (x .planes .normal) (is .normal) in
+          let l : firstsAt + partLength ≤ length mid = omega (arith, same-mid .long) in
+          record {
+            table =
+                table-path states
+                (ap timersIn f ∙ part-before timersAt firstsAt mid (tabulate first n) (omega arith) ∙ timers-filled timer n array t (h .few) (h .long)
+                ∙ (λ j. tabulate (timerBy (timersIn array) (delaysIn array) (plan .period) (x .planes .delayed) (states j .delayed)) n ++ drop n (timersIn array)))
+                (ap firstsIn f ∙ part-filled firstsAt first n mid l (h .few)
+                ∙ (λ j. tabulate (firstBy (firsts-mid j) (same-mid .associations j) tripped (x .planes .normal) (states j .normal)) n ++ drop n (firsts-mid j)));
+            same = rw f (same-then same-mid (same-put firstsAt mid (tabulate first n) (omega arith) (same-mid .long)));
+          }
+
+-- what rests then
+module _ {plan : Plan} {tripped : ℕ} {w : Asked} {x : Mark} {array : List ℕ} {room : ℕ} (h : ScanReady plan tripped w x array room)
+    {is : Planes} {array′ : List ℕ} (s : Stored plan tripped w x array is array′) where
+  pub narrow-then : tripped < 2 ^ 16 → Narrow (firstsIn array′)
+  unfolding scanned
+  narrow-then small =
+      subst (λ (t : Table). Narrow (t .firsts)) (sym (s .table))
+      (settled-after (plan .count) (associationsIn array) (delaysIn array) (plan .period) tripped w (tableIn (x .planes) array) small (h .settled .narrow) .narrow)
+
+  module _ {ch : ℕ} (c : ch ≡ changedOf (x .planes) is) where
+    entries-are : scanEntries (firstsIn array′) x is ch ≡ entriesBy plan tripped w x array
+    unfolding scanned
+    entries-are =
+        rw c
+        (ap (λ (b : Table). entriesTo (x .next) (x .done + 1) (changedOf (x .planes) (b .planes)) (x .planes) (b .planes) (b .firsts) 16) (s .table))
+
+    pub fits-then : x .at + recordLength * length (scanEntries (firstsIn array′) x is ch) ≤ room
+    fits-then = rw entries-are (h .fits)
+
+    pub scanned-is : {at q live : ℕ} {buf buf′ : List ℕ} → at ≡ x .at + recordLength * length (scanEntries (firstsIn array′) x is ch)
+        → q ≡ (x .next + (at - x .at) / recordLength) % 2 ^ 16 → live ≡ x .live + one (not (eqb ch 0))
+        → buf′ ≡ sets buf (x .at) (joined (scanEntries (firstsIn array′) x is ch))
+        → ScanDone plan tripped w x array buf (record { done = x .done + 1; next = q; at = at; live = live; planes = is }) array′ buf′
+    unfolding scanned
+    scanned-is {at} {q} {live} {buf} a e l b =
+        let es = scanEntries (firstsIn array′) x is ch in
+        let r : q ≡ (x .next + length es) % 2 ^ 16 =
+        e ∙ ap (λ (m : ℕ). (x .next + (m - x .at) / recordLength) % 2 ^ 16) a ∙ ap (λ (m : ℕ). (x .next + m) % 2 ^ 16) (twelfth (x .at) (length es)) in
+        let v : live ≡ x .live + one (not (eqb (changedOf (x .planes) is) 0)) = l ∙ ap (λ (m : ℕ). x .live + one (not (eqb m 0))) c in
+        record {
+          board = λ j. record {
+            done = x .done + 1;
+            next = (r ∙ ap (λ (k : List (List ℕ)). (x .next + length k) % 2 ^ 16) entries-are) j;
+            at = (a ∙ ap (λ (k : List (List ℕ)). x .at + recordLength * length k) entries-are) j;
+            live = (v ∙ ap (λ (b : Table). x .live + one (not (eqb (changedOf (x .planes) (b .planes)) 0))) (s .table)) j;
+            table = s .table j;
+          };
+          laid = b ∙ ap (λ (k : List (List ℕ)). sets buf (x .at) (joined k)) entries-are;
+          same = s .same;
+        }
+
+-- ## After it
+
+-- what is known of the board is known of the mark and its array
+pub settled-there : {n : ℕ} {b : Board} (y : Mark) (array : List ℕ) → boardAt y array ≡ b → Settled n (b .table) → Settled n (tableIn (y .planes) array)
+settled-there {n} y array e = subst (λ (t : Table). Settled n t) (sym (ap (λ (c : Board). c .table) e))
+
+pub within-there : (n : ℕ) {b : Board} (y : Mark) (array : List ℕ) → boardAt y array ≡ b → Within n (b .table .planes) → Within n (y .planes)
+within-there n y array e = subst (λ (p : Planes). Within n p) (sym (ap (λ (c : Board). c .table .planes) e))
+
+-- ## Scans that are not live
+
+module _ (k n period : ℕ) (array : List ℕ) {array′ : List ℕ} (few : n ≤ partLength) (long : length array ≡ arrayLength)
+    (t : array′ ≡ sets array timersAt (tabulate (λ i. getD (timersIn array) i 0 - k * period) n)) where
+  abbrev rest : ℕ → ℕ
+  rest i = getD (timersIn array) i 0 - k * period
+
+  pub skipped-is : (y : Mark) {z : Mark} → z ≡ (record { done = y .done + k; next = y .next; at = y .at; live = y .live; planes = y .planes })
+      → boardAt z array′ ≡ later k n period (boardAt y array)
+  unfolding later tableLater
+  skipped-is y e = rw (e, timers-filled rest n array t few long, firsts-kept rest n array t few long)
+
+  pub skipped-same : Same array array′
+  skipped-same = timers-same rest n array t few long

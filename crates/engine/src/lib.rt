@@ -1,0 +1,201 @@
+// The stroke: a held run of a row by rounds, on words of effects, with one lent array for what each effect has. Document 01, "Held runs
+// and their two counts".
+// This crate is an algorithm alone: it is proved to come to what `planes` says of words, and so to the held run over lists of slots.
+// It rests on `planes` and what that rests on. All of it may change without moving a contract of an entry point: inner functions
+// alone cite it.
+ghost use mathlib.Core.Path.{_≡_};
+ghost use Prim.Native.Nat.{_+_, _-_, _*_, _/_, _%_, _^_, _<_, _≤_};
+ghost use lib.ListN.{length};
+ghost use lib.Seq.{sets};
+ghost use Rattle.bits.specs.Words.{one};
+ghost use Rattle.rules.specs.Limits.{mostHold, mostPeriod, mostScans};
+ghost use Rattle.effects.specs.Records.{recordLength};
+ghost use Rattle.cells.specs.Array.{timersIn, firstsIn};
+ghost use Rattle.boards.specs.Table.{Narrow, quietsBy, joined};
+ghost use Rattle.boards.specs.Board.{unset as unsetOf};
+ghost use Rattle.engine.specs.Marks.{recordBy, scanEntries, begun};
+ghost use Rattle.engine.specs.Stroke.{ScanReady, ScanDone, StrokeReady, StrokeDone};
+use cells::Plan;
+use effects::Record;
+use planes::Asked;
+use planes::Planes;
+
+// What a row asks of a stroke: its hold, the causes that are tripped and not masked, and what the rules ask.
+pub struct Task {
+    pub hold: u32,
+    pub tripped: u16,
+    pub asked: Asked,
+}
+
+// How far a run of scans has come: the scans done, the next sequence number, the place after the records in the buffer, the
+// live scans so far, and the effects' states. Associations, delays, timers and first-outs are in one array that is lent beside it,
+// and timers and first-outs change in place: copied from scan to scan they would cost more than all the rest.
+pub struct Mark {
+    pub done: u32,
+    pub next: u16,
+    pub at: usize,
+    pub live: u32,
+    pub planes: Planes,
+}
+
+// ---- scans that are not live
+
+// How many of the next n scans leave every state as it is.
+fn quiets(n: u32, board: &[u32; 64], plan: Plan, w: Asked, p: Planes) -> u32
+    requires { ⌜ (plan .count ≤ 16) × (n ≤ mostHold) × (0 < plan .period) × (plan .period ≤ mostPeriod) × (p .delayed < 2 ^ plan .count) ⌝ }
+    ensures { λ r. ⌜ r ≡ quietsBy n (plan .count) (plan .period) w p (timersIn (now (board .entry))) ⌝ }
+{
+    if n == 0 {
+        return 0;
+    }
+    let due = cells::due_of(board, plan, p.delayed);
+    let next = planes::planes_after(w, due, p);
+    if planes::changed(p, next) != 0 {
+        return 0;
+    }
+    if p.delayed == 0 {
+        return n;
+    }
+    cells::least(
+        n,
+        bits::minus(cells::low_timer(board, plan.count, p.delayed), 1) / plan.period,
+    )
+}
+
+// ---- the records
+
+// The record of the effect i of a scan from x to the states `is`. q: its sequence number.
+fn record_at(board: &[u32; 64], x: Mark, is: Planes, q: u16, i: usize) -> Record
+    requires { ⌜ (i < 16) × (x .done < mostScans) ⌝ }
+    ensures { λ r. ⌜ r ≡ recordBy (firstsIn (now (board .entry))) x is q i ⌝ }
+{
+    let was = x.planes;
+    Record {
+        seq: q,
+        scan: x.done + 1,
+        effect: i as u8 + 1,
+        from: planes::code_at(was, i),
+        to: planes::code_at(is, i),
+        first: (board[cells::FIRST_OUTS + i] % 65536) as u16,
+    }
+}
+
+// The records of a scan from x to the states `is`, of the effects in the word `ch`; and the place after them.
+fn put_scan(buf: &mut [u8], board: &[u32; 64], x: Mark, is: Planes, ch: u16) -> usize
+    requires { ⌜ (x .done < mostScans) × Narrow (firstsIn (now board)) × (x .at + recordLength * length (scanEntries (firstsIn (now board)) x is ch) ≤ length (now buf)) ⌝ }
+    ensures { λ r. ⌜ r ≡ x .at + recordLength * length (scanEntries (firstsIn (now (board .entry))) x is ch) ⌝ }
+    ensures { λ _. ⌜ now (buf .exit) ≡ sets (now (buf .entry)) (x .at) (joined (scanEntries (firstsIn (now (board .entry))) x is ch)) ⌝ }
+{
+    let mut at = x.at;
+    let mut q = x.next;
+    let mut rest = ch;
+    while 0 < rest {
+        let i = cells::lowest(rest);
+        effects::put_record(buf, at, record_at(board, x, is, q, i));
+        at += effects::RECORD_LENGTH;
+        q = std::num::wrapping_add_u16(q, 1);
+        rest &= rest - 1;
+    }
+    at
+}
+
+// ---- a run
+
+// The sequence number after the records from one place to another.
+fn seq_after(q: u16, from: usize, to: usize) -> u16
+    requires { ⌜ (from ≤ to) × (to ≤ from + 192) ⌝ }
+    ensures { λ r. ⌜ r ≡ (q + (to - from) / recordLength) % 2 ^ 16 ⌝ }
+{
+    std::num::wrapping_add_u16(q, ((to - from) / effects::RECORD_LENGTH) as u16)
+}
+
+fn count_live(n: u32, b: bool) -> u32
+    requires { ⌜ n + 1 < 2 ^ 32 ⌝ }
+    ensures { λ r. ⌜ r ≡ n + one b ⌝ }
+{
+    if b { n + 1 } else { n }
+}
+
+// One scan more: its records go to the buffer at the run's place.
+fn scan(buf: &mut [u8], board: &mut [u32; 64], plan: Plan, tripped: u16, w: Asked, x: Mark) -> Mark
+    requires { ⌜ ScanReady plan tripped w x (now board) (length (now buf)) ⌝ }
+    ensures { λ r. ⌜ ScanDone plan tripped w x (now (board .entry)) (now (buf .entry)) r (now (board .exit)) (now (buf .exit)) ⌝ }
+{
+    let was = x.planes;
+    let due = cells::due_of(board, plan, was.delayed);
+    let is = planes::planes_after(w, due, was);
+    cells::set_timers(board, plan, was.delayed, is.delayed);
+    cells::set_firsts(board, plan.count, tripped, was.normal, is.normal);
+    let ch = planes::changed(was, is);
+    let at = put_scan(buf, board, x, is, ch);
+    Mark {
+        done: x.done + 1,
+        next: seq_after(x.next, x.at, at),
+        at,
+        live: count_live(x.live, ch != 0),
+        planes: is,
+    }
+}
+
+// The run after k scans that leave every state as it is.
+fn later(k: u32, x: Mark) -> Mark
+    requires { ⌜ x .done + k ≤ mostScans ⌝ }
+    ensures { λ r. ⌜ r ≡ (record { done = x .done + k; next = x .next; at = x .at; live = x .live; planes = x .planes }) ⌝ }
+{
+    let planes = x.planes;
+    Mark {
+        done: x.done + k,
+        next: x.next,
+        at: x.at,
+        live: x.live,
+        planes,
+    }
+}
+
+// What is asked in the scans after the first: the reset counts in the first scan and is zero afterwards.
+fn unset(w: Asked) -> Asked
+    ensures { λ r. ⌜ r ≡ unsetOf w ⌝ }
+{
+    let mut v = w;
+    v.reset = 0;
+    v
+}
+
+// The run that starts where another has come to.
+pub fn begin(x: Mark) -> Mark
+    ensures { λ r. ⌜ r ≡ begun x ⌝ }
+{
+    let planes = x.planes;
+    Mark {
+        done: x.done,
+        next: x.next,
+        at: 0,
+        live: 0,
+        planes,
+    }
+}
+
+// A held run by rounds: one scan by the rules, and then all scans before the next live one or the hold's end. Its records go
+// to the front of the buffer, and the timers and first-outs are those after it. The falling number of the loop is `fuel`.
+pub fn stroke(buf: &mut [u8], board: &mut [u32; 64], plan: Plan, task: Task, from: Mark) -> Mark
+    requires { ⌜ StrokeReady plan task from (now board) (length (now buf)) ⌝ }
+    ensures { λ r. ⌜ StrokeDone plan task from (now (board .entry)) (now (buf .entry)) r (now (board .exit)) (now (buf .exit)) ⌝ }
+{
+    let mut w = task.asked;
+    let mut x = begin(from);
+    let mut left = task.hold;
+    let mut fuel = 2 * plan.count + 1;
+    while 0 < left {
+        fuel -= 1;
+        let y = scan(buf, board, plan, task.tripped, w, x);
+        let v = unset(w);
+        let rest = left - 1;
+        let p = y.planes;
+        let k = quiets(rest, board, plan, v, p);
+        cells::timers_later(k, board, plan, p.delayed);
+        w = v;
+        x = later(k, y);
+        left = rest - k;
+    }
+    x
+}

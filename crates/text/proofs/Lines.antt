@@ -1,0 +1,96 @@
+-- Laws of lines: their pieces, and those that are left in a loop.
+use mathlib.Core.Path.{_≡_, sym, ap, _∙_}
+use mathlib.Core.List.{List, [], _∷_, _++_, flatMap, append-assoc}
+use Prim.Native.Nat.{ℕ, suc, _+_, _-_, _*_, _<_}
+use native.Mathlib.Nat.{sub-zero}
+use native.Mathlib.Omega.{arith}
+use lib.ListN.{length, length-append}
+use Rattle.bits.specs.Decimal.{ascii, decimal}
+use Rattle.effects.specs.declared.Event.{Event}
+use Rattle.effects.specs.Records.{recordLength, eventAt, eventsAt}
+use Rattle.text.specs.Text.{name, line, lines, lastLine, refusalLine}
+use Rattle.text.specs.Pieces.{when, change, total}
+
+-- ## The line of a record, in its two halves
+
+pub halves : (e : Event) → line e ≡ when e ++ change e
+unfolding line when change
+halves e = sym (simp append-assoc)
+
+pub length-halves : (e : Event) → length (line e) ≡ length (when e) + length (change e)
+length-halves e = ap length (halves e) ∙ length-append (when e) (change e)
+
+-- ## The fields of each half, and of a word with its number
+
+module _ (e : Event) where
+  pub length-when : length (when e) ≡ length (decimal (e .seq) ++ ascii " ") + (length (decimal (e .scan) ++ ascii " ") + length (decimal (e .effect) ++ ascii " "))
+  unfolding when
+  length-when =
+      let last = decimal (e .effect) ++ ascii " " in
+      length-append (decimal (e .seq) ++ ascii " ") (decimal (e .scan) ++ ascii " " ++ last)
+      ∙ ap (λ (n : ℕ). length (decimal (e .seq) ++ ascii " ") + n) (length-append (decimal (e .scan) ++ ascii " ") last)
+
+  pub length-change : length (change e) ≡ length (name (e .from) ++ ascii " ") + (length (name (e .to) ++ ascii " ") + length (decimal (e .first) ++ ascii "\n"))
+  unfolding change
+  length-change =
+      let last = decimal (e .first) ++ ascii "\n" in
+      length-append (name (e .from) ++ ascii " ") (name (e .to) ++ ascii " " ++ last)
+      ∙ ap (λ (n : ℕ). length (name (e .from) ++ ascii " ") + n) (length-append (name (e .to) ++ ascii " ") last)
+
+pub length-total : (word : List ℕ) (v end : ℕ) → length (total word v end) ≡ length (word ++ ascii " ") + length (decimal v ++ (end ∷ []))
+unfolding total
+length-total word v end = length-append (word ++ ascii " ") (decimal v ++ (end ∷ []))
+
+-- ## The other lines, in pieces
+
+pub refusal-pieces : (n p : ℕ) → refusalLine n p ≡ total (ascii "refused") n 32 ++ total (ascii "at") p 10
+unfolding refusalLine total
+refusal-pieces n p = sym (simp append-assoc)
+
+module _ (r s l x : ℕ) where
+  abbrev rows : List ℕ
+  rows = total (ascii "rows") r 32
+
+  abbrev scans : List ℕ
+  scans = total (ascii "scans") s 32
+
+  abbrev live : List ℕ
+  live = total (ascii "live") l 32
+
+  abbrev exercised : List ℕ
+  exercised = total (ascii "exercised") x 10
+
+  pub last-pieces : lastLine r s l x ≡ rows ++ (scans ++ (live ++ exercised))
+  unfolding lastLine total
+  last-pieces = sym (simp append-assoc)
+
+  pub length-last : length (lastLine r s l x) ≡ length rows + (length scans + (length live + length exercised))
+  length-last = ap length last-pieces ∙ simp length-append
+
+pub length-refusal : (n p : ℕ) → length (refusalLine n p) ≡ length (total (ascii "refused") n 32) + length (total (ascii "at") p 10)
+length-refusal n p = ap length (refusal-pieces n p) ∙ length-append (total (ascii "refused") n 32) (total (ascii "at") p 10)
+
+-- ## A loop over n records: the lines that are left from record i on
+
+abbrev pub left : List ℕ → (n i : ℕ) → List ℕ
+left s n i = lines (eventsAt s (n - i) (recordLength * i))
+
+pub left-all : (s : List ℕ) (n : ℕ) → left s n 0 ≡ lines (eventsAt s n 0)
+left-all s n = rw sub-zero
+
+module _ (s : List ℕ) (n i : ℕ) where
+  pub left-turn : i < n → left s n i ≡ line (eventAt s (recordLength * i)) ++ left s n (i + 1)
+  unfolding flatMap
+  left-turn h =
+      let m : n - i ≡ suc (n - (i + 1)) = omega arith in
+      let p : recordLength * (i + 1) ≡ recordLength * i + recordLength = omega arith in
+      rw (m, p)
+
+  pub left-length : i < n → length (left s n i) ≡ length (line (eventAt s (recordLength * i))) + length (left s n (i + 1))
+  left-length h = ap length (left-turn h) ∙ length-append (line (eventAt s (recordLength * i))) (left s n (i + 1))
+
+  pub left-none : i ≡ n → left s n i ≡ []
+  unfolding flatMap
+  left-none h =
+      let m : n - i ≡ 0 = omega arith in
+      rw m

@@ -1,0 +1,13 @@
+-- `text::put_header` meets its contract: its bytes are the header.
+use native.Mathlib.Omega.{arith}
+use borrow.Author.Needs.{needs}
+use Rattle.text.specs.Text.{header}
+use Rattle.text.proofs.put_header.Statement.{statement}
+use Rattle.text.proofs.put_header.Tie as tie
+
+returns : tie.Need-returns
+unfolding header
+returns c = (c .before .before .put-text .ensures, omega arith)
+
+pub put-header-spec : {M : Type 1} → statement M
+put-header-spec = tie.close (tie.spec (λ c. search needs) (λ c κs. search needs) (λ c. search needs) returns)
