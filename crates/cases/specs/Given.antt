@@ -8,7 +8,7 @@ use Rattle.rules.specs.declared.Slot.{Slot}
 use Rattle.rules.specs.Rules.{stateOf}
 use Rattle.settings.specs.declared.Settings.{Settings}
 use Rattle.block.specs.declared.State.{State}
-use Rattle.recording.specs.Entries.{effectAt}
+use Rattle.layout.specs.Entries.{effectAt}
 
 -- cause count 1, options 1, period 2, effect count 1, and sixteen effects as in a recording
 unfoldable pub settingsAt : List ℕ → ℕ → Settings

@@ -1,6 +1,6 @@
 // What the programs that answer streams of cases share: settings and a state read from the bytes of a case, the bytes of
 // an answer, the filling of a lent buffer, and lines of hexadecimal digits. second/README.md lays the streams out. It rests on
-// `block`, `recording` (for effects) and what these rest on, and on the kit's `io` and `libc`; no promise rests on it. All but the
+// `block`, `layout` (for effects) and what these rest on, and on the kit's `io` and `libc`; no promise rests on it. All but the
 // streams may change.
 ghost use mathlib.Core.Path.{_≡_};
 ghost use mathlib.Core.List.{[], _∷_, _++_, flatMap};
@@ -25,7 +25,7 @@ pub fn settings_at(s: &[u8], at: usize) -> Settings
     requires { ⌜ at + 101 ≤ length (now s) ⌝ }
     ensures { λ r. ⌜ r ≡ settingsAt (now (s .entry)) at ⌝ }
 {
-    let effects = recording::effects_at(s, at + 5, 16);
+    let effects = layout::effects_at(s, at + 5, 16);
     Settings {
         causes: bits::get8(s, at),
         options: bits::get8(s, at + 1),

@@ -9,7 +9,7 @@ use lib.Seq.{drop-length}
 use Rattle.bits.specs.Numbers.{Bytes}
 use Rattle.settings.specs.declared.Row.{Row}
 use Rattle.settings.specs.declared.Settings.{Settings}
-use Rattle.recording.specs.Entries.{putRow}
+use Rattle.layout.specs.Entries.{putRow}
 use Rattle.recording.specs.Reader.{reading}
 use Rattle.recording.specs.Answers.{rowCount}
 use Rattle.recording.specs.Steps.{rowsOf}

@@ -53,7 +53,7 @@ use Rattle.embed.proofs.pohandira_replay.Reads as crossed-replay
 use Rattle.recording.specs.declared.Reading.{Reading}
 use Rattle.recording.specs.declared.Step.{Step}
 use Rattle.recording.specs.Reader.{refusal, reading}
-use Rattle.recording.specs.Entries.{putRow}
+use Rattle.layout.specs.Entries.{putRow}
 use Rattle.recording.specs.Answers.{number, place, rowCount, ended, stepRow, nextPlace}
 use Rattle.writing.specs.Answers.{writtenNumber, writtenPlace, writtenLength}
 use Rattle.recording.specs.Steps.{stepAt, rowPlace, rowsOf}

@@ -18,13 +18,14 @@ use Rattle.bits.proofs.put_text.Reads as bits·put-text
 use Rattle.bits.proofs.put_decimal.Reads as bits·put-decimal
 use Rattle.effects.proofs.event_at.Reads as effects·event-at
 use Rattle.effects.proofs.put_record.Reads as effects·put-record
-use Rattle.recording.proofs.row_at.Reads as recording·row-at
-use Rattle.recording.proofs.words_at.Reads as recording·words-at
-use Rattle.recording.proofs.effects_at.Reads as recording·effects-at
-use Rattle.recording.proofs.entries_of.Reads as recording·entries-of
-use Rattle.recording.proofs.width_of.Reads as recording·width-of
-use Rattle.recording.proofs.number_of.Reads as recording·number-of
-use Rattle.recording.proofs.count_ok.Reads as recording·count-ok
+use Rattle.layout.proofs.row_at.Reads as layout·row-at
+use Rattle.layout.proofs.words_at.Reads as layout·words-at
+use Rattle.layout.proofs.effects_at.Reads as layout·effects-at
+use Rattle.layout.proofs.entries_of.Reads as layout·entries-of
+use Rattle.layout.proofs.width_of.Reads as layout·width-of
+use Rattle.layout.proofs.number_of.Reads as layout·number-of
+use Rattle.layout.proofs.count_ok.Reads as layout·count-ok
+use Rattle.layout.proofs.entry_number.Reads as layout·entry-number
 use Rattle.planes.proofs.planes_after.Reads as planes·planes-after
 use Rattle.planes.proofs.changed.Reads as planes·changed
 use Rattle.planes.proofs.code_at.Reads as planes·code-at
@@ -117,28 +118,31 @@ effects-event-at κs = by-equation (effects·event-at.Learnt κs) _ (λ a r e h.
 pub effects-put-record : (κs : Lfts 1) → Unique (effects·put-record.Learnt κs) (λ e. now (e .0))
 effects-put-record κs = by-equations (effects·put-record.Learnt κs) (λ e. now (e .0)) (λ a. tt) _ (λ a r e h. (refl, h))
 
--- ## What stands at a known place, and the table of sections (`recording`)
+-- ## What stands at a known place, and the table of sections (`layout`)
 
-pub recording-row-at : (κs : Lfts 1) → Unique (recording·row-at.Learnt κs) none
-recording-row-at κs = by-equation (recording·row-at.Learnt κs) _ (λ a r e h. h)
+pub layout-row-at : (κs : Lfts 1) → Unique (layout·row-at.Learnt κs) none
+layout-row-at κs = by-equation (layout·row-at.Learnt κs) _ (λ a r e h. h)
 
-pub recording-words-at : (κs : Lfts 1) → Unique (recording·words-at.Learnt κs) none
-recording-words-at κs = by-equation (recording·words-at.Learnt κs) _ (λ a r e h. h)
+pub layout-words-at : (κs : Lfts 1) → Unique (layout·words-at.Learnt κs) none
+layout-words-at κs = by-equation (layout·words-at.Learnt κs) _ (λ a r e h. h)
 
-pub recording-effects-at : (κs : Lfts 1) → Unique (recording·effects-at.Learnt κs) none
-recording-effects-at κs = by-equation (recording·effects-at.Learnt κs) _ (λ a r e h. h)
+pub layout-effects-at : (κs : Lfts 1) → Unique (layout·effects-at.Learnt κs) none
+layout-effects-at κs = by-equation (layout·effects-at.Learnt κs) _ (λ a r e h. h)
 
-pub recording-entries-of : (κs : Lfts 0) → Unique (recording·entries-of.Learnt κs) none
-recording-entries-of κs = by-equation (recording·entries-of.Learnt κs) _ (λ a r e h. h)
+pub layout-entries-of : (κs : Lfts 0) → Unique (layout·entries-of.Learnt κs) none
+layout-entries-of κs = by-equation (layout·entries-of.Learnt κs) _ (λ a r e h. h)
 
-pub recording-width-of : (κs : Lfts 0) → Unique (recording·width-of.Learnt κs) none
-recording-width-of κs = by-equation (recording·width-of.Learnt κs) _ (λ a r e h. h)
+pub layout-width-of : (κs : Lfts 0) → Unique (layout·width-of.Learnt κs) none
+layout-width-of κs = by-equation (layout·width-of.Learnt κs) _ (λ a r e h. h)
 
-pub recording-number-of : (κs : Lfts 0) → Unique (recording·number-of.Learnt κs) none
-recording-number-of κs = by-equation (recording·number-of.Learnt κs) _ (λ a r e h. h)
+pub layout-number-of : (κs : Lfts 0) → Unique (layout·number-of.Learnt κs) none
+layout-number-of κs = by-equation (layout·number-of.Learnt κs) _ (λ a r e h. h)
 
-pub recording-count-ok : (κs : Lfts 0) → Unique (recording·count-ok.Learnt κs) none
-recording-count-ok κs = by-equation (recording·count-ok.Learnt κs) _ (λ a r e h. h)
+pub layout-count-ok : (κs : Lfts 0) → Unique (layout·count-ok.Learnt κs) none
+layout-count-ok κs = by-equation (layout·count-ok.Learnt κs) _ (λ a r e h. h)
+
+pub layout-entry-number : (κs : Lfts 1) → Unique (layout·entry-number.Learnt κs) none
+layout-entry-number κs = by-equation (layout·entry-number.Learnt κs) _ (λ a r e h. h)
 
 -- ## The words of effects (`planes`)
 

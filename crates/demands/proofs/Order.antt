@@ -20,9 +20,9 @@ use Rattle.block.specs.declared.State.{State}
 use Rattle.block.specs.State.{stateOk, stateNumber}
 use Rattle.block.specs.Scan.{scansNumber, inputNumber, once, events, scanNumber}
 use Rattle.block.specs.Held.{run, heldNumber}
-use Rattle.recording.specs.declared.Kind.the-variants.{Rows}
-use Rattle.recording.specs.Sections as sections
-use Rattle.recording.specs.Entries.{putRow}
+use Rattle.layout.specs.declared.Kind.the-variants.{Rows}
+use Rattle.layout.specs.Sections as sections
+use Rattle.layout.specs.Entries.{putRow}
 use Rattle.recording.specs.Encode.{opening}
 use Rattle.writing.specs.Answers.{writtenNumber, writtenPlace, writtenLength}
 use Rattle.writing.specs.Writer.{openingNumber, rowPieceNumber, written, after}

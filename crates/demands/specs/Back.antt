@@ -5,7 +5,7 @@ use mathlib.Core.List.{List, _++_, flatMap}
 use lib.ListN.{length}
 use Rattle.settings.specs.declared.Row.{Row}
 use Rattle.settings.specs.declared.Settings.{Settings}
-use Rattle.recording.specs.Entries.{putRow}
+use Rattle.layout.specs.Entries.{putRow}
 use Rattle.recording.specs.Reader.{reading}
 use Rattle.recording.specs.Answers.{rowCount}
 use Rattle.recording.specs.Steps.{rowsOf}

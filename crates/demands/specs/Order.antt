@@ -19,9 +19,9 @@ use Rattle.block.specs.declared.State.{State}
 use Rattle.block.specs.State.{stateOk}
 use Rattle.block.specs.Scan.{once, events}
 use Rattle.block.specs.Held.{run}
-use Rattle.recording.specs.declared.Kind.the-variants.{Rows}
-use Rattle.recording.specs.Sections as sections
-use Rattle.recording.specs.Entries.{putRow}
+use Rattle.layout.specs.declared.Kind.the-variants.{Rows}
+use Rattle.layout.specs.Sections as sections
+use Rattle.layout.specs.Entries.{putRow}
 use Rattle.recording.specs.Encode.{opening}
 
 -- ## Any table

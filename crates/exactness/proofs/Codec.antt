@@ -11,7 +11,7 @@ use Rattle.bits.proofs.Lists.{length-flatMap}
 use Rattle.bits.proofs.Numbers.{length-digits, digits-num, num-digits}
 use Rattle.bits.specs.Lists.{listOf}
 use Rattle.recording.specs.Encode.{counted, All}
-use Rattle.recording.proofs.Lists.{length-listOf}
+use Rattle.layout.proofs.Lists.{length-listOf}
 use Rattle.recording.proofs.Sections.{Passed, Whole}
 
 -- an entry is read at a place, written as w bytes, and checked: 0 for right

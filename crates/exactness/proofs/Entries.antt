@@ -20,9 +20,9 @@ use Rattle.rules.specs.Limits.{mostDelay, mostHold}
 use Rattle.settings.specs.Right.{blockOk, effectOk, effectNumber, wordsOk, fieldsNumber, apartNumber, severalNumber, wordsNumber, holdNumber, rowNumber}
 use Rattle.settings.specs.Refusals.{orElse}
 use Rattle.settings.proofs.Refusals.{or-else-none, unless-none}
-use Rattle.recording.specs.declared.Kind.the-variants.{Block, Effects, Rows}
-use Rattle.recording.specs.Sections.{widthOf}
-use Rattle.recording.specs.Entries.{BlockEntry, blockAt, blockLayout, blockFields, putBlock, blockCheck, effectAt, effectLayout, effectFields, putEffect, rowAt, wordsAt, rowLayout, rowFields, putRow}
+use Rattle.layout.specs.declared.Kind.the-variants.{Block, Effects, Rows}
+use Rattle.layout.specs.Sections.{widthOf}
+use Rattle.layout.specs.Entries.{BlockEntry, blockAt, blockLayout, blockFields, putBlock, blockCheck, effectAt, effectLayout, effectFields, putEffect, rowAt, wordsAt, rowLayout, rowFields, putRow}
 use Rattle.bits.proofs.Lists.{and-left, and-right}
 use Rattle.exactness.proofs.Codec.{Codec}
 

@@ -13,17 +13,17 @@ use Rattle.settings.specs.declared.Known.{Known}
 use Rattle.settings.specs.declared.Settings.{Settings}
 use Rattle.settings.specs.Right.{knownOf, effectNumber, rowNumber}
 use Rattle.settings.specs.Signals.{noEffect}
-use Rattle.recording.specs.declared.Section.{Section}
-use Rattle.recording.specs.declared.Section.the-variants as S
+use Rattle.layout.specs.declared.Section.{Section}
+use Rattle.layout.specs.declared.Section.the-variants as S
 use Rattle.recording.specs.declared.Answer.the-variants as A
-use Rattle.recording.specs.declared.Kind.the-variants.{Block, Effects, Rows}
-use Rattle.recording.specs.Entries.{BlockEntry, blockAt, blockCheck, effectAt, rowAt, putBlock, putEffect, putRow}
+use Rattle.layout.specs.declared.Kind.the-variants.{Block, Effects, Rows}
+use Rattle.layout.specs.Entries.{BlockEntry, blockAt, blockCheck, effectAt, rowAt, putBlock, putEffect, putRow}
 use Rattle.bits.specs.Lists.{listOf}
-use Rattle.recording.specs.Sections.{widthOf, leastOf, mostOf, sectionOf}
+use Rattle.layout.specs.Sections.{widthOf, leastOf, mostOf, sectionOf}
 use Rattle.recording.specs.Reader.{nothingKnown, knownOfBlock, settingsAt, refusal, reading, afterRows}
 use Rattle.recording.specs.Refused.{ToEnd}
 use Rattle.recording.specs.Encode.{blockOf, effectsOf, counted, encode, openingLength, All, Right}
-use Rattle.recording.proofs.Lists.{length-listOf}
+use Rattle.layout.proofs.Lists.{length-listOf}
 use Rattle.exactness.proofs.Sections.{section-pass}
 use Rattle.exactness.proofs.Codec.{Codec, Back, section-back, section-bytes, all-list, length-counted}
 use Rattle.exactness.proofs.Entries.{Checked, block-causes, block-codec, effect-codec, row-codec}

@@ -13,11 +13,11 @@ use lib.Seq.{length-take-le}
 use Rattle.bits.specs.Numbers.{numAt}
 use Rattle.settings.specs.declared.Known.{Known}
 use Rattle.settings.specs.Right.{knownOf, effectNumber, rowNumber}
-use Rattle.recording.specs.declared.Section.the-variants as S
-use Rattle.recording.specs.declared.Kind.{Kind}
-use Rattle.recording.specs.declared.Kind.the-variants.{Block, Effects, Rows}
-use Rattle.recording.specs.Entries.{blockCheck}
-use Rattle.recording.specs.Sections.{entries, widthOf, leastOf, mostOf, countOk, testOf, sectionOf}
+use Rattle.layout.specs.declared.Section.the-variants as S
+use Rattle.layout.specs.declared.Kind.{Kind}
+use Rattle.layout.specs.declared.Kind.the-variants.{Block, Effects, Rows}
+use Rattle.layout.specs.Entries.{blockCheck}
+use Rattle.layout.specs.Sections.{entries, widthOf, leastOf, mostOf, countOk, testOf, sectionOf}
 use Rattle.recording.specs.Encode.{mostLength}
 use Rattle.recording.specs.Reader.{nothingKnown, knownOfBlock, settingsAt, reading}
 use Rattle.bits.proofs.Lists.{and-right}

@@ -12,8 +12,8 @@ use Rattle.settings.specs.declared.Known.{Known}
 use Rattle.settings.specs.Right.{knownOf, settingsNumber, wordsNumber, rowNumber}
 use Rattle.settings.specs.Signals.{noEffect}
 use Rattle.settings.specs.Zeros.{noWords}
-use Rattle.recording.specs.declared.Kind.the-variants.{Rows}
-use Rattle.recording.specs.Sections.{mostOf}
+use Rattle.layout.specs.declared.Kind.the-variants.{Rows}
+use Rattle.layout.specs.Sections.{mostOf}
 use Rattle.recording.specs.Encode.{encode, leastLength, mostLength, All, Right}
 use Rattle.exactness.proofs.Exact.{length-encode}
 

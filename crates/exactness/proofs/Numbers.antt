@@ -8,7 +8,7 @@ use lib.ListN.{length, take}
 use Rattle.bits.specs.Numbers.{Bytes}
 use Rattle.settings.specs.Right.{knownOf}
 use Rattle.recording.specs.declared.Reading.{Reading}
-use Rattle.recording.specs.declared.Kind.the-variants.{Block, Effects, Rows}
+use Rattle.layout.specs.declared.Kind.the-variants.{Block, Effects, Rows}
 use Rattle.recording.specs.Reader.{nothingKnown, knownOfBlock, settingsAt, refusal, reading}
 use Rattle.recording.specs.Answers.{number, place}
 use Rattle.recording.specs.Encode.{encode}

@@ -14,9 +14,9 @@ use Rattle.settings.specs.declared.Row.{Row}
 use Rattle.settings.specs.Right.{knownOf}
 use Rattle.recording.specs.declared.Reading.{Reading}
 use Rattle.recording.specs.declared.Step.the-variants as T
-use Rattle.recording.specs.declared.Kind.the-variants.{Rows}
-use Rattle.recording.specs.Entries.{rowAt}
-use Rattle.recording.specs.Sections.{widthOf}
+use Rattle.layout.specs.declared.Kind.the-variants.{Rows}
+use Rattle.layout.specs.Entries.{rowAt}
+use Rattle.layout.specs.Sections.{widthOf}
 use Rattle.recording.specs.Reader.{settingsAt, reading}
 use Rattle.recording.specs.Answers.{rowCount, firstRow, rowWidth}
 use Rattle.recording.specs.Steps.{rowIn, isPlace, stepIn, rowsIn}

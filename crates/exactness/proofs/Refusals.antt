@@ -16,20 +16,21 @@ use Rattle.settings.specs.Refusals.{unless, orElse}
 use Rattle.rules.specs.Limits.{mostHold}
 use Rattle.settings.specs.Right.{knownOf, blockOk, effectOk, holdNumber, wordsOk, fieldsNumber, apart, apartNumber, several, severalNumber, wordsNumber, rowNumber}
 use Rattle.bits.specs.Words.{bitOf}
-use Rattle.recording.specs.declared.Section.{Section}
-use Rattle.recording.specs.declared.Section.the-variants as S
+use Rattle.layout.specs.declared.Section.{Section}
+use Rattle.layout.specs.declared.Section.the-variants as S
 use Rattle.recording.specs.declared.Answer.the-variants as A
 use Rattle.recording.specs.declared.Reading.{Reading}
-use Rattle.recording.specs.declared.Kind.{Kind}
-use Rattle.recording.specs.declared.Kind.the-variants.{Block, Effects, Rows}
-use Rattle.recording.specs.Entries.{blockAt, effectAt, rowAt}
-use Rattle.recording.specs.Sections.{entries, section, widthOf, numberOf, countOk, testOf, sectionOf}
+use Rattle.layout.specs.declared.Kind.{Kind}
+use Rattle.layout.specs.declared.Kind.the-variants.{Block, Effects, Rows}
+use Rattle.layout.specs.Entries.{blockAt, effectAt, rowAt}
+use Rattle.layout.specs.Sections.{entries, section, widthOf, numberOf, countOk, testOf, sectionOf}
 use Rattle.recording.specs.Answers.{sectionNumber, sectionPlace}
 use Rattle.recording.specs.Reader.{nothingKnown, knownOfBlock, settingsAt, refusal, reading}
 use Rattle.recording.specs.Refused.{Reached, EntryStops, Stops, ToEnd, Refused}
 use Rattle.recording.proofs.Between.{read-block, read-effects, section-whole, read-rows, left-over}
 use Rattle.recording.proofs.Cases.{reading-cases, acceptance, not-accepted}
-use Rattle.recording.proofs.Sections.{entries-short, entries-bad, entries-step, section-short, section-count, section-entries}
+use Rattle.layout.proofs.Skipped.{entries-step}
+use Rattle.recording.proofs.Sections.{entries-short, entries-bad, section-short, section-count, section-entries}
 
 -- ## Entries
 

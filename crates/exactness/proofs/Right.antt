@@ -15,7 +15,7 @@ use Rattle.settings.specs.declared.Settings.{Settings}
 use Rattle.settings.specs.Right.{knownOf, blockOk, blockNumber, effectOk, effectNumber, countOk, slotOk, effectsNumber, settingsNumber}
 use Rattle.settings.specs.Signals.{noEffect}
 use Rattle.settings.proofs.Refusals.{or-else-none, unless-none}
-use Rattle.recording.specs.Entries.{blockCheck}
+use Rattle.layout.specs.Entries.{blockCheck}
 use Rattle.recording.specs.Encode.{All, blockOf, effectsOf}
 use Rattle.bits.proofs.Lists.{and-left, and-right}
 

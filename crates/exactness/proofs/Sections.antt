@@ -7,8 +7,8 @@ use native.Mathlib.Nat.{mul-suc, mul-zero, add-zero}
 use borrow.Author.Tests.{le-leb}
 use lib.ListN.{length}
 use Rattle.bits.specs.Numbers.{numAt}
-use Rattle.recording.specs.declared.Section.the-variants as S
-use Rattle.recording.specs.Sections.{entries, section}
+use Rattle.layout.specs.declared.Section.the-variants as S
+use Rattle.layout.specs.Sections.{entries, section}
 use Rattle.recording.proofs.Sections.{Whole}
 
 module _ (test : ℕ → ℕ) (w len : ℕ) where

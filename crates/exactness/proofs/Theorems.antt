@@ -13,16 +13,16 @@ use Rattle.settings.specs.declared.Settings.{Settings}
 use Rattle.settings.specs.declared.Known.{Known}
 use Rattle.recording.specs.declared.Answer.the-variants as A
 use Rattle.recording.specs.declared.Reading.{Reading}
-use Rattle.recording.specs.declared.Kind.{Kind}
-use Rattle.recording.specs.declared.Kind.the-variants.{Rows}
-use Rattle.recording.specs.Entries.{rowAt, putRow}
+use Rattle.layout.specs.declared.Kind.{Kind}
+use Rattle.layout.specs.declared.Kind.the-variants.{Rows}
+use Rattle.layout.specs.Entries.{rowAt, putRow}
 use Rattle.recording.specs.Reader.{refusal, reading}
 use Rattle.recording.specs.Answers.{number, place, rowCount, firstRow, rowWidth, sectionNumber, sectionPlace, ended, stepRow, nextPlace}
 use Rattle.settings.specs.Zeros.{noRow}
 use Rattle.recording.specs.Steps.{rowIn, stepAt, rowsOf}
 use Rattle.recording.specs.Accepted.{Accepted, Answers}
 use Rattle.recording.specs.Encode.{encode, opening, openingLength, leastLength, mostLength, Right}
-use Rattle.recording.specs.Sections.{widthOf, sectionOf}
+use Rattle.layout.specs.Sections.{widthOf, sectionOf}
 use Rattle.recording.specs.Refused.{Stops, Refused}
 use Rattle.exactness.proofs.Right.{in-parts}
 use Rattle.exactness.proofs.Places.{same-at-place, row-at-place, row-within, ended-elsewhere as nothing-elsewhere}

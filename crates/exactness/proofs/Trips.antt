@@ -12,14 +12,14 @@ use Rattle.settings.specs.declared.Row.{Row}
 use Rattle.settings.specs.declared.Settings.{Settings}
 use Rattle.recording.specs.declared.Answer.the-variants as A
 use Rattle.recording.specs.declared.Reading.{Reading}
-use Rattle.recording.specs.declared.Kind.the-variants.{Effects}
-use Rattle.recording.specs.Entries.{rowAt, putRow}
+use Rattle.layout.specs.declared.Kind.the-variants.{Effects}
+use Rattle.layout.specs.Entries.{rowAt, putRow}
 use Rattle.recording.specs.Reader.{knownOfBlock, reading}
 use Rattle.recording.specs.Answers.{number, rowCount, firstRow, rowWidth}
 use Rattle.recording.specs.Steps.{rowsIn, rowsOf}
 use Rattle.recording.specs.Encode.{encode, opening, openingLength, Right}
 use Rattle.recording.specs.Refused.{ToEnd}
-use Rattle.recording.proofs.Lists.{length-listOf}
+use Rattle.layout.proofs.Lists.{length-listOf}
 use Rattle.exactness.proofs.Refusals.{Given, file-gives, said-or-accepted}
 use Rattle.recording.proofs.Between.{block-room, section-whole}
 use Rattle.recording.proofs.Cases.{acceptance}

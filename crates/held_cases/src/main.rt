@@ -1,5 +1,5 @@
 // Answers a stream of held cases: 245 bytes each on standard input, a line each on standard output. second/README.md
-// lays both out. It is a test program over `block`, `recording` (for words), `cases` and `streams`: all but the stream may change.
+// lays both out. It is a test program over `block`, `layout` (for words), `cases` and `streams`: all but the stream may change.
 ghost use mathlib.Core.Path.{_≡_};
 ghost use Prim.Native.Nat.{_≤_};
 ghost use lib.ListN.{length};
@@ -11,7 +11,7 @@ fn run(case: &[u8; 245], buf: &mut [u8]) -> Held {
     let st = cases::settings_at(case, 0);
     let x = cases::state_at(case, 101);
     let hold = bits::get32(case, 219);
-    let words = recording::words_at(case, 223);
+    let words = layout::words_at(case, 223);
     cases::fill(buf);
     x.held(st, Row { hold, words }, buf)
 }

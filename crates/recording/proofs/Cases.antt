@@ -10,12 +10,12 @@ use lib.Dec.{eqb}
 use lib.ListN.{length}
 use Rattle.bits.specs.Numbers.{numAt}
 use Rattle.settings.specs.Right.{knownOf}
-use Rattle.recording.specs.declared.Section.{Section}
-use Rattle.recording.specs.declared.Section.the-variants as S
+use Rattle.layout.specs.declared.Section.{Section}
+use Rattle.layout.specs.declared.Section.the-variants as S
 use Rattle.recording.specs.declared.Answer.the-variants as A
 use Rattle.recording.specs.declared.Reading.{Reading}
-use Rattle.recording.specs.declared.Kind.the-variants.{Block, Effects, Rows}
-use Rattle.recording.specs.Sections.{widthOf, sectionOf}
+use Rattle.layout.specs.declared.Kind.the-variants.{Block, Effects, Rows}
+use Rattle.layout.specs.Sections.{widthOf, sectionOf}
 use Rattle.recording.specs.Refused.{ToRows, ToEnd}
 use Rattle.recording.specs.Reader.{fromSection, nothingKnown, knownOfBlock, settingsAt, refusal, reading, afterBlock, afterEffects, afterRows}
 

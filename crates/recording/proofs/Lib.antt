@@ -1,5 +1,3 @@
-pub mod Lists
-pub mod Barred
 pub mod Sections
 pub mod Between
 pub mod Cases

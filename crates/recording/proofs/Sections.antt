@@ -1,10 +1,9 @@
 -- What a section comes to, case by case, for any test of an entry, any width and any count: by recursion on the entries left.
-use mathlib.Core.Path.{_≡_, refl, sym, _∙_}
+use mathlib.Core.Path.{_≡_, refl}
 use mathlib.Core.Bool.{Bool, true, false, _&&_}
 use mathlib.Core.List.{List}
-use Prim.Native.Nat.{ℕ, zero, suc, _+_, _-_, _*_, _≤_, _<_}
+use Prim.Native.Nat.{ℕ, zero, suc, _+_, _*_, _≤_, _<_}
 use native.Mathlib.Omega.{arith}
-use native.Mathlib.Numerals.{add-one, sub-one}
 use native.Mathlib.Nat.{mul-suc, mul-zero, add-zero}
 use borrow.Author.Tests.{le-leb, lt-leb, leb-true}
 use lib.Dec.{leb}
@@ -12,9 +11,8 @@ use lib.ListN.{length}
 use Rattle.bits.specs.Numbers.{numAt}
 use Rattle.bits.proofs.Lists.{and-left, and-right}
 use Rattle.settings.proofs.Refusals.{granted-refused}
-use Rattle.recording.specs.declared.Section.the-variants as S
-use Rattle.recording.specs.Sections.{entries, section}
-use Rattle.recording.specs.Barred.{Skipped}
+use Rattle.layout.specs.declared.Section.the-variants as S
+use Rattle.layout.specs.Sections.{entries, section}
 
 module _ (test : ℕ → ℕ) (w len : ℕ) where
   pub entries-short : (n at : ℕ) → 0 < n → len < at + w → entries test w len n at ≡ S.Refused 1 len
@@ -25,29 +23,9 @@ module _ (test : ℕ → ℕ) (w len : ℕ) where
   entries-bad zero at k p h e b = absurd (omega arith)
   entries-bad (suc n) at k p h e b = rw (le-leb (at + w) len h, ← e) (granted-refused _ (λ number. S.Refused number at) k b)
 
-  pub entries-step : (n at k : ℕ) → 0 < n → at + w ≤ len → k ≡ test at → k ≡ 0 → entries test w len n at ≡ entries test w len (n - 1) (at + w)
-  entries-step zero at k p h e b = absurd (omega arith)
-  entries-step (suc n) at k p h e b = rw (le-leb (at + w) len h, ← e, b, sub-one)
-
   pub entries-none : (n at : ℕ) → n ≤ 0 → entries test w len n at ≡ S.Next at
   entries-none zero at h = refl
   entries-none (suc n) at h = absurd (omega arith)
-
-  -- of n entries none is skipped, and then one more
-  pub none-skipped : (n at : ℕ) → at ≤ len → Skipped test w len n at 0
-  none-skipped n at h =
-      let all : n - 0 ≡ n = omega arith in
-      record { some = omega arith; inside = rw (mul-zero, add-zero) h; same = rw (mul-zero, add-zero, all) }
-
-  pub one-skipped : (n at i : ℕ) → i < n → at + w * i + w ≤ len → test (at + w * i) ≡ 0 → Skipped test w len n at i → Skipped test w len n at (i + 1)
-  one-skipped n at i h k z s =
-      let less : n - (i + 1) ≡ n - i - 1 = omega arith in
-      let place : at + w * (i + 1) ≡ at + w * i + w = rw add-one (omega (arith, mul-suc w i)) in
-      record {
-        some = omega arith;
-        inside = rw place k;
-        same = rw (less, place) (sym (entries-step (n - i) (at + w * i) 0 (omega arith) k (sym z) refl) ∙ s .same);
-      }
 
 module _ (test : ℕ → ℕ) (w lo hi number : ℕ) (s : List ℕ) (at : ℕ) where
   pub section-short : length s < at + 2 → section test w lo hi number s at ≡ S.Refused 1 (length s)

@@ -5,8 +5,8 @@ use mathlib.Core.List.{List}
 use lib.ListN.{length}
 use Rattle.settings.specs.declared.Row.{Row}
 use Rattle.settings.specs.declared.Settings.{Settings}
-use Rattle.recording.specs.declared.Kind.the-variants.{Rows}
-use Rattle.recording.specs.Sections.{widthOf}
+use Rattle.layout.specs.declared.Kind.the-variants.{Rows}
+use Rattle.layout.specs.Sections.{widthOf}
 use Rattle.recording.specs.Encode.{openingLength}
 use Rattle.recording.specs.Reader.{reading}
 use Rattle.recording.specs.Answers.{number, rowCount, firstRow, rowWidth}

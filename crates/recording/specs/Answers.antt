@@ -4,8 +4,8 @@ use Prim.Native.Nat.{ℕ}
 use mathlib.Core.Bool.{Bool, true, false}
 use Rattle.settings.specs.declared.Row.{Row}
 use Rattle.settings.specs.Zeros.{noRow}
-use Rattle.recording.specs.declared.Section.{Section}
-use Rattle.recording.specs.declared.Section.the-variants as S
+use Rattle.layout.specs.declared.Section.{Section}
+use Rattle.layout.specs.declared.Section.the-variants as S
 use Rattle.recording.specs.declared.Answer.{Answer}
 use Rattle.recording.specs.declared.Answer.the-variants as A
 use Rattle.recording.specs.declared.Step.{Step}

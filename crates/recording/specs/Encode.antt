@@ -8,9 +8,9 @@ use Rattle.settings.specs.declared.Effect.{Effect}
 use Rattle.settings.specs.declared.Row.{Row}
 use Rattle.settings.specs.declared.Settings.{Settings}
 use Rattle.settings.specs.Right.{knownOf, settingsNumber, rowNumber}
-use Rattle.recording.specs.declared.Kind.the-variants.{Effects, Rows}
-use Rattle.recording.specs.Sections.{widthOf, leastOf, mostOf}
-use Rattle.recording.specs.Entries.{BlockEntry, putBlock, putEffect, putRow}
+use Rattle.layout.specs.declared.Kind.the-variants.{Effects, Rows}
+use Rattle.layout.specs.Sections.{widthOf, leastOf, mostOf}
+use Rattle.layout.specs.Entries.{BlockEntry, putBlock, putEffect, putRow}
 
 abbrev pub blockOf : Settings → BlockEntry
 blockOf st = record { causes = st .causes; options = st .options; period = st .period }

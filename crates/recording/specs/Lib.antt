@@ -1,9 +1,6 @@
-pub mod Entries
-pub mod Sections
 pub mod Reader
 pub mod Answers
 pub mod Steps
 pub mod Encode
 pub mod Accepted
 pub mod Refused
-pub mod Barred

@@ -10,14 +10,14 @@ use Rattle.settings.specs.declared.Known.{Known}
 use Rattle.settings.specs.Right.{knownOf}
 use Rattle.settings.specs.Signals.{noEffect}
 use Rattle.settings.specs.Zeros.{noSettings}
-use Rattle.recording.specs.declared.Section.{Section}
-use Rattle.recording.specs.declared.Section.the-variants as S
+use Rattle.layout.specs.declared.Section.{Section}
+use Rattle.layout.specs.declared.Section.the-variants as S
 use Rattle.recording.specs.declared.Answer.the-variants as A
 use Rattle.recording.specs.declared.Reading.{Reading}
-use Rattle.recording.specs.declared.Kind.the-variants.{Block, Effects, Rows}
-use Rattle.recording.specs.Entries.{blockAt, effectAt}
+use Rattle.layout.specs.declared.Kind.the-variants.{Block, Effects, Rows}
+use Rattle.layout.specs.Entries.{blockAt, effectAt}
 use Rattle.bits.specs.Lists.{listOf}
-use Rattle.recording.specs.Sections.{widthOf, sectionOf}
+use Rattle.layout.specs.Sections.{widthOf, sectionOf}
 
 -- ## Settings, and what is known of them
 

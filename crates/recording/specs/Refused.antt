@@ -9,10 +9,10 @@ use lib.ListN.{length}
 use Rattle.bits.specs.Numbers.{numAt}
 use Rattle.settings.specs.declared.Known.{Known}
 use Rattle.settings.specs.Right.{knownOf}
-use Rattle.recording.specs.declared.Kind.{Kind}
-use Rattle.recording.specs.declared.Kind.the-variants.{Block, Effects, Rows}
-use Rattle.recording.specs.declared.Section.the-variants.{Next}
-use Rattle.recording.specs.Sections.{widthOf, numberOf, countOk, testOf, sectionOf}
+use Rattle.layout.specs.declared.Kind.{Kind}
+use Rattle.layout.specs.declared.Kind.the-variants.{Block, Effects, Rows}
+use Rattle.layout.specs.declared.Section.the-variants.{Next}
+use Rattle.layout.specs.Sections.{widthOf, numberOf, countOk, testOf, sectionOf}
 use Rattle.recording.specs.Reader.{nothingKnown, knownOfBlock, settingsAt}
 
 -- ## In n entries of w bytes from `at`, in a file of `len` bytes

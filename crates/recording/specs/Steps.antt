@@ -7,13 +7,13 @@ use lib.ListN.{length}
 use Rattle.settings.specs.declared.Row.{Row}
 use Rattle.settings.specs.Refusals.{granted}
 use Rattle.recording.specs.declared.Answer.{Answer}
-use Rattle.recording.specs.declared.Kind.the-variants.{Rows}
+use Rattle.layout.specs.declared.Kind.the-variants.{Rows}
 use Rattle.recording.specs.declared.Step.{Step}
 use Rattle.recording.specs.declared.Step.the-variants as T
-use Rattle.recording.specs.Entries.{rowAt}
+use Rattle.layout.specs.Entries.{rowAt}
 use Rattle.bits.specs.Lists.{listOf}
 use Rattle.recording.specs.Answers.{number, rowCount, firstRow, rowWidth}
-use Rattle.recording.specs.Sections.{widthOf}
+use Rattle.layout.specs.Sections.{widthOf}
 use Rattle.recording.specs.Reader.{reading}
 
 -- in a file that was read and has rows of this width: ended where fewer bytes are left, or the width is no row's

@@ -20,9 +20,9 @@ use Rattle.recording.specs.declared.Answer.the-variants as A
 use Rattle.recording.specs.Answers.{number, place, rowCount, firstRow, rowWidth}
 use Rattle.settings.specs.Zeros.{noRow}
 use Rattle.recording.specs.Encode.{Right}
-use Rattle.recording.specs.declared.Kind.the-variants.{Rows}
+use Rattle.layout.specs.declared.Kind.the-variants.{Rows}
 use Rattle.recording.specs.Reader.{reading}
-use Rattle.recording.specs.Sections.{mostOf}
+use Rattle.layout.specs.Sections.{mostOf}
 use Rattle.recording.specs.Steps.{rowPlace, rowsOf}
 use Rattle.recording.proofs.Cases.{not-accepted}
 use Rattle.exactness.proofs.Theorems.{accepted-case, accepted-is-right}

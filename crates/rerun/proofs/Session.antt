@@ -10,8 +10,8 @@ use Rattle.block.specs.State.{stateNumber}
 use Rattle.block.specs.Scan.{inputNumber, after, events, scanNumber, scanOf}
 use Rattle.block.specs.Held.{run}
 use Rattle.recording.specs.declared.Answer.the-variants.{Accepted}
-use Rattle.recording.specs.Entries.{effectAt, wordsAt, rowAt}
-use Rattle.recording.specs.Sections.{section}
+use Rattle.layout.specs.Entries.{effectAt, wordsAt, rowAt}
+use Rattle.layout.specs.Sections.{section}
 use Rattle.recording.specs.Reader.{reading}
 use Rattle.rerun.specs.Replay.{replay}
 use Rattle.rerun.specs.Session.{session, sessionEvents}

@@ -12,10 +12,10 @@ use Rattle.settings.proofs.Refusals.{limit-kept}
 use Rattle.block.specs.Scan.{scansNumber}
 use Rattle.recording.specs.declared.Answer.the-variants as A
 use Rattle.recording.specs.Answers.{number, rowCount, firstRow, rowWidth}
-use Rattle.recording.specs.Entries.{rowAt}
-use Rattle.recording.specs.declared.Kind.the-variants.{Rows}
+use Rattle.layout.specs.Entries.{rowAt}
+use Rattle.layout.specs.declared.Kind.the-variants.{Rows}
 use Rattle.recording.specs.Reader.{reading}
-use Rattle.recording.specs.Sections.{widthOf}
+use Rattle.layout.specs.Sections.{widthOf}
 use Rattle.recording.specs.Steps.{rowPlace}
 use Rattle.exactness.proofs.Theorems.{row-in-the-file}
 use Rattle.rerun.specs.declared.Stop.{Stop}

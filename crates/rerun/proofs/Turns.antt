@@ -28,10 +28,10 @@ use Rattle.block.proofs.Theorems.{right-input-is-accepted}
 use Rattle.recording.specs.declared.Answer.{Answer}
 use Rattle.recording.specs.declared.Answer.the-variants as A
 use Rattle.recording.specs.Answers.{number, rowCount, firstRow, rowWidth}
-use Rattle.recording.specs.Entries.{rowAt}
-use Rattle.recording.specs.declared.Kind.the-variants.{Rows}
+use Rattle.layout.specs.Entries.{rowAt}
+use Rattle.layout.specs.declared.Kind.the-variants.{Rows}
 use Rattle.recording.specs.Reader.{reading}
-use Rattle.recording.specs.Sections.{widthOf, mostOf}
+use Rattle.layout.specs.Sections.{widthOf, mostOf}
 use Rattle.recording.specs.Steps.{rowPlace}
 use Rattle.exactness.proofs.Theorems.{first-row-after-the-opening, row-in-the-file}
 use Rattle.rerun.specs.declared.Begun.{Begun}

@@ -1,7 +1,7 @@
 // A whole recording, replayed row by row from a fresh state. Document 01, "One session, whole". What the reader has checked
 // is not checked again: settings and rows are right, and so is every state that a replay comes to.
-// It rests on `recording` for the reader and the rows and on `block` for the runs. What is carried from row to row (`Run`, and the
-// array that is lent beside it) may change without moving the contract of `replay`; callers that go row by row see it through `Going`
+// It rests on `recording` for the reader, on `layout` for the rows and on `block` for the runs. What is carried from row to row (`Run`,
+// and the array that is lent beside it) may change without moving the contract of `replay`; callers that go row by row see it through `Going`
 // and the laws of proofs/Turns alone.
 ghost use mathlib.Core.Path.{_≡_};
 ghost use Prim.Native.Nat.{_≤_};
@@ -114,7 +114,7 @@ pub fn row(s: &[u8], run: Run, board: &mut [u32; 64], buf: &mut [u8]) -> Turn
     requires { ⌜ RowReady (now s) run (now board) (length (now buf)) ⌝ }
     ensures { λ r. ⌜ RowDone (now (s .entry)) run (now (buf .entry)) r (now (board .exit)) (now (buf .exit)) ⌝ }
 {
-    let row = recording::row_at(s, run.place);
+    let row = layout::row_at(s, run.place);
     let mark = run.mark;
     let number = block::scans_number(mark.done, row.hold);
     if number != 0 {
@@ -181,7 +181,7 @@ pub fn stop_of(s: &[u8], rows: u16, first: usize, width: usize) -> Stop
     let mut place = first;
     let mut passed = 0;
     while passed < rows {
-        let row = recording::row_at(s, place);
+        let row = layout::row_at(s, place);
         let refusal = block::scans_number(done, row.hold);
         if refusal != 0 {
             return Stop {

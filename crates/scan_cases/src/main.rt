@@ -1,5 +1,5 @@
 // Answers a stream of scan cases: 241 bytes each on standard input, a line each on standard output. second/README.md
-// lays both out. It is a test program over `block`, `recording` (for words), `cases` and `streams`: all but the stream may change.
+// lays both out. It is a test program over `block`, `layout` (for words), `cases` and `streams`: all but the stream may change.
 ghost use Prim.Native.Nat.{_≤_};
 ghost use lib.ListN.{length};
 use block::Scanned;
@@ -7,7 +7,7 @@ use block::Scanned;
 fn run(case: &[u8; 241], buf: &mut [u8]) -> Scanned {
     let st = cases::settings_at(case, 0);
     let x = cases::state_at(case, 101);
-    let w = recording::words_at(case, 219);
+    let w = layout::words_at(case, 219);
     cases::fill(buf);
     x.scan(st, w, buf)
 }

@@ -17,8 +17,8 @@ use Rattle.recording.specs.declared.Step.the-variants as T
 use Rattle.recording.specs.Reader.{reading}
 use Rattle.recording.specs.Answers.{rowCount, firstRow, ended, stepRow, nextPlace}
 use Rattle.settings.specs.Zeros.{noRow}
-use Rattle.recording.specs.declared.Kind.the-variants.{Rows}
-use Rattle.recording.specs.Sections.{widthOf}
+use Rattle.layout.specs.declared.Kind.the-variants.{Rows}
+use Rattle.layout.specs.Sections.{widthOf}
 use Rattle.recording.specs.Steps.{rowPlace, rowsOf}
 use Rattle.exactness.proofs.Theorems.{row-at-its-place, row-in-the-file, ended-elsewhere}
 use Rattle.exactness.proofs.Trips.{length-rowsOf}

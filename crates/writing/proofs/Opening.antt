@@ -17,11 +17,11 @@ use Rattle.settings.specs.Refusals.{unless}
 use Rattle.settings.specs.Right.{settingsNumber}
 use Rattle.settings.proofs.Refusals.{or-else-none}
 use Rattle.settings.proofs.Right.{count-few}
-use Rattle.recording.specs.Entries.{putBlock, putEffect, putRow}
+use Rattle.layout.specs.Entries.{putBlock, putEffect, putRow}
 use Rattle.recording.specs.Encode.{effectsOf, opening, openingLength}
 use Rattle.writing.specs.Writer.{openingNumber}
-use Rattle.recording.specs.declared.Kind.the-variants.{Rows}
-use Rattle.recording.specs.Sections.{widthOf, numberOf, countOk as rowsOk}
+use Rattle.layout.specs.declared.Kind.the-variants.{Rows}
+use Rattle.layout.specs.Sections.{widthOf, numberOf, countOk as rowsOk}
 
 pub opening-count : (st : Settings) (rows : ℕ) → openingNumber st rows ≡ 0 → st .count ≤ 16
 unfolding openingNumber

@@ -10,8 +10,8 @@ use Rattle.settings.specs.declared.Settings.{Settings}
 use Rattle.settings.specs.Refusals.{unless}
 use Rattle.settings.specs.Right.{knownOf, settingsNumber, rowNumber}
 use Rattle.settings.proofs.Refusals.{or-else-none, unless-none}
-use Rattle.recording.specs.declared.Kind.the-variants.{Rows}
-use Rattle.recording.specs.Sections.{leastOf, mostOf, numberOf, countOk}
+use Rattle.layout.specs.declared.Kind.the-variants.{Rows}
+use Rattle.layout.specs.Sections.{leastOf, mostOf, numberOf, countOk}
 use Rattle.recording.specs.Encode.{All, Right}
 use Rattle.writing.specs.Writer.{openingNumber, rowPieceNumber}
 

@@ -6,11 +6,11 @@ use Rattle.settings.specs.declared.Row.{Row}
 use Rattle.settings.specs.declared.Settings.{Settings}
 use Rattle.settings.specs.Refusals.{unless, orElse, granted, roomNumber}
 use Rattle.settings.specs.Right.{knownOf, settingsNumber, rowNumber}
-use Rattle.recording.specs.declared.Kind.the-variants.{Rows}
+use Rattle.layout.specs.declared.Kind.the-variants.{Rows}
 use Rattle.writing.specs.declared.Written.{Written}
 use Rattle.writing.specs.declared.Written.the-variants as W
-use Rattle.recording.specs.Entries.{putRow}
-use Rattle.recording.specs.Sections.{countOk, numberOf}
+use Rattle.layout.specs.Entries.{putRow}
+use Rattle.layout.specs.Sections.{countOk, numberOf}
 use Rattle.recording.specs.Encode.{opening}
 
 -- ## Which number refuses a piece, before its room is looked at

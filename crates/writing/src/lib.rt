@@ -1,18 +1,18 @@
 // The writer: the opening piece and a row, each into a lent buffer. Document 01, "Recordings" and "Refusal numbers". How a piece
-// is put may change without moving a contract, as long as nothing is put before it is known to fit. It rests on `recording`, whose table
-// of sections has the widths, the counts and the numbers, on `settings` and `bits`.
+// is put may change without moving a contract, as long as nothing is put before it is known to fit. It rests on `layout`, whose table
+// of sections has the widths, the counts and the numbers, on `recording` for the definition of the bytes, on `settings` and `bits`.
 ghost use mathlib.Core.Path.{_≡_};
 ghost use mathlib.Core.List.{_∷_, [], flatMap};
 ghost use Prim.Native.Nat.{_+_, _*_, _^_, _≤_, _<_};
 ghost use lib.ListN.{length, take};
 ghost use lib.Seq.{sets};
 ghost use Rattle.bits.specs.Layout.{pack};
-ghost use Rattle.recording.specs.Entries.{putEffect, putRow};
-ghost use Rattle.recording.specs.declared.Kind.the-variants.{Rows};
-ghost use Rattle.recording.specs.Sections.{widthOf};
+ghost use Rattle.layout.specs.Entries.{putEffect, putRow};
+ghost use Rattle.layout.specs.declared.Kind.the-variants.{Rows};
+ghost use Rattle.layout.specs.Sections.{widthOf};
 ghost use Rattle.recording.specs.Encode.{opening, openingLength};
 ghost use Rattle.writing.specs.Writer.{openingNumber, rowPieceNumber, openingWritten, openingAfter, rowWritten, rowAfter};
-use recording::Kind;
+use layout::Kind;
 use settings::Effect;
 use settings::Row;
 use settings::Settings;
@@ -29,7 +29,7 @@ pub enum Written {
 fn effects_section() -> usize
     ensures { λ r. ⌜ r ≡ 6 ⌝ }
 {
-    recording::entries_of(0) + recording::width_of(Kind::Block)
+    layout::entries_of(0) + layout::width_of(Kind::Block)
 }
 
 // The place of entry i, of those from `at` on that are as wide as effects.
@@ -37,7 +37,7 @@ fn effect_place(at: usize, i: usize) -> usize
     requires { ⌜ (i ≤ 16) × (at + 6 * i < 2 ^ 64) ⌝ }
     ensures { λ r. ⌜ r ≡ at + 6 * i ⌝ }
 {
-    at + recording::width_of(Kind::Effects) * i
+    at + layout::width_of(Kind::Effects) * i
 }
 
 // Where the rows section of a file with so many effects starts.
@@ -45,7 +45,7 @@ fn rows_section(count: usize) -> usize
     requires { ⌜ count ≤ 16 ⌝ }
     ensures { λ r. ⌜ r ≡ 8 + 6 * count ⌝ }
 {
-    effect_place(recording::entries_of(effects_section()), count)
+    effect_place(layout::entries_of(effects_section()), count)
 }
 
 // ---- stores
@@ -115,7 +115,7 @@ fn put_block(s: &mut [u8], causes: u8, options: u8, period: u16, count: u16)
     requires { ⌜ 8 ≤ length (now s) ⌝ }
     ensures { λ _. ⌜ now (s .exit) ≡ sets (now (s .entry)) 0 (pack (2 ∷ 1 ∷ 1 ∷ 2 ∷ 2 ∷ []) (1 ∷ causes ∷ options ∷ period ∷ count ∷ [])) ⌝ }
 {
-    let b = recording::entries_of(0);
+    let b = layout::entries_of(0);
     let e = effects_section();
     bits::put16(s, 0, 1);
     bits::put8(s, b, causes);
@@ -133,7 +133,7 @@ fn put_opening(s: &mut [u8], st: Settings, rows: u16)
     let n = st.count as usize;
     let effects = st.effects;
     put_block(s, st.causes, st.options, st.period, st.count as u16);
-    put_effects(s, recording::entries_of(effects_section()), effects, n);
+    put_effects(s, layout::entries_of(effects_section()), effects, n);
     bits::put16(s, rows_section(n), rows);
 }
 
@@ -146,10 +146,10 @@ fn opening_number(st: Settings, rows: u16) -> u8
     if number != 0 {
         return number;
     }
-    if recording::count_ok(Kind::Rows, rows) {
+    if layout::count_ok(Kind::Rows, rows) {
         0
     } else {
-        recording::number_of(Kind::Rows)
+        layout::number_of(Kind::Rows)
     }
 }
 
@@ -174,7 +174,7 @@ pub fn write_opening(st: Settings, rows: u16, out: &mut [u8]) -> Written
     if number != 0 {
         return Written::Refused(number);
     }
-    let due = recording::entries_of(rows_section(st.count as usize));
+    let due = layout::entries_of(rows_section(st.count as usize));
     if out.len() < due {
         return Written::Refused(10);
     }
@@ -191,7 +191,7 @@ pub fn write_row(st: Settings, row: Row, out: &mut [u8]) -> Written
     if number != 0 {
         return Written::Refused(number);
     }
-    let width = recording::width_of(Kind::Rows);
+    let width = layout::width_of(Kind::Rows);
     if out.len() < width {
         return Written::Refused(10);
     }

@@ -1,6 +1,6 @@
 // Answers a stream of writing cases: 129 bytes each on standard input, a line each on standard output, the opening piece
 // and then the row piece, each in a buffer of its own. second/README.md lays both out. It is a test program over `writing`,
-// `recording` (for words), `cases` and `streams`: all but the stream may change.
+// `layout` (for words), `cases` and `streams`: all but the stream may change.
 ghost use Prim.Native.Nat.{_≤_};
 ghost use lib.ListN.{length};
 use settings::Row;
@@ -37,7 +37,7 @@ fn print_row(case: &[u8; 129], buf: &mut [u8]) -> bool
 {
     let st = cases::settings_at(case, 0);
     let hold = bits::get32(case, 103);
-    let words = recording::words_at(case, 107);
+    let words = layout::words_at(case, 107);
     cases::fill(buf);
     let w = writing::write_row(st, Row { hold, words }, buf);
     print(w, buf, b'\n')

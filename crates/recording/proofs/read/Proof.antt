@@ -1,9 +1,9 @@
 -- `recording::read` meets its contract, from what its callees ensure and the tests on the way.
 use Rattle.recording.proofs.Between.{from-refused, left-over, accepted, block-room, WholeOf, section-whole, read-block, read-effects, read-rows}
 use Rattle.recording.specs.Reader.{nothingKnown, knownOfBlock, settingsAt, reading, afterRows}
-use Rattle.recording.specs.Sections.{sectionOf}
-use Rattle.recording.specs.declared.Kind.the-variants.{Block, Effects, Rows}
-use Rattle.recording.specs.declared.Section.the-variants as S
+use Rattle.layout.specs.Sections.{sectionOf}
+use Rattle.layout.specs.declared.Kind.the-variants.{Block, Effects, Rows}
+use Rattle.layout.specs.declared.Section.the-variants as S
 use Rattle.settings.specs.Right.{knownOf}
 use denote.Ref.{now}
 use mathlib.Core.List.{List}

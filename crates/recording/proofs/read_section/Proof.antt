@@ -5,8 +5,9 @@ use native.Mathlib.Omega.{arith}
 use Prim.Native.Nat.{_≤_}
 use mathlib.Core.Path.{_≡_, sym, _∙_}
 use lib.ListN.{length}
-use Rattle.recording.specs.Sections.{entries, widthOf, testOf, sectionOf}
-use Rattle.recording.proofs.Sections.{entries-short, entries-bad, entries-step, entries-none, section-short, section-count, section-entries}
+use Rattle.layout.specs.Sections.{entries, widthOf, testOf, sectionOf}
+use Rattle.layout.proofs.Skipped.{entries-step}
+use Rattle.recording.proofs.Sections.{entries-short, entries-bad, entries-none, section-short, section-count, section-entries}
 use Rattle.recording.proofs.read_section.Statement.{statement}
 use Rattle.recording.proofs.read_section.Tie as tie
 

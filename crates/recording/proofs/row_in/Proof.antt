@@ -6,8 +6,8 @@ use mathlib.Core.Path.{sym, _∙_}
 use native.Mathlib.Omega.{arith}
 use borrow.Author.Tests.{lt-leb, le-leb, eq-eqb, ne-eqb}
 use borrow.Author.Needs.{needs}
-use Rattle.recording.specs.declared.Kind.the-variants.{Rows}
-use Rattle.recording.specs.Sections.{widthOf}
+use Rattle.layout.specs.declared.Kind.the-variants.{Rows}
+use Rattle.layout.specs.Sections.{widthOf}
 use Rattle.recording.proofs.row_in.Statement.{statement}
 use Rattle.recording.proofs.row_in.Tie as tie
 

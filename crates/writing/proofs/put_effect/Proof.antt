@@ -4,7 +4,7 @@ use mathlib.Core.Path.{refl}
 use denote.Ref.{now}
 use Rattle.bits.specs.Numbers.{digits}
 use Rattle.bits.proofs.Numbers.{sets-then}
-use Rattle.recording.specs.Entries.{putEffect}
+use Rattle.layout.specs.Entries.{putEffect}
 use Rattle.writing.proofs.put_effect.Statement.{statement}
 use Rattle.writing.proofs.put_effect.Tie as tie
 

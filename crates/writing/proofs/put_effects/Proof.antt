@@ -9,7 +9,7 @@ use lib.ListN.{length, take, drop, getD}
 use lib.Seq.{sets, length-sets, length-take-le, getD-take}
 use Rattle.settings.specs.Signals.{noEffect}
 use Rattle.bits.proofs.Lists.{store-turn, store-ends}
-use Rattle.recording.specs.Entries.{putEffect}
+use Rattle.layout.specs.Entries.{putEffect}
 use Rattle.writing.proofs.Opening.{effect-length}
 use Rattle.writing.proofs.put_effects.Statement.{statement}
 use Rattle.writing.proofs.put_effects.Tie as tie

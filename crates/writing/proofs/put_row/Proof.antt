@@ -7,7 +7,7 @@ use denote.Ref.{now}
 use Rattle.bits.specs.Numbers.{digits}
 use Rattle.bits.specs.Layout.{pack}
 use Rattle.bits.proofs.Numbers.{sets-then}
-use Rattle.recording.specs.Entries.{putRow}
+use Rattle.layout.specs.Entries.{putRow}
 use Rattle.writing.proofs.put_row.Statement.{statement}
 use Rattle.writing.proofs.put_row.Tie as tie
 

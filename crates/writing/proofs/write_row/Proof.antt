@@ -1,6 +1,6 @@
 -- `writing::write_row` meets its contract, from what its callees ensure and the tests on the way.
 use Rattle.writing.proofs.Opening.{row-length}
-use Rattle.recording.specs.Entries.{putRow}
+use Rattle.layout.specs.Entries.{putRow}
 use mathlib.Core.Path.{sym, _∙_}
 use Rattle.writing.proofs.Pieces.{piece-refused, piece-short, piece-fits}
 use native.Mathlib.Omega.{arith}

@@ -5,8 +5,8 @@ use Prim.Native.Nat.{ℕ, _+_, _*_, _-_, _^_, _≤_}
 use mathlib.Core.Path.{_≡_}
 use Rattle.bits.specs.Words.{bitOf}
 use Rattle.settings.specs.declared.Known.{Known}
-use Rattle.recording.specs.declared.quick.Bars.{Bars}
-use Rattle.recording.specs.Sections.{entries}
+use Rattle.layout.specs.declared.quick.Bars.{Bars}
+use Rattle.layout.specs.Sections.{entries}
 
 -- the bits of a word at n and above
 abbrev pub absentOf : ℕ → ℕ

@@ -1,12 +1,12 @@
--- `recording::quick::absent` meets its contract: a shift by less than 16 is exact, and a word has no bit at 16 or above.
+-- `layout::quick::absent` meets its contract: a shift by less than 16 is exact, and a word has no bit at 16 or above.
 use mathlib.Core.Path.{_≡_}
 use Prim.Native.Nat.{ℕ, _*_, _%_, _^_, _≤_, _<_}
 use native.Mathlib.Nat.{one-mul, mod-eq-of-lt}
 use native.Mathlib.Omega.{arith}
 use lib.Pow.{pow-mono, pow-pos}
 use borrow.Author.Needs.{needs}
-use Rattle.recording.proofs.quick.absent.Statement.{statement}
-use Rattle.recording.proofs.quick.absent.Tie as tie
+use Rattle.layout.proofs.quick.absent.Statement.{statement}
+use Rattle.layout.proofs.quick.absent.Tie as tie
 
 -- what the shift gives
 exact : (n : ℕ) → n < 16 → (1 * 2 ^ n % 2 ^ 64 ≡ 2 ^ n) × (2 ^ n ≤ 65536)

@@ -1,8 +1,8 @@
--- `recording::words_at` meets its contract: its fields are what their readers ensure.
+-- `layout::words_at` meets its contract: its fields are what their readers ensure.
 use borrow.Author.Needs.{needs}
-use Rattle.recording.specs.Entries.{wordsAt}
-use Rattle.recording.proofs.words_at.Statement.{statement}
-use Rattle.recording.proofs.words_at.Tie as tie
+use Rattle.layout.specs.Entries.{wordsAt}
+use Rattle.layout.proofs.words_at.Statement.{statement}
+use Rattle.layout.proofs.words_at.Tie as tie
 
 returns : tie.Need-returns
 unfolding wordsAt

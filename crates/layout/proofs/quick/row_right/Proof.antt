@@ -1,11 +1,11 @@
--- `recording::quick::row_right` meets its contract: the quick test holds exactly if the row's number is 0.
+-- `layout::quick::row_right` meets its contract: the quick test holds exactly if the row's number is 0.
 use denote.Ref.{now}
 use mathlib.Core.Path.{ap₂, _∙_}
 use mathlib.Core.Bool.{_&&_}
 use borrow.Author.Needs.{needs}
-use Rattle.recording.proofs.Barred.{quick-is-number}
-use Rattle.recording.proofs.quick.row_right.Statement.{statement}
-use Rattle.recording.proofs.quick.row_right.Tie as tie
+use Rattle.layout.proofs.Barred.{quick-is-number}
+use Rattle.layout.proofs.quick.row_right.Statement.{statement}
+use Rattle.layout.proofs.quick.row_right.Tie as tie
 
 returns : tie.Need-returns
 returns c k e =

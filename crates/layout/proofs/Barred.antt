@@ -19,9 +19,9 @@ use Rattle.settings.specs.declared.Known.{Known}
 use Rattle.rules.specs.Limits.{mostHold}
 use Rattle.settings.specs.Refusals.{unless, orElse}
 use Rattle.settings.specs.Right.{wordsOk, apart, several, wordsNumber, rowNumber}
-use Rattle.recording.specs.declared.quick.Bars.{Bars}
-use Rattle.recording.specs.Entries.{wordsAt, rowAt}
-use Rattle.recording.specs.Barred.{absentOf, fourOf, barsOf}
+use Rattle.layout.specs.declared.quick.Bars.{Bars}
+use Rattle.layout.specs.Entries.{wordsAt, rowAt}
+use Rattle.layout.specs.Barred.{absentOf, fourOf, barsOf}
 
 -- ## Words that share no bit
 

@@ -1,8 +1,8 @@
--- `recording::passed_quickly` meets its contract, from what its callee ensures and the tests on the way.
+-- `layout::passed_quickly` meets its contract, from what its callee ensures and the tests on the way.
 use borrow.Author.Needs.{needs}
-use Rattle.recording.proofs.Sections.{none-skipped}
-use Rattle.recording.proofs.passed_quickly.Statement.{statement}
-use Rattle.recording.proofs.passed_quickly.Tie as tie
+use Rattle.layout.proofs.Skipped.{none-skipped}
+use Rattle.layout.proofs.passed_quickly.Statement.{statement}
+use Rattle.layout.proofs.passed_quickly.Tie as tie
 
 returns : tie.Need-returns
 returns c = none-skipped _ _ _ _ _ (c .before .before .before .pre)

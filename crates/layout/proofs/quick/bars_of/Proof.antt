@@ -1,10 +1,10 @@
--- `recording::quick::bars_of` meets its contract, field by field, from what its callees ensure.
+-- `layout::quick::bars_of` meets its contract, field by field, from what its callees ensure.
 use mathlib.Core.Path.{ap, ap₂, _∙_}
 use Prim.Native.Nat.{ℕ}
 use borrow.Author.Needs.{needs}
-use Rattle.recording.specs.Barred.{fourOf, barsOf}
-use Rattle.recording.proofs.quick.bars_of.Statement.{statement}
-use Rattle.recording.proofs.quick.bars_of.Tie as tie
+use Rattle.layout.specs.Barred.{fourOf, barsOf}
+use Rattle.layout.proofs.quick.bars_of.Statement.{statement}
+use Rattle.layout.proofs.quick.bars_of.Tie as tie
 
 returns : tie.Need-returns
 unfolding barsOf

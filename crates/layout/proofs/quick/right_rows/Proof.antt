@@ -1,4 +1,4 @@
--- `recording::quick::right_rows` meets its contract. The loop's invariant: by anything known that the masks are made of, the rows
+-- `layout::quick::right_rows` meets its contract. The loop's invariant: by anything known that the masks are made of, the rows
 -- before the place are right.
 use denote.Ref.{now}
 use mathlib.Core.Path.{_≡_, sym, _∙_}
@@ -8,12 +8,12 @@ use lib.ListN.{length}
 use borrow.Author.Needs.{needs}
 use borrow.Author.Tests.{not-false, eqb-true}
 use Rattle.settings.specs.declared.Known.{Known}
-use Rattle.recording.specs.declared.Kind.the-variants.{Rows}
-use Rattle.recording.specs.Sections.{widthOf, testOf}
-use Rattle.recording.specs.Barred.{barsOf, Skipped}
-use Rattle.recording.proofs.Sections.{none-skipped, one-skipped}
-use Rattle.recording.proofs.quick.right_rows.Statement.{statement}
-use Rattle.recording.proofs.quick.right_rows.Tie as tie
+use Rattle.layout.specs.declared.Kind.the-variants.{Rows}
+use Rattle.layout.specs.Sections.{widthOf, testOf}
+use Rattle.layout.specs.Barred.{barsOf, Skipped}
+use Rattle.layout.proofs.Skipped.{none-skipped, one-skipped}
+use Rattle.layout.proofs.quick.right_rows.Statement.{statement}
+use Rattle.layout.proofs.quick.right_rows.Tie as tie
 
 abbrev Inv-loop : tie.InvT-loop
 Inv-loop s n at bars whole i₀ place₀ i place =

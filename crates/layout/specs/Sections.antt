@@ -9,11 +9,11 @@ use Rattle.settings.specs.declared.Known.{Known}
 use Rattle.rules.specs.Limits.{between, mostEffects}
 use Rattle.settings.specs.Refusals.{granted}
 use Rattle.settings.specs.Right.{effectNumber, rowNumber}
-use Rattle.recording.specs.declared.Section.{Section}
-use Rattle.recording.specs.declared.Section.the-variants.{Next, Refused}
-use Rattle.recording.specs.declared.Kind.{Kind}
-use Rattle.recording.specs.declared.Kind.the-variants.{Block, Effects, Rows}
-use Rattle.recording.specs.Entries.{blockAt, blockCheck, effectAt, rowAt}
+use Rattle.layout.specs.declared.Section.{Section}
+use Rattle.layout.specs.declared.Section.the-variants.{Next, Refused}
+use Rattle.layout.specs.declared.Kind.{Kind}
+use Rattle.layout.specs.declared.Kind.the-variants.{Block, Effects, Rows}
+use Rattle.layout.specs.Entries.{blockAt, blockCheck, effectAt, rowAt}
 
 -- ## Any section
 

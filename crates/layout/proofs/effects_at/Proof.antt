@@ -1,4 +1,4 @@
--- `recording::effects_at` meets its contract. The loop's invariant: the first i slots are the effects read, the others empty.
+-- `layout::effects_at` meets its contract. The loop's invariant: the first i slots are the effects read, the others empty.
 use borrow.Author.Needs.{needs}
 use native.Mathlib.Omega.{arith}
 use native.Mathlib.Nat.{add-zero}
@@ -6,12 +6,12 @@ use Prim.Native.Nat.{_≤_, _+_, _*_, _-_}
 use mathlib.Core.Path.{_≡_, refl, sym}
 use mathlib.Core.List.{_++_}
 use lib.ListN.{replicate}
-use Rattle.recording.specs.Entries.{effectAt}
+use Rattle.layout.specs.Entries.{effectAt}
 use Rattle.bits.specs.Lists.{listOf}
 use Rattle.settings.specs.Signals.{noEffect}
-use Rattle.recording.proofs.Lists.{fill-list}
-use Rattle.recording.proofs.effects_at.Statement.{statement}
-use Rattle.recording.proofs.effects_at.Tie as tie
+use Rattle.layout.proofs.Lists.{fill-list}
+use Rattle.layout.proofs.effects_at.Statement.{statement}
+use Rattle.layout.proofs.effects_at.Tie as tie
 
 abbrev Inv-loop : tie.InvT-loop
 Inv-loop s at n effects₀ w i₀ place₀ effects i place =

@@ -1,8 +1,8 @@
--- `recording::entry_number` meets its contract, from what its callees ensure and the tests on the way.
+-- `layout::entry_number` meets its contract, from what its callees ensure and the tests on the way.
 use native.Mathlib.Omega.{arith}
 use borrow.Author.Needs.{needs}
-use Rattle.recording.proofs.entry_number.Statement.{statement}
-use Rattle.recording.proofs.entry_number.Tie as tie
+use Rattle.layout.proofs.entry_number.Statement.{statement}
+use Rattle.layout.proofs.entry_number.Tie as tie
 
 get8-requires : tie.Need-get8-requires
 get8-requires c κs = omega (arith, rw (c .enum-told .given .1) at (c .before .before .before .pre))

@@ -1,0 +1,12 @@
+-- `layout::effect_at` meets its contract, from what its callees ensure and the tests on the way.
+use Rattle.layout.specs.Entries.{effectAt}
+use borrow.Author.Needs.{needs}
+use Rattle.layout.proofs.effect_at.Statement.{statement}
+use Rattle.layout.proofs.effect_at.Tie as tie
+
+returns : tie.Need-returns
+unfolding effectAt
+returns c = cc
+
+pub effect-at-spec : {M : Type 1} → statement M
+effect-at-spec = tie.close (tie.spec (λ c κs. search needs) (λ c. search needs) (λ c κs. search needs) returns)
