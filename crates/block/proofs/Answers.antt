@@ -26,7 +26,7 @@ copied es at space space′ out buf e v l f = f ∙ rw (e, l, front-bytes es spa
 -- ## What input that is not refused tells
 
 module _ (st : Settings) (row : Row) (x : State) (n : ℕ) (is : n ≡ inputNumber st x row) (z : n ≡ 0) where
-  parts : (settingsNumber st ≡ 0) × (stateNumber st x ≡ 0) × (rowNumber (knownOf st) row ≡ 0) × (scansNumber (x .done) (row .hold) ≡ 0)
+  parts : (settingsNumber st ≡ 0) × (stateNumber st x ≡ 0) × (rowNumber (knownOf st) row ≡ 0) × (scansNumber (x .«scans_done») (row .hold) ≡ 0)
   unfolding inputNumber
   parts =
       let a = or-else-none (settingsNumber st) _ (sym is ∙ z) in
@@ -46,5 +46,5 @@ module _ (st : Settings) (row : Row) (x : State) (n : ℕ) (is : n ≡ inputNumb
   pub few : st .count ≤ 16
   few = count-few st settings-right
 
-  pub countable : x .done + row .hold ≤ mostScans
-  countable = leb-true (x .done + row .hold) mostScans (unless-none _ 8 (parts .3))
+  pub countable : x .«scans_done» + row .hold ≤ mostScans
+  countable = leb-true (x .«scans_done» + row .hold) mostScans (unless-none _ 8 (parts .3))

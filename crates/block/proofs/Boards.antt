@@ -32,26 +32,26 @@ use Rattle.block.proofs.RightStates.{slots-right}
 -- an unused slot is that of no effect
 unused : (x : Slot) → slotUnused x ≡ true → x ≡ noSlot
 unused x e =
-    let both = and-left (same (x .state) Tripped && eqb (x .timer) 0) (eqb (x .first) 0) e in
+    let both = and-left (same (x .state) Tripped && eqb (x .timer) 0) (eqb (x .«first_out») 0) e in
     let p = same-eq (x .state) Tripped (and-left (same (x .state) Tripped) (eqb (x .timer) 0) both) in
     let t = eqb-true (x .timer) 0 (and-right (same (x .state) Tripped) (eqb (x .timer) 0) both) in
-    let f = eqb-true (x .first) 0 (and-right (same (x .state) Tripped && eqb (x .timer) 0) (eqb (x .first) 0) e) in
-    λ i. record { state = p i; timer = t i; first = f i }
+    let f = eqb-true (x .«first_out») 0 (and-right (same (x .state) Tripped && eqb (x .timer) 0) (eqb (x .«first_out») 0) e) in
+    λ i. record { state = p i; timer = t i; «first_out» = f i }
 
 -- a right slot rests where it should
 timer-none : (delay : ℕ) (z : Slot) → timerRight delay z ≡ true → same (z .state) Delayed ≡ false → z .timer ≡ 0
 timer-none delay z t e = eqb-true (z .timer) 0 (rw e at t)
 
-first-none : (association : ℕ) (z : Slot) → firstRight association z ≡ true → same (z .state) Normal ≡ true → z .first ≡ 0
-first-none association z t e = eqb-true (z .first) 0 (rw e at t)
+first-none : (association : ℕ) (z : Slot) → firstRight association z ≡ true → same (z .state) Normal ≡ true → z .«first_out» ≡ 0
+first-none association z t e = eqb-true (z .«first_out») 0 (rw e at t)
 
 -- first-out lies inside the association word, so it has 16 bits
-first-lt : (association : ℕ) (z : Slot) → association < 65536 → firstRight association z ≡ true → z .first < 2 ^ 16
+first-lt : (association : ℕ) (z : Slot) → association < 65536 → firstRight association z ≡ true → z .«first_out» < 2 ^ 16
 first-lt association z h t = go (same (z .state) Normal) t
   where
-    go : (b : Bool) → cond b (eqb (z .first) 0) (eqb (bitAnd (z .first) association) (z .first)) ≡ true → z .first < 2 ^ 16
-    go true e = omega (arith, eqb-true (z .first) 0 e)
-    go false e = omega (arith, eqb-true (bitAnd (z .first) association) (z .first) e, and-le-r (z .first) association)
+    go : (b : Bool) → cond b (eqb (z .«first_out») 0) (eqb (bitAnd (z .«first_out») association) (z .«first_out»)) ≡ true → z .«first_out» < 2 ^ 16
+    go true e = omega (arith, eqb-true (z .«first_out») 0 e)
+    go false e = omega (arith, eqb-true (bitAnd (z .«first_out») association) (z .«first_out») e, and-le-r (z .«first_out») association)
 
 zeros-at : (n i : ℕ) → _≡_ {A = ℕ} (getD (replicate n 0) i 0) 0
 zeros-at zero i = refl
@@ -106,12 +106,12 @@ module _ (st : Settings) (x : State) (right : stateNumber st x ≡ 0) (long : le
               (sym (bit-wordOf (λ j. same (z j .state) Delayed) n i k) ∙ e);
         };
         blank = record {
-          long = filled-long (λ i. z i .first) n (replicate 16 0);
-          none = λ i k e. padded-at n (λ j. z j .first) i k
+          long = filled-long (λ i. z i .«first_out») n (replicate 16 0);
+          none = λ i k e. padded-at n (λ j. z j .«first_out») i k
               ∙ first-none (getD (st .effects) i noEffect .association) (z i) (and-right (timerRight (getD (st .effects) i noEffect .delay) (z i)) _ (slot-right settings i k))
               (sym (bit-wordOf (λ j. same (z j .state) Normal) n i k) ∙ e);
         };
-        narrow = padded-narrow n (λ i. z i .first)
+        narrow = padded-narrow n (λ i. z i .«first_out»)
             (λ i k. first-lt (getD (st .effects) i noEffect .association) (z i) (association-lt st settings i k)
             (and-right (timerRight (getD (st .effects) i noEffect .delay) (z i)) _ (slot-right settings i k)));
       }

@@ -1,7 +1,6 @@
 pub mod Answers
 pub mod RightStates
 pub mod Boards
-pub mod Corners
 pub mod Later
 pub mod Stepping
 pub mod Scans

@@ -43,7 +43,7 @@ module _ (n : ℕ) (xs : List Slot) (array : List ℕ) (few : n ≤ partLength) 
   timer i = getD xs i noSlot .timer
 
   abbrev first : ℕ → ℕ
-  first i = getD xs i noSlot .first
+  first i = getD xs i noSlot .«first_out»
 
   abbrev half : List ℕ
   half = sets array timersAt (tabulate timer n)
@@ -96,14 +96,14 @@ module _ (st : Settings) (x : State) (few : st .count ≤ 16) where
   -- the code's answer
   pub loaded : {p : Planes} {array : List ℕ} → p ≡ planesOf (st .count) (λ i. getD (x .slots) i noSlot .state)
       → array ≡ loadedInto (st .count) (x .slots) wired
-      → LoadedAs st x (record { mark = record { done = x .done; next = x .next; at = 0; live = 0; planes = p }; board = array })
+      → LoadedAs st x (record { mark = record { «scans_done» = x .«scans_done»; next = x .next; at = 0; live = 0; planes = p }; board = array })
   unfolding tableOf
   loaded {p} {array} ep ea =
       let n = st .count in
       let et = ap timersIn ea ∙ loaded-timers n (x .slots) wired few long no-timers in
       let ef = ap firstsIn ea ∙ loaded-firsts n (x .slots) wired few long no-firsts in
       record {
-        board-is = λ i. record { done = x .done; next = x .next; at = 0; live = 0; table = table (ep i) (et i) (ef i) };
+        board-is = λ i. record { «scans_done» = x .«scans_done»; next = x .next; at = 0; live = 0; table = table (ep i) (et i) (ef i) };
         associations-are = ap associationsIn ea ∙ loaded-before n (x .slots) wired few long associationsAt (omega arith) ∙ wired-associations st none refl;
         delays-are = ap delaysIn ea ∙ loaded-before n (x .slots) wired few long delaysAt (omega arith) ∙ wired-delays st none refl;
         long = ap length ea ∙ loaded-long n (x .slots) wired few long;
@@ -116,7 +116,7 @@ module _ {st : Settings} {x : State} {l : Loaded} (is : LoadedAs st x l) (row : 
   back = shows st x (state-right st row x _ refl input) sixteen (settings-right st row x _ refl input)
 
   pub shows-state : keptState st (l .mark) (l .board) ≡ x
-  shows-state = ap (reachedBy (st .count)) (is .board-is) ∙ ap (state (x .done) (x .next)) back
+  shows-state = ap (reachedBy (st .count)) (is .board-is) ∙ ap (state (x .«scans_done») (x .next)) back
 
   shows-table : boardAt (l .mark) (l .board) .table ≡ tableOf (st .count) (slotsOf (st .count) (boardAt (l .mark) (l .board) .table))
   shows-table =

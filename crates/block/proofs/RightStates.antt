@@ -71,8 +71,8 @@ module _ (s : Signals) (x : Slot) where
   pub first-keeps : (association : ℕ) → bitAnd (s .active) association ≡ s .active → firstRight association x ≡ true → firstRight association (next s x) ≡ true
   first-keeps a inside r = go (same (stateAfter s x) Normal) (same (x .state) Normal) r
     where
-      go : (b c : Bool) → cond c (eqb (x .first) 0) (eqb (bitAnd (x .first) a) (x .first)) ≡ true
-          → cond b (eqb (cond b 0 (cond c (s .active) (x .first))) 0) (eqb (bitAnd (cond b 0 (cond c (s .active) (x .first))) a) (cond b 0 (cond c (s .active) (x .first)))) ≡ true
+      go : (b c : Bool) → cond c (eqb (x .«first_out») 0) (eqb (bitAnd (x .«first_out») a) (x .«first_out»)) ≡ true
+          → cond b (eqb (cond b 0 (cond c (s .active) (x .«first_out»))) 0) (eqb (bitAnd (cond b 0 (cond c (s .active) (x .«first_out»))) a) (cond b 0 (cond c (s .active) (x .«first_out»)))) ≡ true
       go true c r = refl
       go false true r = eq-eqb _ _ inside
       go false false r = r
@@ -97,11 +97,11 @@ module _ (st : Settings) (x : State) (right : stateNumber st x ≡ 0) where
   state-ok = unless-none _ 7 right
 
   pub slots-right : allFrom (slotOk st) 0 (x .slots) ≡ true
-  slots-right = and-right (leb (x .done) mostScans) _ state-ok
+  slots-right = and-right (leb (x .«scans_done») mostScans) _ state-ok
 
-pub right-state : (st : Settings) (x : State) → x .done ≤ mostScans → allFrom (slotOk st) 0 (x .slots) ≡ true → stateNumber st x ≡ 0
+pub right-state : (st : Settings) (x : State) → x .«scans_done» ≤ mostScans → allFrom (slotOk st) 0 (x .slots) ≡ true → stateNumber st x ≡ 0
 unfolding stateNumber
-right-state st x h a = rw (le-leb (x .done) mostScans h, a)
+right-state st x h a = rw (le-leb (x .«scans_done») mostScans h, a)
 
 module _ (st : Settings) (w : Words) (right : settingsNumber st ≡ 0) (xs : List Slot) (rights : allFrom (slotOk st) 0 xs ≡ true) where
   slot-at : (i : ℕ) → i < length xs → slotOk st i (getD xs i noSlot) ≡ true
@@ -138,7 +138,7 @@ pub fresh-right : (st : Settings) → stateNumber st fresh ≡ 0
 fresh-right st = right-state st fresh (omega arith) (all-replicate (slotOk st) 0 16 noSlot (unused-right st))
 
 -- a scan of a right state gives a right state
-pub scan-keeps-right : (st : Settings) (w : Words) (x : State) → settingsNumber st ≡ 0 → stateNumber st x ≡ 0 → x .done < mostScans
+pub scan-keeps-right : (st : Settings) (w : Words) (x : State) → settingsNumber st ≡ 0 → stateNumber st x ≡ 0 → x .«scans_done» < mostScans
     → stateNumber st (after st w x) ≡ 0
 unfolding after
 scan-keeps-right st w x right ok h =

@@ -40,7 +40,7 @@ use Rattle.block.proofs.Boards.{shows, settled}
 use Rattle.block.proofs.Stepping.{Ready, ready-at, stepped-runs, stepped-done, stepped-effect, stepped-latent, stepped-exercised}
 
 abbrev pub state : ℕ → ℕ → List Slot → State
-state d q xs = record { done = d; next = q; slots = xs }
+state d q xs = record { «scans_done» = d; next = q; slots = xs }
 
 module _ (st : Settings) (row : Row) (x : State) (input : inputNumber st x row ≡ 0) where
   right : settingsNumber st ≡ 0
@@ -75,7 +75,7 @@ module _ (st : Settings) (row : Row) (x : State) (input : inputNumber st x row �
   due-bytes = omega (arith, due-few, few st row x _ refl input)
 
   -- the scans done grow by the hold
-  pub done-is : run st row x .state .done ≡ x .done + row .hold
+  pub done-is : run st row x .state .«scans_done» ≡ x .«scans_done» + row .hold
   unfolding run
   done-is = stepped-done st right (row .hold) (row .words) (start x) ready
 
@@ -188,7 +188,7 @@ module _ {st : Settings} {plan : Plan} {row : Row} {x : Mark} {array : List ℕ}
         → _≡_ {A = Held} (record { number = 0; place = 0; state = s; effect = r .effect; latent = r .latent; records = r .mark .at / recordLength; live = r .mark .live; exercised = v }) (grantedHeld st row at)
     answers s v es ev =
         let gs = es ∙ ap (λ (n : ℕ). reachedBy n (boardAt (r .mark) array′)) (count-of st plan (runs .wired .plan-is)) ∙ ap (λ (q : Stroked). reachedBy (st .count) (q .board)) comes-to
-        ∙ ap (state (end .done) (end .next)) (shows st end (keeps-right st row at (runs .input)) long-after sets-right) in
+        ∙ ap (state (end .«scans_done») (end .next)) (shows st end (keeps-right st row at (runs .input)) long-after sets-right) in
         let gn : r .mark .at / recordLength ≡ length (run st row at .events) = omega (arith, ap (λ (q : Stroked). q .board .at) comes-to) in
         let gi = ap (λ (q : Stroked). q .board .live) comes-to in
         let gv = ev ∙ exercised in

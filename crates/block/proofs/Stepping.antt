@@ -33,12 +33,12 @@ later-again (suc k) w = refl
 -- ## Each single scan is accepted
 
 module _ (st : Settings) (right : settingsNumber st ≡ 0) where
-  input-accepted : (w : Words) (x : State) → wordsNumber (knownOf st) w ≡ 0 → stateNumber st x ≡ 0 → x .done + 1 ≤ mostScans → inputNumber st x (once w) ≡ 0
+  input-accepted : (w : Words) (x : State) → wordsNumber (knownOf st) w ≡ 0 → stateNumber st x ≡ 0 → x .«scans_done» + 1 ≤ mostScans → inputNumber st x (once w) ≡ 0
   unfolding inputNumber
-  input-accepted w x ok state h = rw (right, state, once-right (knownOf st) w ok, le-leb (x .done + 1) mostScans h)
+  input-accepted w x ok state h = rw (right, state, once-right (knownOf st) w ok, le-leb (x .«scans_done» + 1) mostScans h)
 
   -- a scan of a right state and right words, with room, is accepted
-  pub scan-accepted : (w : Words) (x : State) (room : ℕ) → wordsNumber (knownOf st) w ≡ 0 → stateNumber st x ≡ 0 → x .done + 1 ≤ mostScans → 12 * length (events st w x) ≤ room
+  pub scan-accepted : (w : Words) (x : State) (room : ℕ) → wordsNumber (knownOf st) w ≡ 0 → stateNumber st x ≡ 0 → x .«scans_done» + 1 ≤ mostScans → 12 * length (events st w x) ≤ room
       → scanOf st w x room ≡ grantedScan st w x
   unfolding scanOf scanNumber
   scan-accepted w x room ok state h fits =
@@ -48,7 +48,7 @@ module _ (st : Settings) (right : settingsNumber st ≡ 0) where
   pub record Ready (w : Words) (n : ℕ) (x : State) : Type 0 where
     pub words : wordsNumber (knownOf st) w ≡ 0
     pub state : stateNumber st x ≡ 0
-    pub scans : x .done + n ≤ mostScans
+    pub scans : x .«scans_done» + n ≤ mostScans
 
   module _ (w : Words) (n : ℕ) (x : State) (ready : Ready w (suc n) x) where
     pub single-accepted : single st w x ≡ grantedScan st w x
@@ -96,11 +96,11 @@ module _ (st : Settings) (right : settingsNumber st ≡ 0) where
       stepped-latent n (later w) (step st w r) (ready-after w (suc n) (r .state) ready) ∙ rw (signals-later st w) (latent-clear (signals st w))
 
   -- the scans done
-  pub stepped-done : (n : ℕ) (w : Words) (r : Stepped) → Ready w n (r .state) → stepped st w n r .state .done ≡ r .state .done + n
+  pub stepped-done : (n : ℕ) (w : Words) (r : Stepped) → Ready w n (r .state) → stepped st w n r .state .«scans_done» ≡ r .state .«scans_done» + n
   unfolding after
   stepped-done zero w r ready = omega arith
   stepped-done (suc n) w r ready =
-      let one-more : step st w r .state .done ≡ r .state .done + 1 = ap (λ (a : Scanned). a .state .done) (single-accepted w n (r .state) ready) in
+      let one-more : step st w r .state .«scans_done» ≡ r .state .«scans_done» + 1 = ap (λ (a : Scanned). a .state .«scans_done») (single-accepted w n (r .state) ready) in
       omega (arith, stepped-done n (later w) (step st w r) (ready-after w n (r .state) ready), one-more)
 
 -- exercised scans: all of the hold, or none

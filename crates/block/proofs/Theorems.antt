@@ -41,7 +41,7 @@ a-fresh-state-is-right = states.fresh-right
 
 -- a scan of what is right, with room for its records, is accepted, and leaves a right state
 pub a-right-scan-is-accepted : (st : Settings) (w : Words) (x : State) (room : ℕ) → settingsNumber st ≡ 0 → stateNumber st x ≡ 0 → wordsNumber (knownOf st) w ≡ 0
-    → x .done + 1 ≤ mostScans → 12 * length (events st w x) ≤ room
+    → x .«scans_done» + 1 ≤ mostScans → 12 * length (events st w x) ≤ room
     → (scanOf st w x room ≡ grantedScan st w x) × (stateNumber st (scanOf st w x room .state) ≡ 0)
 a-right-scan-is-accepted st w x room right state words scans fits =
     let e = scan-accepted st right w x room words state scans fits in
@@ -50,11 +50,11 @@ a-right-scan-is-accepted st w x room right state words scans fits =
 -- ## Demand 3: a held run
 
 module _ (st : Settings) (row : Row) (x : State) (settings : settingsNumber st ≡ 0) (state : stateNumber st x ≡ 0) (right-row : rowNumber (knownOf st) row ≡ 0)
-    (scans : x .done + row .hold ≤ mostScans) where
+    (scans : x .«scans_done» + row .hold ≤ mostScans) where
   -- nothing refuses it before its room is looked at
   pub right-input-is-accepted : inputNumber st x row ≡ 0
   unfolding inputNumber
-  right-input-is-accepted = rw (settings, state, right-row, le-leb (x .done + row .hold) mostScans scans)
+  right-input-is-accepted = rw (settings, state, right-row, le-leb (x .«scans_done» + row .hold) mostScans scans)
 
   -- every one of its single scans is accepted, where it is lent the room for its records: no 8, 9 or 10 comes in between
   pub every-scan-is-accepted : (k : ℕ) → k < row .hold → (room : ℕ)
@@ -75,10 +75,10 @@ module _ (st : Settings) (row : Row) (x : State) (settings : settingsNumber st �
   )
 
   -- rounds, as many as twice the effects and one, come to those single scans
-  pub rounds-suffice : byRounds (2 * st .count + 1) (signals st (row .words)) (row .hold) (startRun (x .done) (x .next) (x .slots)) ≡ runOf (run st row x)
+  pub rounds-suffice : byRounds (2 * st .count + 1) (signals st (row .words)) (row .hold) (startRun (x .«scans_done») (x .next) (x .slots)) ≡ runOf (run st row x)
   rounds-suffice =
       let ss = signals st (row .words) in
-      let r = startRun (x .done) (x .next) (x .slots) in
+      let r = startRun (x .«scans_done») (x .next) (x .slots) in
       ap (λ (n : ℕ). byRounds (2 * n + 1) ss (row .hold) r) (sym (length-tabulate (signalsOf st (row .words)) (st .count)))
       ∙ one-stroke ss (row .hold) r (signals-timed st (row .words) settings)
       ∙ sym (runs.run-is st row x right-input-is-accepted)
@@ -92,7 +92,7 @@ module _ (st : Settings) (row : Row) (x : State) (settings : settingsNumber st �
   records-fit-384-bytes = runs.due-bytes st row x right-input-is-accepted
 
   -- the scans done grow by the hold
-  pub scans-done-grow-by-the-hold : run st row x .state .done ≡ x .done + row .hold
+  pub scans-done-grow-by-the-hold : run st row x .state .«scans_done» ≡ x .«scans_done» + row .hold
   scans-done-grow-by-the-hold = runs.done-is st row x right-input-is-accepted
 
   -- exercised scans are the hold where some effect's active word is not 0, else 0

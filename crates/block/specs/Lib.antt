@@ -2,4 +2,3 @@ pub mod State
 pub mod Scan
 pub mod Held
 pub mod Run
-pub mod Corners

@@ -17,7 +17,7 @@ use Rattle.engine.specs.Marks.{boardAt, begun}
 use Rattle.settings.specs.declared.Row.{Row}
 use Rattle.settings.specs.declared.Settings.{Settings}
 use Rattle.wiring.specs.declared.Struck.{Struck}
-use Rattle.wiring.specs.Wiring.{causesOf, delaysOf, Wired}
+use Rattle.wiring.specs.Wiring.{associationsOf, delaysOf, Wired}
 use Rattle.block.specs.declared.State.{State}
 use Rattle.block.specs.declared.Scanned.{Scanned}
 use Rattle.block.specs.declared.Held.{Held}
@@ -27,20 +27,20 @@ use Rattle.block.specs.Held.{Stepped, run}
 
 -- the run that starts at a state
 abbrev pub startOf : State → Run
-startOf x = start (x .done) (x .next) (x .slots)
+startOf x = start (x .«scans_done») (x .next) (x .slots)
 
 -- the state that the words have come to
 abbrev pub reachedBy : ℕ → Board → State
-reachedBy n b = record { done = b .done; next = b .next; slots = slotsOf n (b .table) }
+reachedBy n b = record { «scans_done» = b .«scans_done»; next = b .next; slots = slotsOf n (b .table) }
 
 -- the run over lists that single scans have come to
 abbrev pub runOf : Stepped → Run
-runOf r = record { done = r .state .done; next = r .state .next; slots = r .state .slots; events = r .events; live = r .live }
+runOf r = record { «scans_done» = r .state .«scans_done»; next = r .state .next; slots = r .state .slots; events = r .events; live = r .live }
 
 -- what a stroke starts with, at a state
 pub record LoadedAs (st : Settings) (x : State) (r : Loaded) : Type 0 where
   pub board-is : boardAt (r .mark) (r .board) ≡ boardOf (st .count) (startOf x)
-  pub associations-are : associationsIn (r .board) ≡ causesOf st
+  pub associations-are : associationsIn (r .board) ≡ associationsOf st
   pub delays-are : delaysIn (r .board) ≡ delaysOf st
   pub long : length (r .board) ≡ arrayLength
 

@@ -27,7 +27,7 @@ scansNumber done hold = unless (leb (done + hold) mostScans) 9
 unfoldable pub inputNumber : Settings → State → Row → ℕ
 inputNumber st x row =
     orElse (settingsNumber st)
-    (orElse (stateNumber st x) (orElse (rowNumber (knownOf st) row) (scansNumber (x .done) (row .hold))))
+    (orElse (stateNumber st x) (orElse (rowNumber (knownOf st) row) (scansNumber (x .«scans_done») (row .hold))))
 
 -- the records at the front of a lent buffer; bytes past the last record stay as they were
 abbrev pub atFront : List Event → List ℕ → List ℕ
@@ -43,14 +43,14 @@ once w = record { hold = 1; words = w }
 unfoldable pub after : Settings → Words → State → State
 after st w x =
     record {
-      done = x .done + 1;
+      «scans_done» = x .«scans_done» + 1;
       next = seqAfter (x .next) (signals st w) (x .slots);
       slots = steps (signals st w) (x .slots);
     }
 
 -- the events of the scan: the first scan is number 1, and so is the first effect
 unfoldable pub events : Settings → Words → State → List Event
-events st w x = eventsFrom (x .next) (x .done + 1) 1 (signals st w) (x .slots)
+events st w x = eventsFrom (x .next) (x .«scans_done» + 1) 1 (signals st w) (x .slots)
 
 unfoldable pub scanNumber : Settings → Words → State → (room : ℕ) → ℕ
 scanNumber st w x room = orElse (inputNumber st x (once w)) (roomNumber (recordLength * length (events st w x)) room)

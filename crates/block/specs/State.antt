@@ -21,14 +21,14 @@ timerRight delay x = cond (same (x .state) Delayed) (leb 1 (x .timer) && leb (x 
 
 -- first-out lies inside the association word and is 0 in Normal
 abbrev pub firstRight : (association : ℕ) → Slot → Bool
-firstRight association x = cond (same (x .state) Normal) (eqb (x .first) 0) (eqb (bitAnd (x .first) association) (x .first))
+firstRight association x = cond (same (x .state) Normal) (eqb (x .«first_out») 0) (eqb (bitAnd (x .«first_out») association) (x .«first_out»))
 
 abbrev pub slotRight : Effect → Slot → Bool
 slotRight e x = timerRight (e .delay) x && firstRight (e .association) x
 
 -- Tripped, 0, 0
 abbrev pub slotUnused : Slot → Bool
-slotUnused x = same (x .state) Tripped && eqb (x .timer) 0 && eqb (x .first) 0
+slotUnused x = same (x .state) Tripped && eqb (x .timer) 0 && eqb (x .«first_out») 0
 
 -- slot i, from 0, is right; slots past the effect count are unused
 abbrev pub slotOk : Settings → ℕ → Slot → Bool
@@ -37,11 +37,11 @@ slotOk st i x = cond (ltb i (st .count)) (slotRight (getD (st .effects) i noEffe
 -- 0..1,000,000,000 scans done, and all slots are right; that there are sixteen, and that the next sequence number has 16 bits,
 -- is said by the struct's types
 abbrev pub stateOk : Settings → State → Bool
-stateOk st x = leb (x .done) mostScans && allFrom (slotOk st) 0 (x .slots)
+stateOk st x = leb (x .«scans_done») mostScans && allFrom (slotOk st) 0 (x .slots)
 
 unfoldable pub stateNumber : Settings → State → ℕ
 stateNumber st x = unless (stateOk st x) 8
 
 -- a fresh state has every effect Tripped, all numbers 0
 abbrev pub fresh : State
-fresh = record { done = 0; next = 0; slots = replicate 16 noSlot }
+fresh = record { «scans_done» = 0; next = 0; slots = replicate 16 noSlot }

@@ -29,7 +29,7 @@ use wiring::Struck;
 
 // The state of the block: scans done, the next sequence number, and sixteen slots, one for each effect.
 pub struct State {
-    pub done: u32,
+    pub scans_done: u32,
     pub next: u16,
     pub slots: [Slot; 16],
 }
@@ -81,9 +81,9 @@ fn first_right(association: u16, x: Slot) -> bool
 {
     let p = x.state;
     if rules::same(p, EffectState::Normal) {
-        x.first == 0
+        x.first_out == 0
     } else {
-        x.first & association == x.first
+        x.first_out & association == x.first_out
     }
 }
 
@@ -99,7 +99,7 @@ fn slot_unused(x: Slot) -> bool
     ensures { λ r. ⌜ r ≡ slotUnused x ⌝ }
 {
     let p = x.state;
-    rules::same(p, EffectState::Tripped) & (x.timer == 0) & (x.first == 0)
+    rules::same(p, EffectState::Tripped) & (x.timer == 0) & (x.first_out == 0)
 }
 
 // Slot i is right, or unused past the count.
@@ -134,7 +134,7 @@ fn state_number(st: Settings, x: State) -> u8
     ensures { λ r. ⌜ r ≡ stateNumber st x ⌝ }
 {
     let slots = x.slots;
-    if (x.done <= State::MOST_SCANS) & slots_ok(st, slots) {
+    if (x.scans_done <= State::MOST_SCANS) & slots_ok(st, slots) {
         0
     } else {
         8
@@ -170,7 +170,7 @@ fn input_number(st: Settings, x: State, row: Row) -> u8
     if words != 0 {
         return words;
     }
-    scans_number(x.done, row.hold)
+    scans_number(x.scans_done, row.hold)
 }
 
 // ---- a held run
@@ -207,7 +207,7 @@ pub fn load(st: Settings, x: State) -> Loaded
     wiring::wire(&mut board, st);
     let planes = cells::load(&mut board, st.count as usize, slots);
     let mark = Mark {
-        done: x.done,
+        scans_done: x.scans_done,
         next: x.next,
         at: 0,
         live: 0,
@@ -223,7 +223,7 @@ fn reached(board: &[u32; 64], count: usize, mark: Mark) -> State
 {
     let planes = mark.planes;
     State {
-        done: mark.done,
+        scans_done: mark.scans_done,
         next: mark.next,
         slots: cells::slots_of(board, count, planes),
     }
@@ -294,10 +294,10 @@ impl State {
         let x = Slot {
             state: EffectState::Tripped,
             timer: 0,
-            first: 0,
+            first_out: 0,
         };
         Self {
-            done: 0,
+            scans_done: 0,
             next: 0,
             slots: [x; 16],
         }

@@ -24,7 +24,7 @@ use Rattle.rounds.proofs.Held.{due, ranks-first, grows, round-turn, round-falls
 pub record Going (whole : Run) (buf₀ : List ℕ) (ss : List Signals) (r : Run) (buf : List ℕ) (left fuel : ℕ) : Type 0 where
   pub timed : Timed ss
   pub few : r .live + left ≤ mostHold
-  pub room : r .done + left ≤ mostScans
+  pub room : r .«scans_done» + left ≤ mostScans
   pub gives : held ss left r ≡ whole
   pub fuelled : 0 < left → ranks ss (steps ss (r .slots)) < fuel
   pub laid : buf ≡ sets buf₀ 0 (bytes (r .events))

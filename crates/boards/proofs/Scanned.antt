@@ -90,7 +90,7 @@ module _ (size : ℕ) (few : size ≤ 16) (s : ℕ → Signals) (xs : List Slot)
   is = planesOf size (λ i. y i .state)
 
   abbrev firsts : List ℕ
-  firsts = padded size (λ i. y i .first)
+  firsts = padded size (λ i. y i .«first_out»)
 
   abbrev entries : ℕ → List (List ℕ)
   entries n = entriesTo q c ch was is firsts n
@@ -147,7 +147,7 @@ module _ (size : ℕ) (few : size ≤ 16) (s : ℕ → Signals) (xs : List Slot)
               ≡ encode (event (seqAfter q (tabulate s n) xs) c (1 + n) (s n) (x n))
           entry-here =
               let k : n + 1 ≡ 1 + n = omega arith in
-              rw (code-word size (λ i. x i .state) n h, code-word size (λ i. y i .state) n h, padded-at size (λ i. y i .first) n h, k, ← r .number)
+              rw (code-word size (λ i. x i .state) n h, code-word size (λ i. y i .state) n h, padded-at size (λ i. y i .«first_out») n h, k, ← r .number)
       go false e = record {
         count = ap length no ∙ r .count ∙ sym (ap length ev);
         number =

@@ -38,7 +38,7 @@ state-back n f i k =
     ) (named (f i))
 
 abbrev slot : EffectState → ℕ → ℕ → Slot
-slot p t f = record { state = p; timer = t; first = f }
+slot p t f = record { state = p; timer = t; «first_out» = f }
 
 slot-path : {p p′ : EffectState} {t t′ f f′ : ℕ} → p ≡ p′ → t ≡ t′ → f ≡ f′ → slot p t f ≡ slot p′ t′ f′
 slot-path a b c = λ i. slot (a i) (b i) (c i)
@@ -65,7 +65,7 @@ back n few xs pad =
     at : (i : ℕ) → i < n → getD (tabulate (slotAt (tableOf n xs)) n) i noSlot ≡ getD (take n xs) i noSlot
     at i k =
         getD-tabulate (slotAt (tableOf n xs)) n i noSlot k
-        ∙ slot-path (state-back n (λ j. getD xs j noSlot .state) i k) (padded-at n (λ j. getD xs j noSlot .timer) i k) (padded-at n (λ j. getD xs j noSlot .first) i k)
+        ∙ slot-path (state-back n (λ j. getD xs j noSlot .state) i k) (padded-at n (λ j. getD xs j noSlot .timer) i k) (padded-at n (λ j. getD xs j noSlot .«first_out») i k)
         ∙ sym (getD-take n xs i noSlot k)
 
     front : tabulate (slotAt (tableOf n xs)) n ≡ take n xs

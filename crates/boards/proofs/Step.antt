@@ -49,14 +49,14 @@ table-path a b c = λ i. table (a i) (b i) (c i)
 -- ## What the signals of the effects have to be
 
 -- the signals s i see these causes, delays and this period
-pub record Sees (causes delays : List ℕ) (period tripped : ℕ) (s : ℕ → Signals) : Type 0 where
-  pub active : (i : ℕ) → s i .active ≡ activeIn causes tripped i
+pub record Sees (associations delays : List ℕ) (period tripped : ℕ) (s : ℕ → Signals) : Type 0 where
+  pub active : (i : ℕ) → s i .active ≡ activeIn associations tripped i
   pub delay : (i : ℕ) → s i .delay ≡ getD delays i 0
   pub time : (i : ℕ) → s i .period ≡ period
 
 -- ## The scan
 
-module _ (n : ℕ) (few : n ≤ 16) (causes delays : List ℕ) (period tripped : ℕ) (s : ℕ → Signals) (sees : Sees causes delays period tripped s)
+module _ (n : ℕ) (few : n ≤ 16) (associations delays : List ℕ) (period tripped : ℕ) (s : ℕ → Signals) (sees : Sees associations delays period tripped s)
     (xs : List Slot) (long : length xs ≡ 16) where
   abbrev x : ℕ → Slot
   x i = getD xs i noSlot
@@ -88,26 +88,26 @@ module _ (n : ℕ) (few : n ≤ 16) (causes delays : List ℕ) (period tripped :
       )
 
   first-step : (i : ℕ) → i < n
-      → firstBy (padded n (λ j. x j .first)) causes tripped (wordOf (λ j. same (x j .state) Normal) n) (wordOf (λ j. same (y j .state) Normal) n) i ≡ y i .first
+      → firstBy (padded n (λ j. x j .«first_out»)) associations tripped (wordOf (λ j. same (x j .state) Normal) n) (wordOf (λ j. same (y j .state) Normal) n) i ≡ y i .«first_out»
   first-step i k =
       rw (
         bit-wordOf (λ j. same (y j .state) Normal) n i k,
         bit-wordOf (λ j. same (x j .state) Normal) n i k,
-        padded-at n (λ j. x j .first) i k,
+        padded-at n (λ j. x j .«first_out») i k,
         ← sees .active i,
       )
 
   -- the table after the scan, effect by effect
   abbrev middle : Table
-  middle = table (planesOf n (λ i. y i .state)) (padded n (λ i. y i .timer)) (padded n (λ i. y i .first))
+  middle = table (planesOf n (λ i. y i .state)) (padded n (λ i. y i .timer)) (padded n (λ i. y i .«first_out»))
 
-  pub table-middle : tableAfter n causes delays period tripped (askedOf n (λ i. asks (s i))) (tableOf n xs) ≡ middle
+  pub table-middle : tableAfter n associations delays period tripped (askedOf n (λ i. asks (s i))) (tableOf n xs) ≡ middle
   unfolding tableAfter tableOf planesOf
   table-middle =
       rw planes-step
       (table-path refl
       (refilled n (λ i. x i .timer) _ (λ i. y i .timer) timer-step)
-      (refilled n (λ i. x i .first) _ (λ i. y i .first) first-step))
+      (refilled n (λ i. x i .«first_out») _ (λ i. y i .«first_out») first-step))
 
   middle-table : middle ≡ tableOf n (steps (tabulate s n) xs)
   unfolding tableOf
@@ -115,7 +115,7 @@ module _ (n : ℕ) (few : n ≤ 16) (causes delays : List ℕ) (period tripped :
       table-path
       (planesOf-ext n _ _ (λ i k. sym (ap (λ (z : Slot). z .state) (stepped i k))))
       (padded-ext n _ _ (λ i k. sym (ap (λ (z : Slot). z .timer) (stepped i k))))
-      (padded-ext n _ _ (λ i k. sym (ap (λ (z : Slot). z .first) (stepped i k))))
+      (padded-ext n _ _ (λ i k. sym (ap (λ (z : Slot). z .«first_out») (stepped i k))))
 
-  pub table-step : tableAfter n causes delays period tripped (askedOf n (λ i. asks (s i))) (tableOf n xs) ≡ tableOf n (steps (tabulate s n) xs)
+  pub table-step : tableAfter n associations delays period tripped (askedOf n (λ i. asks (s i))) (tableOf n xs) ≡ tableOf n (steps (tabulate s n) xs)
   table-step = table-middle ∙ middle-table

@@ -46,8 +46,8 @@ unset-word : (n : ℕ) (s : ℕ → Signals) → unset (askedOf n (λ i. asks (s
 unfolding askedOf
 unset-word n s = rw (none-word n)
 
-sees-clear : (causes delays : List ℕ) (period tripped : ℕ) (s : ℕ → Signals) → Sees causes delays period tripped s → Sees causes delays period tripped (λ i. clear (s i))
-sees-clear causes delays period tripped s h = record { active = h .active; delay = h .delay; time = h .time }
+sees-clear : (associations delays : List ℕ) (period tripped : ℕ) (s : ℕ → Signals) → Sees associations delays period tripped s → Sees associations delays period tripped (λ i. clear (s i))
+sees-clear associations delays period tripped s h = record { active = h .active; delay = h .delay; time = h .time }
 
 -- ## What a scan and a skip keep
 
@@ -68,12 +68,12 @@ seq-lt q (s ∷ ss) (x ∷ xs) h = seq-lt _ ss xs (go (moved s x))
 -- ## One scan and one skip
 
 abbrev board : (done next at live : ℕ) → Table → Board
-board d q a l t = record { done = d; next = q; at = a; live = l; table = t }
+board d q a l t = record { «scans_done» = d; next = q; at = a; live = l; table = t }
 
 board-path : {d q q′ a a′ l l′ : ℕ} {t t′ : Table} → q ≡ q′ → a ≡ a′ → l ≡ l′ → t ≡ t′ → board d q a l t ≡ board d q′ a′ l′ t′
 board-path {d} e f g h = λ i. board d (e i) (f i) (g i) (h i)
 
-module _ (n : ℕ) (few : n ≤ 16) (causes delays : List ℕ) (period tripped : ℕ) (s : ℕ → Signals) (sees : Sees causes delays period tripped s)
+module _ (n : ℕ) (few : n ≤ 16) (associations delays : List ℕ) (period tripped : ℕ) (s : ℕ → Signals) (sees : Sees associations delays period tripped s)
     (r : Run) (long : length (r .slots) ≡ 16) where
   abbrev T : List Signals
   T = tabulate s n
@@ -87,38 +87,38 @@ module _ (n : ℕ) (few : n ≤ 16) (causes delays : List ℕ) (period tripped :
   abbrev w : Asked
   w = askedOf n (λ i. asks (s i))
 
-  middle : tableAfter n causes delays period tripped w (tableOf n xs)
-      ≡ record { planes = planesOf n (λ i. y i .state); timers = padded n (λ i. y i .timer); firsts = padded n (λ i. y i .first) }
-  middle = table-middle n few causes delays period tripped s sees xs long
+  middle : tableAfter n associations delays period tripped w (tableOf n xs)
+      ≡ record { planes = planesOf n (λ i. y i .state); timers = padded n (λ i. y i .timer); firsts = padded n (λ i. y i .«first_out») }
+  middle = table-middle n few associations delays period tripped s sees xs long
 
-  entries-middle : entriesOf n causes delays period tripped w (boardOf n r)
-      ≡ entriesTo (r .next) (r .done + 1) (wordOf (λ i. moved (s i) (getD xs i noSlot)) n) (planesOf n (λ i. getD xs i noSlot .state)) (planesOf n (λ i. y i .state)) (padded n (λ i. y i .first)) 16
+  entries-middle : entriesOf n associations delays period tripped w (boardOf n r)
+      ≡ entriesTo (r .next) (r .«scans_done» + 1) (wordOf (λ i. moved (s i) (getD xs i noSlot)) n) (planesOf n (λ i. getD xs i noSlot .state)) (planesOf n (λ i. y i .state)) (padded n (λ i. y i .«first_out»)) 16
   unfolding tableOf
   entries-middle = rw (middle, changed-word n few)
 
   module _ (small : r .next < 65536) where
-    pub laid-word : joined (entriesOf n causes delays period tripped w (boardOf n r)) ≡ bytes (due T r)
-    laid-word = ap joined entries-middle ∙ records-word n few s xs long (r .next) (r .done + 1) small .1
+    pub laid-word : joined (entriesOf n associations delays period tripped w (boardOf n r)) ≡ bytes (due T r)
+    laid-word = ap joined entries-middle ∙ records-word n few s xs long (r .next) (r .«scans_done» + 1) small .1
 
-    pub count-word : length (entriesOf n causes delays period tripped w (boardOf n r)) ≡ length (due T r)
-    count-word = ap length entries-middle ∙ records-word n few s xs long (r .next) (r .done + 1) small .0
+    pub count-word : length (entriesOf n associations delays period tripped w (boardOf n r)) ≡ length (due T r)
+    count-word = ap length entries-middle ∙ records-word n few s xs long (r .next) (r .«scans_done» + 1) small .0
 
-    seq-word : (r .next + length (entriesOf n causes delays period tripped w (boardOf n r))) % 2 ^ 16 ≡ seqAfter (r .next) T xs
-    seq-word = ap (λ (l : List (List ℕ)). (r .next + length l) % 2 ^ 16) entries-middle ∙ sym (records-word n few s xs long (r .next) (r .done + 1) small .2)
+    seq-word : (r .next + length (entriesOf n associations delays period tripped w (boardOf n r))) % 2 ^ 16 ≡ seqAfter (r .next) T xs
+    seq-word = ap (λ (l : List (List ℕ)). (r .next + length l) % 2 ^ 16) entries-middle ∙ sym (records-word n few s xs long (r .next) (r .«scans_done» + 1) small .2)
 
-    live-here : not (eqb (changedOf (tableOf n xs .planes) (tableAfter n causes delays period tripped w (tableOf n xs) .planes)) 0) ≡ anyMoved T xs
+    live-here : not (eqb (changedOf (tableOf n xs .planes) (tableAfter n associations delays period tripped w (tableOf n xs) .planes)) 0) ≡ anyMoved T xs
     unfolding tableOf
     live-here = ap (λ (b : Table). not (eqb (changedOf (planesOf n (λ i. getD xs i noSlot .state)) (b .planes)) 0)) middle ∙ live-word n few s xs long
 
-    pub scan-word : scanned n causes delays period tripped w (boardOf n r) ≡ boardOf n (scan T r)
+    pub scan-word : scanned n associations delays period tripped w (boardOf n r) ≡ boardOf n (scan T r)
     unfolding scanned
     scan-word =
         board-path seq-word (omega (arith, count-word, length-append (r .events) (due T r))) (ap (λ (b : Bool). r .live + one b) live-here)
-        (table-step n few causes delays period tripped s sees xs long)
+        (table-step n few associations delays period tripped s sees xs long)
 
   pub skip-word : (k : ℕ) → later k n period (boardOf n r) ≡ boardOf n (skip k T r)
   unfolding later
-  skip-word k = board-path refl refl refl (later-word n few s xs long causes delays period tripped sees k)
+  skip-word k = board-path refl refl refl (later-word n few s xs long associations delays period tripped sees k)
 
 -- the words show no other effects
 within-shown : (n : ℕ) (r : Run) → Within n (boardOf n r .table .planes)
@@ -128,11 +128,11 @@ within-shown n r = (wordOf-lt _ n, wordOf-lt _ n)
 -- ## The loop
 
 -- what the whole run comes to
-abbrev pub whole : (n : ℕ) (causes delays : List ℕ) (period tripped : ℕ) (hold : ℕ) → Asked → Board → Run
-whole n causes delays period tripped hold w x = held (signalsIn n causes delays period tripped w) hold (runOf n x)
+abbrev pub whole : (n : ℕ) (associations delays : List ℕ) (period tripped : ℕ) (hold : ℕ) → Asked → Board → Run
+whole n associations delays period tripped hold w x = held (signalsIn n associations delays period tripped w) hold (runOf n x)
 
 -- at the loop's head: the words are those of signals and slots of which the loop over lists holds
-pub record Kept (n : ℕ) (causes delays : List ℕ) (period tripped hold : ℕ) (w₀ : Asked) (x₀ : Board) (buf₀ : List ℕ)
+pub record Kept (n : ℕ) (associations delays : List ℕ) (period tripped hold : ℕ) (w₀ : Asked) (x₀ : Board) (buf₀ : List ℕ)
     (w : Asked) (x : Board) (buf : List ℕ) (left fuel : ℕ) : Type 0 where
   pub few : n ≤ 16
   pub pos : 0 < period
@@ -140,18 +140,18 @@ pub record Kept (n : ℕ) (causes delays : List ℕ) (period tripped hold : ℕ)
   pub trips : tripped < 2 ^ 16
   pub s : ℕ → Signals
   pub r : Run
-  pub sees : Sees causes delays period tripped s
+  pub sees : Sees associations delays period tripped s
   pub long : length (r .slots) ≡ 16
   pub small : r .next < 65536
   pub asked : w ≡ askedOf n (λ i. asks (s i))
   pub shown : x ≡ boardOf n r
   pub settled : Settled n (x .table)
-  pub going : Going (whole n causes delays period tripped hold w₀ x₀) buf₀ (tabulate s n) r buf left fuel
+  pub going : Going (whole n associations delays period tripped hold w₀ x₀) buf₀ (tabulate s n) r buf left fuel
 
-module _ {n : ℕ} {causes delays : List ℕ} {period tripped hold : ℕ} {w₀ : Asked} {x₀ : Board} {buf₀ : List ℕ}
-    {w : Asked} {x : Board} {buf : List ℕ} {left fuel : ℕ} (h : Kept n causes delays period tripped hold w₀ x₀ buf₀ w x buf left fuel) where
+module _ {n : ℕ} {associations delays : List ℕ} {period tripped hold : ℕ} {w₀ : Asked} {x₀ : Board} {buf₀ : List ℕ}
+    {w : Asked} {x : Board} {buf : List ℕ} {left fuel : ℕ} (h : Kept n associations delays period tripped hold w₀ x₀ buf₀ w x buf left fuel) where
   abbrev all : Run
-  all = whole n causes delays period tripped hold w₀ x₀
+  all = whole n associations delays period tripped hold w₀ x₀
 
   abbrev S : List Signals
   S = tabulate (h .s) n
@@ -163,13 +163,13 @@ module _ {n : ℕ} {causes delays : List ℕ} {period tripped hold : ℕ} {w₀ 
   abbrev q : Run
   q = scan S (h .r)
 
-  scan-here : scanned n causes delays period tripped W (boardOf n (h .r)) ≡ boardOf n q
-  scan-here = scan-word n (h .few) causes delays period tripped (h .s) (h .sees) (h .r) (h .long) (h .small)
+  scan-here : scanned n associations delays period tripped W (boardOf n (h .r)) ≡ boardOf n q
+  scan-here = scan-word n (h .few) associations delays period tripped (h .s) (h .sees) (h .r) (h .long) (h .small)
 
   pub as-long : length buf ≡ length buf₀
   as-long = ap length (h .going .laid) ∙ length-sets buf₀ 0 (bytes (h .r .events))
 
-  pub done-fits : x .done + left ≤ mostScans
+  pub done-fits : x .«scans_done» + left ≤ mostScans
   done-fits = rw (h .shown) (h .going .room)
 
   pub live-fits : x .live + left ≤ mostHold
@@ -179,13 +179,13 @@ module _ {n : ℕ} {causes delays : List ℕ} {period tripped hold : ℕ} {w₀ 
   pub within : Within n (x .table .planes)
   within = rw (h .shown) (within-shown n (h .r))
 
-  pub within-then : Within n (scanned n causes delays period tripped w x .table .planes)
+  pub within-then : Within n (scanned n associations delays period tripped w x .table .planes)
   within-then = rw (h .shown, h .asked, scan-here) (within-shown n q)
 
   -- what rests after it
-  pub settled-scanned : Settled n (scanned n causes delays period tripped w x .table)
+  pub settled-scanned : Settled n (scanned n associations delays period tripped w x .table)
   unfolding scanned
-  settled-scanned = settled-after n causes delays period tripped w (x .table) (h .trips) (h .settled .narrow)
+  settled-scanned = settled-after n associations delays period tripped w (x .table) (h .trips) (h .settled .narrow)
 
   module _ (more : 0 < left) where
     abbrev t : ℕ → Signals
@@ -194,8 +194,8 @@ module _ {n : ℕ} {causes delays : List ℕ} {period tripped hold : ℕ} {w₀ 
     abbrev C : List Signals
     C = tabulate t n
 
-    sees-then : Sees causes delays period tripped t
-    sees-then = sees-clear causes delays period tripped (h .s) (h .sees)
+    sees-then : Sees associations delays period tripped t
+    sees-then = sees-clear associations delays period tripped (h .s) (h .sees)
 
     long-q : length (q .slots) ≡ 16
     long-q = length-steps S (h .r .slots) ∙ h .long
@@ -204,11 +204,11 @@ module _ {n : ℕ} {causes delays : List ℕ} {period tripped hold : ℕ} {w₀ 
     j = quiets (left - 1) C (q .slots)
 
     quiet-here : quietsBy (left - 1) n period (askedOf n (λ i. asks (t i))) (tableOf n (q .slots) .planes) (tableOf n (q .slots) .timers) ≡ j
-    quiet-here = quiets-word n (h .few) t (q .slots) long-q causes delays period tripped sees-then (left - 1) (h .pos) (h .short) (omega (arith, h .going .few))
+    quiet-here = quiets-word n (h .few) t (q .slots) long-q associations delays period tripped sees-then (left - 1) (h .pos) (h .short) (omega (arith, h .going .few))
 
     -- the board after the scan, and the scans that it skips
     abbrev then : Board
-    then = scanned n causes delays period tripped W (boardOf n (h .r))
+    then = scanned n associations delays period tripped W (boardOf n (h .r))
 
     abbrev skips : ℕ
     skips = quietsBy (left - 1) n period (unset W) (then .table .planes) (then .table .timers)
@@ -217,10 +217,10 @@ module _ {n : ℕ} {causes delays : List ℕ} {period tripped hold : ℕ} {w₀ 
     unfolding later
     settled-then = settled-later skips n period (then .table) (rw (h .shown, h .asked) at settled-scanned)
 
-    kept-then : Kept n causes delays period tripped hold w₀ x₀ buf₀ (unset W) (later skips n period then)
-        (sets buf (recordLength * length (h .r .events)) (joined (entriesOf n causes delays period tripped W (boardOf n (h .r))))) (left - 1 - skips) (fuel - 1)
+    kept-then : Kept n associations delays period tripped hold w₀ x₀ buf₀ (unset W) (later skips n period then)
+        (sets buf (recordLength * length (h .r .events)) (joined (entriesOf n associations delays period tripped W (boardOf n (h .r))))) (left - 1 - skips) (fuel - 1)
     kept-then =
-        rw (laid-word n (h .few) causes delays period tripped (h .s) (h .sees) (h .r) (h .long) (h .small), scan-here, unset-word n (h .s), quiet-here)
+        rw (laid-word n (h .few) associations delays period tripped (h .s) (h .sees) (h .r) (h .long) (h .small), scan-here, unset-word n (h .s), quiet-here)
         (record {
           few = h .few;
           pos = h .pos;
@@ -232,21 +232,21 @@ module _ {n : ℕ} {causes delays : List ℕ} {period tripped hold : ℕ} {w₀ 
           long = length-advances j C (q .slots) ∙ long-q;
           small = seq-lt (h .r .next) S (h .r .slots) (h .small);
           asked = refl;
-          shown = skip-word n (h .few) causes delays period tripped t sees-then q long-q j;
+          shown = skip-word n (h .few) associations delays period tripped t sees-then q long-q j;
           settled = rw (scan-here, unset-word n (h .s), quiet-here) at settled-then;
           going = rw (map-tabulate clear (h .s) n) at (turn (h .going) more);
         })
 
-    pub fits : recordLength * length (all .events) ≤ length buf₀ → x .at + recordLength * length (entriesOf n causes delays period tripped w x) ≤ length buf
+    pub fits : recordLength * length (all .events) ≤ length buf₀ → x .at + recordLength * length (entriesOf n associations delays period tripped w x) ≤ length buf
     fits v =
-        rw (h .shown, h .asked, count-word n (h .few) causes delays period tripped (h .s) (h .sees) (h .r) (h .long) (h .small))
+        rw (h .shown, h .asked, count-word n (h .few) associations delays period tripped (h .s) (h .sees) (h .r) (h .long) (h .small))
         (fit (h .going) more v)
 
     -- a turn of the loop, by what the calls in it ensure
     pub turned : {y z : Board} {buf′ : List ℕ} {v : Asked} {k : ℕ}
-        → y ≡ scanned n causes delays period tripped w x → buf′ ≡ sets buf (x .at) (joined (entriesOf n causes delays period tripped w x)) → v ≡ unset w
+        → y ≡ scanned n associations delays period tripped w x → buf′ ≡ sets buf (x .at) (joined (entriesOf n associations delays period tripped w x)) → v ≡ unset w
         → k ≡ quietsBy (left - 1) n period v (y .table .planes) (y .table .timers) → z ≡ later k n period y
-        → Kept n causes delays period tripped hold w₀ x₀ buf₀ v z buf′ (left - 1 - k) (fuel - 1)
+        → Kept n associations delays period tripped hold w₀ x₀ buf₀ v z buf′ (left - 1 - k) (fuel - 1)
     turned ey eb ev ek ez = rw (ez, ek, ev, eb, ey, h .shown, h .asked) kept-then
 
   pub ended : left ≡ 0 → (x ≡ boardOf n all) × (buf ≡ sets buf₀ 0 (bytes (all .events)))
@@ -256,20 +256,20 @@ module _ {n : ℕ} {causes delays : List ℕ} {period tripped hold : ℕ} {w₀ 
 
 -- the run that starts at a board
 abbrev pub fresh : Board → Board
-fresh x = board (x .done) (x .next) 0 0 (x .table)
+fresh x = board (x .«scans_done») (x .next) 0 0 (x .table)
 
 -- the first turn
-pub starts : (n : ℕ) (causes delays : List ℕ) (period tripped hold : ℕ) (w : Asked) (x : Board) (buf : List ℕ) (fuel : ℕ)
-    → n ≤ 16 → 0 < period → period ≤ mostPeriod → tripped < 2 ^ 16 → Right n causes delays period tripped w x → x .next < 65536 → hold ≤ mostHold → x .done + hold ≤ mostScans → 2 * n < fuel
-    → Kept n causes delays period tripped hold w (fresh x) buf w (fresh x) buf hold fuel
+pub starts : (n : ℕ) (associations delays : List ℕ) (period tripped hold : ℕ) (w : Asked) (x : Board) (buf : List ℕ) (fuel : ℕ)
+    → n ≤ 16 → 0 < period → period ≤ mostPeriod → tripped < 2 ^ 16 → Right n associations delays period tripped w x → x .next < 65536 → hold ≤ mostHold → x .«scans_done» + hold ≤ mostScans → 2 * n < fuel
+    → Kept n associations delays period tripped hold w (fresh x) buf w (fresh x) buf hold fuel
 unfolding signalsBy
-starts n causes delays period tripped hold w x buf fuel few pos short trips right small h room f =
+starts n associations delays period tripped hold w x buf fuel few pos short trips right small h room f =
     record {
       few = few;
       pos = pos;
       short = short;
       trips = trips;
-      s = signalsBy causes delays period tripped w;
+      s = signalsBy associations delays period tripped w;
       r = runOf n x;
       sees = record { active = λ i. refl; delay = λ i. refl; time = λ i. refl };
       long = length-slots n few (x .table);
@@ -278,6 +278,6 @@ starts n causes delays period tripped hold w x buf fuel few pos short trips righ
       shown = board-path refl refl refl (right .table .slots);
       settled = right .table .settled;
       going =
-          begins hold (signalsIn n causes delays period tripped w) (x .done) (x .next) (slotsOf n (x .table)) buf fuel
-          (timed-tabulate (signalsBy causes delays period tripped w) n (λ i. (pos, short))) h room (rw length-tabulate f);
+          begins hold (signalsIn n associations delays period tripped w) (x .«scans_done») (x .next) (slotsOf n (x .table)) buf fuel
+          (timed-tabulate (signalsBy associations delays period tripped w) n (λ i. (pos, short))) h room (rw length-tabulate f);
     }

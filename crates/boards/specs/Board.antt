@@ -18,25 +18,25 @@ use Rattle.boards.specs.Table.{Table, activeIn, tableAfter, tableLater, 
 -- how far a run of scans has come: the scans done, the next sequence number, the place after its records, the live scans so far, and
 -- what is kept of the effects
 pub record Board : Type 0 where
-  pub done : ℕ
+  pub «scans_done» : ℕ
   pub next : ℕ
   pub at : ℕ
   pub live : ℕ
   pub table : Table
 
 -- the records of a scan
-abbrev pub entriesOf : (n : ℕ) (causes delays : List ℕ) (period tripped : ℕ) → Asked → Board → List (List ℕ)
-entriesOf n causes delays period tripped w x =
-    let y = tableAfter n causes delays period tripped w (x .table) in
-    entriesTo (x .next) (x .done + 1) (changedOf (x .table .planes) (y .planes)) (x .table .planes) (y .planes) (y .firsts) 16
+abbrev pub entriesOf : (n : ℕ) (associations delays : List ℕ) (period tripped : ℕ) → Asked → Board → List (List ℕ)
+entriesOf n associations delays period tripped w x =
+    let y = tableAfter n associations delays period tripped w (x .table) in
+    entriesTo (x .next) (x .«scans_done» + 1) (changedOf (x .table .planes) (y .planes)) (x .table .planes) (y .planes) (y .firsts) 16
 
 -- one scan more
-unfoldable pub scanned : (n : ℕ) (causes delays : List ℕ) (period tripped : ℕ) → Asked → Board → Board
-scanned n causes delays period tripped w x =
-    let y = tableAfter n causes delays period tripped w (x .table) in
-    let es = entriesOf n causes delays period tripped w x in
+unfoldable pub scanned : (n : ℕ) (associations delays : List ℕ) (period tripped : ℕ) → Asked → Board → Board
+scanned n associations delays period tripped w x =
+    let y = tableAfter n associations delays period tripped w (x .table) in
+    let es = entriesOf n associations delays period tripped w x in
     record {
-      done = x .done + 1;
+      «scans_done» = x .«scans_done» + 1;
       next = (x .next + length es) % 2 ^ 16;
       at = x .at + recordLength * length es;
       live = x .live + one (not (eqb (changedOf (x .table .planes) (y .planes)) 0));
@@ -46,7 +46,7 @@ scanned n causes delays period tripped w x =
 -- k scans that are not live
 unfoldable pub later : (k n period : ℕ) → Board → Board
 later k n period x =
-    record { done = x .done + k; next = x .next; at = x .at; live = x .live; table = tableLater k n period (x .table) }
+    record { «scans_done» = x .«scans_done» + k; next = x .next; at = x .at; live = x .live; table = tableLater k n period (x .table) }
 
 -- what is asked in the scans after the first: the reset counts in the first scan and is zero afterwards
 abbrev pub unset : Asked → Asked
@@ -66,10 +66,10 @@ unset w =
 -- ## What the words show
 
 -- the signals of effect i
-unfoldable pub signalsBy : (causes delays : List ℕ) (period tripped : ℕ) → Asked → ℕ → Signals
-signalsBy causes delays period tripped w i =
+unfoldable pub signalsBy : (associations delays : List ℕ) (period tripped : ℕ) → Asked → ℕ → Signals
+signalsBy associations delays period tripped w i =
     record {
-      active = activeIn causes tripped i;
+      active = activeIn associations tripped i;
       bad = bitOf (w .«bad_trip») i;
       trip = bitOf (w .«force_trip») i;
       normal = bitOf (w .«force_normal») i;
@@ -82,17 +82,17 @@ signalsBy causes delays period tripped w i =
     }
 
 -- and of all
-abbrev pub signalsIn : (n : ℕ) (causes delays : List ℕ) (period tripped : ℕ) → Asked → List Signals
-signalsIn n causes delays period tripped w = tabulate (signalsBy causes delays period tripped w) n
+abbrev pub signalsIn : (n : ℕ) (associations delays : List ℕ) (period tripped : ℕ) → Asked → List Signals
+signalsIn n associations delays period tripped w = tabulate (signalsBy associations delays period tripped w) n
 
 -- the run that starts at a board
 abbrev pub runOf : ℕ → Board → Run
-runOf n x = start (x .done) (x .next) (slotsOf n (x .table))
+runOf n x = start (x .«scans_done») (x .next) (slotsOf n (x .table))
 
 -- the board of a run: its place is after the records of its events
 abbrev pub boardOf : ℕ → Run → Board
 boardOf n r =
-    record { done = r .done; next = r .next; at = recordLength * length (r .events); live = r .live; table = tableOf n (r .slots) }
+    record { «scans_done» = r .«scans_done»; next = r .next; at = recordLength * length (r .events); live = r .live; table = tableOf n (r .slots) }
 
 -- what is kept is that of the slots it shows, and rests where it should
 pub record Shown (n : ℕ) (b : Table) : Type 0 where
@@ -100,6 +100,6 @@ pub record Shown (n : ℕ) (b : Table) : Type 0 where
   pub settled : Settled n b
 
 -- the words are those of what they show
-pub record Right (n : ℕ) (causes delays : List ℕ) (period tripped : ℕ) (w : Asked) (x : Board) : Type 0 where
-  pub asked : w ≡ askedOf n (λ i. asks (signalsBy causes delays period tripped w i))
+pub record Right (n : ℕ) (associations delays : List ℕ) (period tripped : ℕ) (w : Asked) (x : Board) : Type 0 where
+  pub asked : w ≡ askedOf n (λ i. asks (signalsBy associations delays period tripped w i))
   pub table : Shown n (x .table)

@@ -25,11 +25,11 @@ pub record Table : Type 0 where
 -- ## A scan
 
 -- the active word of effect i. tripped: the causes that are tripped and not masked
-abbrev pub activeIn : (causes : List ℕ) (tripped : ℕ) → ℕ → ℕ
-activeIn causes tripped i = bitAnd (getD causes i 0) tripped
+abbrev pub activeIn : (associations : List ℕ) (tripped : ℕ) → ℕ → ℕ
+activeIn associations tripped i = bitAnd (getD associations i 0) tripped
 
-abbrev pub activeAt : (causes : List ℕ) (tripped : ℕ) → ℕ → Bool
-activeAt causes tripped i = ltb 0 (activeIn causes tripped i)
+abbrev pub activeAt : (associations : List ℕ) (tripped : ℕ) → ℕ → Bool
+activeAt associations tripped i = ltb 0 (activeIn associations tripped i)
 
 abbrev pub dueAt : (timers : List ℕ) (period : ℕ) → ℕ → Bool
 dueAt timers period i = leb (getD timers i 0) period
@@ -43,16 +43,16 @@ abbrev pub timerBy : (timers delays : List ℕ) (period was is : ℕ) → ℕ �
 timerBy timers delays period was is i = cond (bitOf is i) (cond (bitOf was i) (getD timers i 0 - period) (getD delays i 0)) 0
 
 -- its first-out. was, is: the effects in Normal before it and after it
-abbrev pub firstBy : (firsts causes : List ℕ) (tripped was is : ℕ) → ℕ → ℕ
-firstBy firsts causes tripped was is i = cond (bitOf is i) 0 (cond (bitOf was i) (activeIn causes tripped i) (getD firsts i 0))
+abbrev pub firstBy : (firsts associations : List ℕ) (tripped was is : ℕ) → ℕ → ℕ
+firstBy firsts associations tripped was is i = cond (bitOf is i) 0 (cond (bitOf was i) (activeIn associations tripped i) (getD firsts i 0))
 
-unfoldable pub tableAfter : (n : ℕ) (causes delays : List ℕ) (period tripped : ℕ) → Asked → Table → Table
-tableAfter n causes delays period tripped w b =
+unfoldable pub tableAfter : (n : ℕ) (associations delays : List ℕ) (period tripped : ℕ) → Asked → Table → Table
+tableAfter n associations delays period tripped w b =
     let after = planesAfter w (wordOf (dueAt (b .timers) period) n) (b .planes) in
     record {
       planes = after;
       timers = tabulate (timerBy (b .timers) delays period (b .planes .delayed) (after .delayed)) n ++ drop n (b .timers);
-      firsts = tabulate (firstBy (b .firsts) causes tripped (b .planes .normal) (after .normal)) n ++ drop n (b .firsts);
+      firsts = tabulate (firstBy (b .firsts) associations tripped (b .planes .normal) (after .normal)) n ++ drop n (b .firsts);
     }
 
 -- ## What rests
@@ -91,12 +91,12 @@ tableOf n xs =
     record {
       planes = planesOf n (λ i. getD xs i noSlot .state);
       timers = padded n (λ i. getD xs i noSlot .timer);
-      firsts = padded n (λ i. getD xs i noSlot .first);
+      firsts = padded n (λ i. getD xs i noSlot .«first_out»);
     }
 
 -- and back
 abbrev pub slotAt : Table → ℕ → Slot
-slotAt b i = record { state = stateAt (b .planes) i; timer = getD (b .timers) i 0; first = getD (b .firsts) i 0 }
+slotAt b i = record { state = stateAt (b .planes) i; timer = getD (b .timers) i 0; «first_out» = getD (b .firsts) i 0 }
 
 unfoldable pub slotsOf : ℕ → Table → List Slot
 slotsOf n b = tabulate (slotAt b) n ++ drop n (replicate 16 noSlot)

@@ -11,11 +11,11 @@ use Rattle.block.specs.declared.Scanned.{Scanned}
 
 -- state code 1, timer 4, first-out 2
 unfoldable pub slotBytes : Slot → List ℕ
-slotBytes x = pack (1 ∷ 4 ∷ 2 ∷ []) (code (x .state) ∷ x .timer ∷ x .first ∷ [])
+slotBytes x = pack (1 ∷ 4 ∷ 2 ∷ []) (code (x .state) ∷ x .timer ∷ x .«first_out» ∷ [])
 
 -- scans done 4, next sequence number 2, and the slots
 unfoldable pub stateBytes : State → List ℕ
-stateBytes x = pack (4 ∷ 2 ∷ []) (x .done ∷ x .next ∷ []) ++ flatMap slotBytes (x .slots)
+stateBytes x = pack (4 ∷ 2 ∷ []) (x .«scans_done» ∷ x .next ∷ []) ++ flatMap slotBytes (x .slots)
 
 -- number 1, place 4, state, effect word 2, latent word 2, number of records 2
 unfoldable pub answerBytes : Scanned → List ℕ

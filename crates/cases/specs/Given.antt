@@ -23,11 +23,11 @@ settingsAt s at =
 
 -- slot i of those that stand from `at` on: state code 1, timer 4, first-out 2. No stream has a code above 5
 unfoldable pub slotAt : List ℕ → ℕ → ℕ → Slot
-slotAt s at i = record { state = stateOf (numAt 1 s (at + 7 * i)); timer = numAt 4 s (at + 7 * i + 1); first = numAt 2 s (at + 7 * i + 5) }
+slotAt s at i = record { state = stateOf (numAt 1 s (at + 7 * i)); timer = numAt 4 s (at + 7 * i + 1); «first_out» = numAt 2 s (at + 7 * i + 5) }
 
 -- scans done 4, next sequence number 2, and sixteen slots
 unfoldable pub stateAt : List ℕ → ℕ → State
-stateAt s at = record { done = numAt 4 s at; next = numAt 2 s (at + 4); slots = tabulate (slotAt s (at + 6)) 16 }
+stateAt s at = record { «scans_done» = numAt 4 s at; next = numAt 2 s (at + 4); slots = tabulate (slotAt s (at + 6)) 16 }
 
 -- byte i of the lent buffer before the call
 abbrev pub fillAt : ℕ → ℕ

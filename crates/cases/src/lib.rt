@@ -45,7 +45,7 @@ fn slot_at(s: &[u8], at: usize, i: usize) -> Slot
     Slot {
         state: rules::state_of(bits::get8(s, at + 7 * i)),
         timer: bits::get32(s, at + 7 * i + 1),
-        first: bits::get16(s, at + 7 * i + 5),
+        first_out: bits::get16(s, at + 7 * i + 5),
     }
 }
 
@@ -56,7 +56,7 @@ fn slots_at(s: &[u8], at: usize) -> [Slot; 16]
     let none = Slot {
         state: EffectState::Tripped,
         timer: 0,
-        first: 0,
+        first_out: 0,
     };
     let mut slots = [none; 16];
     let mut i: usize = 0;
@@ -74,7 +74,7 @@ pub fn state_at(s: &[u8], at: usize) -> State
 {
     let slots = slots_at(s, at + 6);
     State {
-        done: bits::get32(s, at),
+        scans_done: bits::get32(s, at),
         next: bits::get16(s, at + 4),
         slots: slots,
     }
@@ -117,7 +117,7 @@ fn put_slot(out: &mut [u8], at: usize, x: Slot)
     let p = x.state;
     bits::put8(out, at, rules::code(p));
     bits::put32(out, at + 1, x.timer);
-    bits::put16(out, at + 5, x.first);
+    bits::put16(out, at + 5, x.first_out);
 }
 
 // The slots; with the number of their bytes, so that a caller need not show it. So does put_state.
@@ -140,7 +140,7 @@ fn put_state(out: &mut [u8], at: usize, x: State)
     ensures { λ _. ⌜ length (stateBytes x) ≡ 118 ⌝ }
 {
     let slots = x.slots;
-    bits::put32(out, at, x.done);
+    bits::put32(out, at, x.scans_done);
     bits::put16(out, at + 4, x.next);
     put_slots(out, at + 6, slots);
 }

@@ -17,4 +17,4 @@ tableIn p array = record { planes = p; timers = timersIn array; firsts = firstsI
 -- the array with the timers and first-outs of n slots
 unfoldable pub loadedInto : (n : ℕ) → List Slot → (array : List ℕ) → List ℕ
 loadedInto n xs array =
-    sets (sets array timersAt (tabulate (λ i. getD xs i noSlot .timer) n)) firstsAt (tabulate (λ i. getD xs i noSlot .first) n)
+    sets (sets array timersAt (tabulate (λ i. getD xs i noSlot .timer) n)) firstsAt (tabulate (λ i. getD xs i noSlot .«first_out») n)

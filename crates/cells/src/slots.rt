@@ -31,12 +31,12 @@ fn put_timers(board: &mut [u32; 64], count: usize, xs: [Slot; 16])
 // And their first-outs.
 fn put_firsts(board: &mut [u32; 64], count: usize, xs: [Slot; 16])
     requires { ⌜ count ≤ 16 ⌝ }
-    ensures { λ _. ⌜ now (board .exit) ≡ sets (now (board .entry)) firstsAt (tabulate (λ i. getD xs i noSlot .first) count) ⌝ }
+    ensures { λ _. ⌜ now (board .exit) ≡ sets (now (board .entry)) firstsAt (tabulate (λ i. getD xs i noSlot .«first_out») count) ⌝ }
 {
     let mut i: usize = 0;
     while i < count {
         let x = xs[i];
-        board[FIRST_OUTS + i] = x.first as u32;
+        board[FIRST_OUTS + i] = x.first_out as u32;
         i += 1;
     }
 }
@@ -59,7 +59,7 @@ pub fn slots_of(board: &[u32; 64], count: usize, planes: Planes) -> [Slot; 16]
     let none = Slot {
         state: EffectState::Tripped,
         timer: 0,
-        first: 0,
+        first_out: 0,
     };
     let mut xs = [none; 16];
     let mut i: usize = 0;

@@ -38,8 +38,8 @@ use Rattle.block.specs.State.{stateNumber}
 use Rattle.block.specs.Scan.{atFront, after, events, grantedScan, refusedScan, scanOf, scanInto}
 use Rattle.block.specs.Run.{runOf}
 use Rattle.block.specs.Held.{wordsAt, start, single, step, stepped, run, grantedHeld, refusedHeld, heldOf, heldInto}
-use Rattle.block.specs.Corners.{corners, allAgree}
-use Rattle.block.proofs.Corners.{corner-table}
+use Rattle.worked.specs.Corners.{corners, allAgree}
+use Rattle.worked.proofs.Corners.{corner-table}
 use Rattle.block.proofs.Theorems as block
 use Rattle.block.proofs.State.scan.Reads as scan
 use Rattle.block.proofs.State.held.Reads as held
@@ -205,7 +205,7 @@ pub replay-refuses-in-order : (s : List ℕ) → let o = replay s in let r = rep
     ((Accepted s → ⊥) → o ≡ refusedAt (place a) started (number a))
     × (Accepted s
     → ((o .number ≡ 0) × (o .place ≡ 0) × (r .rows ≡ rowCount a))
-    ⊎ ((o .number ≡ 9) × (o .place ≡ rowPlace s (r .rows)) × (r .rows < rowCount a) × (1000000000 < r .state .done + rowOf s (r .rows) .hold)))
+    ⊎ ((o .number ≡ 9) × (o .place ≡ rowPlace s (r .rows)) × (r .rows < rowCount a) × (1000000000 < r .state .«scans_done» + rowOf s (r .rows) .hold)))
 replay-refuses-in-order s = (rerun.a-refused-file-is-not-run s, rerun.whole-or-stopped s)
 
 -- the library's check (`pohandira_check`): the reader's number, whatever the room, and last 10: room below 24 bytes. With that room
@@ -237,7 +237,7 @@ pub record ReplayInOrder (s records totals : List ℕ) (n : ℕ) : Type 0 where
   pub the-readers : (Accepted s → ⊥) → let a = reading s .answer in
       (n ≡ number a) × (replay s .place ≡ place a) × Refused s (number a) (place a)
   pub nine : Accepted s → (replay s .number ≡ 0 → ⊥) → let r = replay s .replay in
-      (n ≡ 9) × (replay s .place ≡ rowPlace s (r .rows)) × (r .rows < rowCount (reading s .answer)) × (1000000000 < r .state .done + rowOf s (r .rows) .hold)
+      (n ≡ 9) × (replay s .place ≡ rowPlace s (r .rows)) × (r .rows < rowCount (reading s .answer)) × (1000000000 < r .state .«scans_done» + rowOf s (r .rows) .hold)
   pub ten : replay s .number ≡ 0 → (length records < 12 * length (replay s .replay .events)) ⊎ (length totals < 56) → (n ≡ 10) × (replay s .place ≡ 0)
   pub whole : replay s .number ≡ 0 → 12 * length (replay s .replay .events) ≤ length records → 56 ≤ length totals → n ≡ 0
   pub no-record : (n ≡ 0 → ⊥) → recordsInto s (length totals) records ≡ records
@@ -280,7 +280,7 @@ pub record ByTheRules (st : Settings) (w : Words) (x : State) (out : List ℕ) (
   -- the states, timers and first-outs: each effect by its own signals and its own slot; the slots past the effects stay
   pub state-of : (i : ℕ) → i < st .count → slot (a .state) i .state ≡ rules.after (signalsOf st w i) (slot x i)
   pub timer-of : (i : ℕ) → i < st .count → slot (a .state) i .timer ≡ rules.timerAt (signalsOf st w i) (slot x i) (slot (a .state) i .state)
-  pub first-out-of : (i : ℕ) → i < st .count → slot (a .state) i .first ≡ rules.firstAt (signalsOf st w i) (slot x i) (slot (a .state) i .state)
+  pub first-out-of : (i : ℕ) → i < st .count → slot (a .state) i .«first_out» ≡ rules.firstAt (signalsOf st w i) (slot x i) (slot (a .state) i .state)
   pub slots-past : (i : ℕ) → st .count ≤ i → slot (a .state) i ≡ slot x i
   -- the output words: a bit for each effect, and no other
   pub effect-word : (i : ℕ) → i < st .count → bitOf (a .effect) i ≡ isOn (slot (a .state) i .state)
@@ -289,12 +289,12 @@ pub record ByTheRules (st : Settings) (w : Words) (x : State) (out : List ℕ) (
   -- the event records, and the bytes past the last as they were
   pub records : (a .records ≡ length (events st w x)) × (after ≡ bytes (events st w x) ++ drop (12 * length (events st w x)) out)
   -- the scans done, and the sequence number: one on for each record, and after 65,535 comes 0
-  pub scans-done : a .state .done ≡ x .done + 1
+  pub scans-done : a .state .«scans_done» ≡ x .«scans_done» + 1
   pub sequence : a .state .next ≡ seqAfter (x .next) (signals st w) (x .slots)
 
 by-the-rules : (st : Settings) (w : Words) (x : State) (out : List ℕ)
     → settingsNumber st ≡ 0 → stateNumber st x ≡ 0 → wordsNumber (knownOf st) w ≡ 0
-    → x .done + 1 ≤ 1000000000 → 12 * length (events st w x) ≤ length out → length (x .slots) ≡ 16
+    → x .«scans_done» + 1 ≤ 1000000000 → 12 * length (events st w x) ≤ length out → length (x .slots) ≡ 16
     → ByTheRules st w x out (scanOf st w x (length out)) (scanInto st w x out)
 by-the-rules st w x out right state words scans fits sixteen =
     let answer = scan-granted st w x out right state words scans fits in
@@ -329,7 +329,7 @@ pub record Demand2 : Type 0 where
   -- one scan of every accepted setting, state and row, with room for its records (a state has sixteen slots, as the array has)
   pub one-scan : (st : Settings) (w : Words) (x : State) (out : List ℕ)
       → settingsNumber st ≡ 0 → stateNumber st x ≡ 0 → wordsNumber (knownOf st) w ≡ 0
-      → x .done + 1 ≤ 1000000000 → 12 * length (events st w x) ≤ length out → length (x .slots) ≡ 16
+      → x .«scans_done» + 1 ≤ 1000000000 → 12 * length (events st w x) ≤ length out → length (x .slots) ≡ 16
       → ByTheRules st w x out (scanOf st w x (length out)) (scanInto st w x out)
   -- P1 to P12
   pub corner-table : allAgree corners ≡ true
@@ -355,7 +355,7 @@ pub demand-3 : (st : Settings) (x : State) (w : Words) (hold : ℕ) (out : List 
     -- for every accepted setting, state and row
     → settingsNumber st ≡ 0 → stateNumber st x ≡ 0 → wordsNumber (knownOf st) w ≡ 0
     -- and every hold of 1 to 1,000,000 scans ending at or before scan 1,000,000,000
-    → 1 ≤ hold → hold ≤ 1000000 → x .done + hold ≤ 1000000000
+    → 1 ≤ hold → hold ≤ 1000000 → x .«scans_done» + hold ≤ 1000000000
     -- with room for its records, where r is what stepping those scans singly gives
     → let r = stepped st w hold (start x) in 12 * length (r .events) ≤ length out
     -- the one-stroke answer
@@ -404,8 +404,8 @@ demand-3 st x w hold out right state words some most scans fits =
 -- before the next live one or the end, come to those single scans. That the code goes so is the loop of `engine::stroke` and its falling
 -- number
 pub one-stroke-is-by-rounds : (st : Settings) (x : State) (w : Words) (hold : ℕ)
-    → settingsNumber st ≡ 0 → stateNumber st x ≡ 0 → wordsNumber (knownOf st) w ≡ 0 → 1 ≤ hold → hold ≤ 1000000 → x .done + hold ≤ 1000000000
-    → byRounds (2 * st .count + 1) (signals st w) hold (startRun (x .done) (x .next) (x .slots)) ≡ runOf (stepped st w hold (start x))
+    → settingsNumber st ≡ 0 → stateNumber st x ≡ 0 → wordsNumber (knownOf st) w ≡ 0 → 1 ≤ hold → hold ≤ 1000000 → x .«scans_done» + hold ≤ 1000000000
+    → byRounds (2 * st .count + 1) (signals st w) hold (startRun (x .«scans_done») (x .next) (x .slots)) ≡ runOf (stepped st w hold (start x))
 unfolding run
 one-stroke-is-by-rounds st x w hold right state words some most scans =
     block.rounds-suffice st (for hold w) x right state (row-accepted (knownOf st) w hold words some most) scans

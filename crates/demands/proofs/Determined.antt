@@ -64,7 +64,7 @@ module _ {xs ys : List ℕ} (long : length xs ≡ arrayLength) (long′ : length
 
 -- and so is the mark
 markOf : Board → Mark
-markOf b = record { done = b .done; next = b .next; at = b .at; live = b .live; planes = b .table .planes }
+markOf b = record { «scans_done» = b .«scans_done»; next = b .next; at = b .at; live = b .live; planes = b .table .planes }
 
 pub same-mark : {x y : Mark} (xs ys : List ℕ) → boardAt x xs ≡ boardAt y ys → x ≡ y
 unfolding markOf
@@ -72,7 +72,7 @@ same-mark xs ys e = ap markOf e
 
 -- where the board is that of the run that starts there, with its records and live scans beside
 endedBy : Mark → (at live : ℕ) → Mark
-endedBy x at live = record { done = x .done; next = x .next; at = at; live = live; planes = x .planes }
+endedBy x at live = record { «scans_done» = x .«scans_done»; next = x .next; at = at; live = live; planes = x .planes }
 
 pub same-end : {x y : Mark} (xs ys : List ℕ) → boardAt (begun x) xs ≡ boardAt (begun y) ys → x .at ≡ y .at → x .live ≡ y .live → x ≡ y
 unfolding endedBy

@@ -119,8 +119,8 @@ pub state-in-order : (st : Settings) (x : State) → Table (stateNumber st x) (s
 unfolding stateNumber
 state-in-order st x = check (stateOk st x) 7
 
-pub scans-in-order : (x : State) (row : Row) → Table (scansNumber (x .done) (row .hold)) (scansCases x row)
-scans-in-order x row = beyond (x .done + row .hold) mostScans 8
+pub scans-in-order : (x : State) (row : Row) → Table (scansNumber (x .«scans_done») (row .hold)) (scansCases x row)
+scans-in-order x row = beyond (x .«scans_done» + row .hold) mostScans 8
 
 -- ## The order at each entry point
 

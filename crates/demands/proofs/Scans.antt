@@ -54,7 +54,7 @@ module _ (st : Settings) (w : Words) where
 
 -- a scan of what is right, with room for its records, is granted
 pub scan-granted : (st : Settings) (w : Words) (x : State) (out : List ℕ) → settingsNumber st ≡ 0 → stateNumber st x ≡ 0 → wordsNumber (knownOf st) w ≡ 0
-    → x .done + 1 ≤ mostScans → 12 * length (events st w x) ≤ length out
+    → x .«scans_done» + 1 ≤ mostScans → 12 * length (events st w x) ≤ length out
     → (scanOf st w x (length out) ≡ grantedScan st w x) × (scanInto st w x out ≡ atFront (events st w x) out)
 unfolding scanOf scanInto scanNumber
 scan-granted st w x out right state words scans fits =

@@ -75,7 +75,7 @@ stateCases st x = 8 when not (stateOk st x) ∷ []
 
 -- 9: scans done plus hold above 1,000,000,000
 abbrev pub scansCases : State → Row → List Case
-scansCases x row = 9 when ltb mostScans (x .done + row .hold) ∷ []
+scansCases x row = 9 when ltb mostScans (x .«scans_done» + row .hold) ∷ []
 
 -- 10: room below so many bytes
 abbrev pub roomCases : (needed room : ℕ) → List Case

@@ -43,7 +43,7 @@ pub event-encoded : (e : Event) (p q : List ℕ) (at : ℕ) → at ≡ length p 
 unfolding encode eventAt
 event-encoded e p q at h =
     let s = p ++ (encode e ++ q) in
-    let vs = e .seq ∷ e .scan ∷ e .effect ∷ code (e .from) ∷ code (e .to) ∷ 0 ∷ e .first ∷ [] in
+    let vs = e .seq ∷ e .scan ∷ e .effect ∷ code (e .from) ∷ code (e .to) ∷ 0 ∷ e .«first_out» ∷ [] in
     let f =
     fields-spelled recordLayout vs p q at 0 (omega arith)
     ((λ z. omega arith), ((λ z. omega arith), ((λ z. omega arith), ((λ z. omega arith), ((λ z. omega arith), ((λ z. refl), ((λ z. omega arith), tt)))))))
@@ -53,7 +53,7 @@ event-encoded e p q at h =
     let effect : numAt 1 s (at + 6) ≡ e .effect = ap (λ (l : List ℕ). getD l 2 0) f in
     let from : stateOf (numAt 1 s (at + 7)) ≡ e .from = ap (λ (l : List ℕ). stateOf (getD l 3 0)) f ∙ state-of-code (e .from) in
     let to : stateOf (numAt 1 s (at + 8)) ≡ e .to = ap (λ (l : List ℕ). stateOf (getD l 4 0)) f ∙ state-of-code (e .to) in
-    let first : numAt 2 s (at + 10) ≡ e .first = ap (λ (l : List ℕ). getD l 6 0) f in
+    let first : numAt 2 s (at + 10) ≡ e .«first_out» = ap (λ (l : List ℕ). getD l 6 0) f in
     rw (seq, scan, effect, from, to, first)
 
 pub events-of-bytes : (es : List Event) (p q : List ℕ) (at : ℕ) → at ≡ length p → eventsAt (p ++ (bytes es ++ q)) (length es) at ≡ es

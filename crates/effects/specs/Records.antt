@@ -31,11 +31,11 @@ recordOf q c i p r f = pack recordLayout (q ∷ c ∷ i ∷ p ∷ r ∷ 0 ∷ f 
 
 -- as the code gives them
 abbrev pub bytesOf : Record → List ℕ
-bytesOf r = recordOf (r .seq) (r .scan) (r .effect) (r .from) (r .to) (r .first)
+bytesOf r = recordOf (r .seq) (r .scan) (r .effect) (r .from) (r .to) (r .«first_out»)
 
 -- and of an event
 unfoldable pub encode : Event → List ℕ
-encode e = recordOf (e .seq) (e .scan) (e .effect) (code (e .from)) (code (e .to)) (e .first)
+encode e = recordOf (e .seq) (e .scan) (e .effect) (code (e .from)) (code (e .to)) (e .«first_out»)
 
 -- the bytes of events: their records, one after the other
 abbrev pub bytes : List Event → List ℕ
@@ -50,7 +50,7 @@ eventAt s at =
       effect = numAt 1 s (at + 6);
       from = stateOf (numAt 1 s (at + 7));
       to = stateOf (numAt 1 s (at + 8));
-      first = numAt 2 s (at + 10);
+      «first_out» = numAt 2 s (at + 10);
     }
 
 -- the events of n records, from a place on

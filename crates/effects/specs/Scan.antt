@@ -36,7 +36,7 @@ seqAfter q (s ∷ ss) (x ∷ xs) = seqAfter (cond (moved s x) (wrapped q) q) ss 
 
 -- the event of effect number i in scan number c, with sequence number q
 abbrev pub event : ℕ → ℕ → ℕ → Signals → Slot → Event
-event q c i s x = record { seq = q; scan = c; effect = i; from = x .state; to = after s x; first = next s x .first }
+event q c i s x = record { seq = q; scan = c; effect = i; from = x .state; to = after s x; «first_out» = next s x .«first_out» }
 
 -- an event, where there is one
 abbrev pub only : Bool → Event → List Event

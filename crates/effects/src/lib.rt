@@ -17,7 +17,7 @@ pub struct Event {
     pub effect: u8,
     pub from: EffectState,
     pub to: EffectState,
-    pub first: u16,
+    pub first_out: u16,
 }
 
 // What a record holds, as its bytes give it: the states are codes.
@@ -27,7 +27,7 @@ pub struct Record {
     pub effect: u8,
     pub from: u8,
     pub to: u8,
-    pub first: u16,
+    pub first_out: u16,
 }
 
 // The bytes of a record.
@@ -63,7 +63,7 @@ pub fn put_record(buf: &mut [u8], at: usize, r: Record)
     ensures { λ _. ⌜ now (buf .exit) ≡ sets (now (buf .entry)) at (bytesOf r) ⌝ }
 {
     put_number(buf, at, r.seq, r.scan, r.effect);
-    put_change(buf, at + 7, r.from, r.to, r.first);
+    put_change(buf, at + 7, r.from, r.to, r.first_out);
 }
 
 // The event of the record at a place.
@@ -77,6 +77,6 @@ pub fn event_at(s: &[u8], at: usize) -> Event
         effect: bits::get8(s, at + 6),
         from: rules::state_of(bits::get8(s, at + 7)),
         to: rules::state_of(bits::get8(s, at + 8)),
-        first: bits::get16(s, at + 10),
+        first_out: bits::get16(s, at + 10),
     }
 }

@@ -1,4 +1,3 @@
 pub mod Stores
 pub mod Theorems
 pub mod Answers
-pub mod Session

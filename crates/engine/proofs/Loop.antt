@@ -80,14 +80,14 @@ module _ {plan : Plan} {task : Task} {array₀ buf₀ : List ℕ} {x₀ : Mark} 
       pub left-fits : left - 1 ≤ mostHold
       left-fits = omega (arith, live-fits (h .kept))
 
-      pub scanned-fits : y .done + (left - 1) ≤ mostScans
+      pub scanned-fits : y .«scans_done» + (left - 1) ≤ mostScans
       unfolding scanned
-      scanned-fits = omega (arith, ap (λ (b : Board). b .done) board-then, done-fits (h .kept))
+      scanned-fits = omega (arith, ap (λ (b : Board). b .«scans_done») board-then, done-fits (h .kept))
 
       -- and the scans that are skipped
       pub goes-on : {v : Asked} {z : Mark} {k : ℕ} {end : List ℕ} → v ≡ unset w → k ≡ quietsBy (left - 1) n (plan .period) v (y .planes) (timersIn mid)
           → end ≡ sets mid timersAt (tabulate (λ i. getD (timersIn mid) i 0 - k * plan .period) n)
-          → z ≡ (record { done = y .done + k; next = y .next; at = y .at; live = y .live; planes = y .planes })
+          → z ≡ (record { «scans_done» = y .«scans_done» + k; next = y .next; at = y .at; live = y .live; planes = y .planes })
           → Head plan task array₀ buf₀ x₀ v z end buf′ (left - 1 - k) (fuel - 1)
       goes-on {v} {z} {k} ev ek t e =
           let l = d .same .long in

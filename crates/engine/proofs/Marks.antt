@@ -100,7 +100,7 @@ module _ {plan : Plan} {tripped : ℕ} {w : Asked} {x : Mark} {array : List ℕ}
     unfolding scanned
     entries-are =
         rw c
-        (ap (λ (b : Table). entriesTo (x .next) (x .done + 1) (changedOf (x .planes) (b .planes)) (x .planes) (b .planes) (b .firsts) 16) (s .table))
+        (ap (λ (b : Table). entriesTo (x .next) (x .«scans_done» + 1) (changedOf (x .planes) (b .planes)) (x .planes) (b .planes) (b .firsts) 16) (s .table))
 
     pub fits-then : x .at + recordLength * length (scanEntries (firstsIn array′) x is ch) ≤ room
     fits-then = rw entries-are (h .fits)
@@ -108,7 +108,7 @@ module _ {plan : Plan} {tripped : ℕ} {w : Asked} {x : Mark} {array : List ℕ}
     pub scanned-is : {at q live : ℕ} {buf buf′ : List ℕ} → at ≡ x .at + recordLength * length (scanEntries (firstsIn array′) x is ch)
         → q ≡ (x .next + (at - x .at) / recordLength) % 2 ^ 16 → live ≡ x .live + one (not (eqb ch 0))
         → buf′ ≡ sets buf (x .at) (joined (scanEntries (firstsIn array′) x is ch))
-        → ScanDone plan tripped w x array buf (record { done = x .done + 1; next = q; at = at; live = live; planes = is }) array′ buf′
+        → ScanDone plan tripped w x array buf (record { «scans_done» = x .«scans_done» + 1; next = q; at = at; live = live; planes = is }) array′ buf′
     unfolding scanned
     scanned-is {at} {q} {live} {buf} a e l b =
         let es = scanEntries (firstsIn array′) x is ch in
@@ -117,7 +117,7 @@ module _ {plan : Plan} {tripped : ℕ} {w : Asked} {x : Mark} {array : List ℕ}
         let v : live ≡ x .live + one (not (eqb (changedOf (x .planes) is) 0)) = l ∙ ap (λ (m : ℕ). x .live + one (not (eqb m 0))) c in
         record {
           board = λ j. record {
-            done = x .done + 1;
+            «scans_done» = x .«scans_done» + 1;
             next = (r ∙ ap (λ (k : List (List ℕ)). (x .next + length k) % 2 ^ 16) entries-are) j;
             at = (a ∙ ap (λ (k : List (List ℕ)). x .at + recordLength * length k) entries-are) j;
             live = (v ∙ ap (λ (b : Table). x .live + one (not (eqb (changedOf (x .planes) (b .planes)) 0))) (s .table)) j;
@@ -143,7 +143,7 @@ module _ (k n period : ℕ) (array : List ℕ) {array′ : List ℕ} (few : n �
   abbrev rest : ℕ → ℕ
   rest i = getD (timersIn array) i 0 - k * period
 
-  pub skipped-is : (y : Mark) {z : Mark} → z ≡ (record { done = y .done + k; next = y .next; at = y .at; live = y .live; planes = y .planes })
+  pub skipped-is : (y : Mark) {z : Mark} → z ≡ (record { «scans_done» = y .«scans_done» + k; next = y .next; at = y .at; live = y .live; planes = y .planes })
       → boardAt z array′ ≡ later k n period (boardAt y array)
   unfolding later tableLater
   skipped-is y e = rw (e, timers-filled rest n array t few long, firsts-kept rest n array t few long)

@@ -22,7 +22,7 @@ use Rattle.boards.proofs.Records.{joined-snoc, length-entry, length-joined, ent
 -- the records so far of a scan from x to the states `is` are written
 pub record Put (buf₀ firsts : List ℕ) (x : Mark) (is : Planes) (ch : ℕ) (buf : List ℕ) (at q rest : ℕ) : Type 0 where
   pub es : List (List ℕ)
-  pub done : Done 16 ch (entriesTo (x .next) (x .done + 1) ch (x .planes) is firsts) es rest
+  pub passed : Done 16 ch (entriesTo (x .next) (x .«scans_done» + 1) ch (x .planes) is firsts) es rest
   pub place : at ≡ x .at + recordLength * length es
   pub seq : q ≡ (x .next + length es) % 2 ^ 16
   pub wrote : buf ≡ sets buf₀ (x .at) (joined es)
@@ -32,7 +32,7 @@ unfolding flatMap
 begun buf₀ firsts x is ch h k =
     record {
       es = [];
-      done = started (entries-rest (x .next) (x .done + 1) ch (x .planes) is firsts k) (sym (picked-none (entryAt (x .next) (x .done + 1) (x .planes) is firsts) (bitOf ch)));
+      passed = started (entries-rest (x .next) (x .«scans_done» + 1) ch (x .planes) is firsts k) (sym (picked-none (entryAt (x .next) (x .«scans_done» + 1) (x .planes) is firsts) (bitOf ch)));
       place = omega arith;
       seq = sym (ap (λ (m : ℕ). m % 2 ^ 16) (add-zero (x .next)) ∙ mod-eq-of-lt h);
       wrote = refl;
@@ -40,14 +40,14 @@ begun buf₀ firsts x is ch h k =
 
 module _ {buf₀ firsts : List ℕ} {x : Mark} {is : Planes} {ch : ℕ} {buf : List ℕ} {at q rest : ℕ} (p : Put buf₀ firsts x is ch buf at q rest) where
   abbrev entries : ℕ → List (List ℕ)
-  entries n = entriesTo (x .next) (x .done + 1) ch (x .planes) is firsts n
+  entries n = entriesTo (x .next) (x .«scans_done» + 1) ch (x .planes) is firsts n
 
   abbrev made : ℕ → ℕ → List ℕ
-  made = entryAt (x .next) (x .done + 1) (x .planes) is firsts
+  made = entryAt (x .next) (x .«scans_done» + 1) (x .planes) is firsts
 
   -- nothing is left
   pub finished : rest ≡ 0 → p .es ≡ entries 16
-  finished e = ended (p .done) e
+  finished e = ended (p .passed) e
 
   pub as-long : length buf ≡ length buf₀
   as-long = ap length (p .wrote) ∙ length-sets buf₀ (x .at) (joined (p .es))
@@ -58,25 +58,25 @@ module _ {buf₀ firsts : List ℕ} {x : Mark} {is : Planes} {ch : ℕ} {buf : L
     n = trailingZeros 16 rest
 
     so-far : p .es ≡ entries n
-    so-far = before-it (p .done) more
+    so-far = before-it (p .passed) more
 
     one-more : p .es ++ (made (length (p .es)) n ∷ []) ≡ entries (n + 1)
     one-more =
         ap (λ (l : List (List ℕ)). l ++ (made (length l) n ∷ [])) so-far
-        ∙ sym (picked-yes made (bitOf ch) n (is-set (p .done) more))
+        ∙ sym (picked-yes made (bitOf ch) n (is-set (p .passed) more))
 
     count : length (p .es ++ (made (length (p .es)) n ∷ [])) ≡ length (p .es) + 1
     count = length-append (p .es) _
 
     room : length (p .es) + 1 ≤ length (entries 16)
     room =
-        let d : n + 1 + (15 - n) ≡ 16 = omega (arith, below (p .done) more) in
+        let d : n + 1 + (15 - n) ≡ 16 = omega (arith, below (p .passed) more) in
         let h = picked-grows made (bitOf ch) (n + 1) (15 - n) in
         let e : length (entries (n + 1 + (15 - n))) ≡ length (entries 16) = ap (λ (k : ℕ). length (entries k)) d in
         omega (arith, count, ap length one-more, h, e)
 
     long : length (joined (p .es)) ≡ recordLength * length (p .es)
-    long = rw so-far (length-joined made (bitOf ch) (length-entry (x .next) (x .done + 1) (x .planes) is firsts) n)
+    long = rw so-far (length-joined made (bitOf ch) (length-entry (x .next) (x .«scans_done» + 1) (x .planes) is firsts) n)
 
     pub roomy : x .at + recordLength * length (entries 16) ≤ length buf₀ → at + recordLength ≤ length buf
     roomy h = omega (arith, p .place, room, as-long, h)
@@ -89,7 +89,7 @@ module _ {buf₀ firsts : List ℕ} {x : Mark} {is : Planes} {ch : ℕ} {buf : L
     turned : Put buf₀ firsts x is ch (sets buf at (made (length (p .es)) n)) (at + recordLength) ((q + 1) % 2 ^ 16) (bitAnd rest (rest - 1))
     turned = record {
       es = p .es ++ (made (length (p .es)) n ∷ []);
-      done = again (p .done) more one-more;
+      passed = again (p .passed) more one-more;
       place = omega (arith, p .place, count);
       seq = rw count (omega (arith, p .seq));
       wrote = rw (joined-snoc, sets-append, long, ← p .place, ← p .wrote);

@@ -12,13 +12,13 @@ use Rattle.cells.specs.Loaded.{tableIn}
 
 -- the run that starts where another has come to
 abbrev pub begun : Mark → Mark
-begun x = record { done = x .done; next = x .next; at = 0; live = 0; planes = x .planes }
+begun x = record { «scans_done» = x .«scans_done»; next = x .next; at = 0; live = 0; planes = x .planes }
 
 -- a mark, with the array
 abbrev pub boardAt : Mark → (array : List ℕ) → Board
 boardAt x array =
     record {
-      done = x .done;
+      «scans_done» = x .«scans_done»;
       next = x .next;
       at = x .at;
       live = x .live;
@@ -32,13 +32,13 @@ abbrev pub recordBy : (firsts : List ℕ) → Mark → (is : Planes) → (q i : 
 recordBy firsts x is q i =
     record {
       seq = q;
-      scan = x .done + 1;
+      scan = x .«scans_done» + 1;
       effect = i + 1;
       from = codeAt (x .planes) i;
       to = codeAt is i;
-      first = getD firsts i 0 % 2 ^ 16;
+      «first_out» = getD firsts i 0 % 2 ^ 16;
     }
 
 -- the bytes of each, of the effects in a word
 abbrev pub scanEntries : (firsts : List ℕ) → Mark → (is : Planes) → (ch : ℕ) → List (List ℕ)
-scanEntries firsts x is ch = entriesTo (x .next) (x .done + 1) ch (x .planes) is firsts 16
+scanEntries firsts x is ch = entriesTo (x .next) (x .«scans_done» + 1) ch (x .planes) is firsts 16

@@ -32,7 +32,7 @@ entriesBy plan tripped w x array =
 pub record ScanReady (plan : Plan) (tripped : ℕ) (w : Asked) (x : Mark) (array : List ℕ) (room : ℕ) : Type 0 where
   pub few : plan .count ≤ 16
   pub long : length array ≡ arrayLength
-  pub countable : x .done < mostScans
+  pub countable : x .«scans_done» < mostScans
   pub short : x .live < mostHold
   pub settled : Settled (plan .count) (boardAt x array .table)
   pub within : Within (plan .count) (x .planes)
@@ -61,7 +61,7 @@ pub record StrokeReady (plan : Plan) (task : Task) (x : Mark) (array : List ℕ)
   pub short : task .hold ≤ mostHold
   pub some : 0 < plan .period
   pub quick : plan .period ≤ mostPeriod
-  pub countable : x .done + task .hold ≤ mostScans
+  pub countable : x .«scans_done» + task .hold ≤ mostScans
   pub right : Right (plan .count) (associationsIn array) (delaysIn array) (plan .period) (task .tripped) (task .asked) (boardAt x array)
   pub fits : recordLength * length (heldBy plan task x array .events) ≤ room
 

@@ -31,7 +31,7 @@ pub struct Task {
 // live scans so far, and the effects' states. Associations, delays, timers and first-outs are in one array that is lent beside it,
 // and timers and first-outs change in place: copied from scan to scan they would cost more than all the rest.
 pub struct Mark {
-    pub done: u32,
+    pub scans_done: u32,
     pub next: u16,
     pub at: usize,
     pub live: u32,
@@ -66,23 +66,23 @@ fn quiets(n: u32, board: &[u32; 64], plan: Plan, w: Asked, p: Planes) -> u32
 
 // The record of the effect i of a scan from x to the states `is`. q: its sequence number.
 fn record_at(board: &[u32; 64], x: Mark, is: Planes, q: u16, i: usize) -> Record
-    requires { ⌜ (i < 16) × (x .done < mostScans) ⌝ }
+    requires { ⌜ (i < 16) × (x .«scans_done» < mostScans) ⌝ }
     ensures { λ r. ⌜ r ≡ recordBy (firstsIn (now (board .entry))) x is q i ⌝ }
 {
     let was = x.planes;
     Record {
         seq: q,
-        scan: x.done + 1,
+        scan: x.scans_done + 1,
         effect: i as u8 + 1,
         from: planes::code_at(was, i),
         to: planes::code_at(is, i),
-        first: (board[cells::FIRST_OUTS + i] % 65536) as u16,
+        first_out: (board[cells::FIRST_OUTS + i] % 65536) as u16,
     }
 }
 
 // The records of a scan from x to the states `is`, of the effects in the word `ch`; and the place after them.
 fn put_scan(buf: &mut [u8], board: &[u32; 64], x: Mark, is: Planes, ch: u16) -> usize
-    requires { ⌜ (x .done < mostScans) × Narrow (firstsIn (now board)) × (x .at + recordLength * length (scanEntries (firstsIn (now board)) x is ch) ≤ length (now buf)) ⌝ }
+    requires { ⌜ (x .«scans_done» < mostScans) × Narrow (firstsIn (now board)) × (x .at + recordLength * length (scanEntries (firstsIn (now board)) x is ch) ≤ length (now buf)) ⌝ }
     ensures { λ r. ⌜ r ≡ x .at + recordLength * length (scanEntries (firstsIn (now (board .entry))) x is ch) ⌝ }
     ensures { λ _. ⌜ now (buf .exit) ≡ sets (now (buf .entry)) (x .at) (joined (scanEntries (firstsIn (now (board .entry))) x is ch)) ⌝ }
 {
@@ -129,7 +129,7 @@ fn scan(buf: &mut [u8], board: &mut [u32; 64], plan: Plan, tripped: u16, w: Aske
     let ch = planes::changed(was, is);
     let at = put_scan(buf, board, x, is, ch);
     Mark {
-        done: x.done + 1,
+        scans_done: x.scans_done + 1,
         next: seq_after(x.next, x.at, at),
         at,
         live: count_live(x.live, ch != 0),
@@ -139,12 +139,12 @@ fn scan(buf: &mut [u8], board: &mut [u32; 64], plan: Plan, tripped: u16, w: Aske
 
 // The run after k scans that leave every state as it is.
 fn later(k: u32, x: Mark) -> Mark
-    requires { ⌜ x .done + k ≤ mostScans ⌝ }
-    ensures { λ r. ⌜ r ≡ (record { done = x .done + k; next = x .next; at = x .at; live = x .live; planes = x .planes }) ⌝ }
+    requires { ⌜ x .«scans_done» + k ≤ mostScans ⌝ }
+    ensures { λ r. ⌜ r ≡ (record { «scans_done» = x .«scans_done» + k; next = x .next; at = x .at; live = x .live; planes = x .planes }) ⌝ }
 {
     let planes = x.planes;
     Mark {
-        done: x.done + k,
+        scans_done: x.scans_done + k,
         next: x.next,
         at: x.at,
         live: x.live,
@@ -167,7 +167,7 @@ pub fn begin(x: Mark) -> Mark
 {
     let planes = x.planes;
     Mark {
-        done: x.done,
+        scans_done: x.scans_done,
         next: x.next,
         at: 0,
         live: 0,

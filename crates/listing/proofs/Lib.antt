@@ -1,4 +1,3 @@
 pub mod Placing
 pub mod Loop
 pub mod Theorems
-pub mod Session

@@ -65,11 +65,11 @@ fn state_at(p: Planes, i: usize) -> EffectState
 
 pub fn slot_of(p: Planes, t: u32, f: u16, i: usize) -> Slot
     requires { ⌜ i < 16 ⌝ }
-    ensures { λ r. ⌜ r ≡ (record { state = stateAt p i; timer = t; first = f }) ⌝ }
+    ensures { λ r. ⌜ r ≡ (record { state = stateAt p i; timer = t; «first_out» = f }) ⌝ }
 {
     Slot {
         state: state_at(p, i),
         timer: t,
-        first: f,
+        first_out: f,
     }
 }

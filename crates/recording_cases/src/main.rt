@@ -79,39 +79,36 @@ fn print_head(
 
 // ---- a row: its place, its hold and its words, 28 bytes
 
-fn put_five(out: &mut [u8], at: usize, a: u16, b: u16, c: u16, d: u16, e: u16)
+// The first five words, from `at`.
+fn put_first_words(out: &mut [u8], at: usize, w: Words)
     requires { ⌜ (length (now out) ≡ 28) × (at + 10 ≤ 28) ⌝ }
     ensures { λ _. ⌜ length (now (out .exit)) ≡ 28 ⌝ }
 {
-    bits::put16(out, at, a);
-    bits::put16(out, at + 2, b);
-    bits::put16(out, at + 4, c);
-    bits::put16(out, at + 6, d);
-    bits::put16(out, at + 8, e);
+    bits::put16(out, at, w.values);
+    bits::put16(out, at + 2, w.bad);
+    bits::put16(out, at + 4, w.mask);
+    bits::put16(out, at + 6, w.require_reset);
+    bits::put16(out, at + 8, w.reset_permit);
+}
+
+// And the last five.
+fn put_last_words(out: &mut [u8], at: usize, w: Words)
+    requires { ⌜ (length (now out) ≡ 28) × (at + 10 ≤ 28) ⌝ }
+    ensures { λ _. ⌜ length (now (out .exit)) ≡ 28 ⌝ }
+{
+    bits::put16(out, at, w.start_permit);
+    bits::put16(out, at + 2, w.reset);
+    bits::put16(out, at + 4, w.force_permit);
+    bits::put16(out, at + 6, w.force_trip);
+    bits::put16(out, at + 8, w.force_normal);
 }
 
 fn put_words(out: &mut [u8], w: Words)
     requires { ⌜ length (now out) ≡ 28 ⌝ }
     ensures { λ _. ⌜ length (now (out .exit)) ≡ 28 ⌝ }
 {
-    put_five(
-        out,
-        8,
-        w.values,
-        w.bad,
-        w.mask,
-        w.require_reset,
-        w.reset_permit,
-    );
-    put_five(
-        out,
-        18,
-        w.start_permit,
-        w.reset,
-        w.force_permit,
-        w.force_trip,
-        w.force_normal,
-    );
+    put_first_words(out, 8, w);
+    put_last_words(out, 18, w);
 }
 
 fn put_row(out: &mut [u8], at: usize, row: Row)

@@ -58,7 +58,7 @@ module _ (s : List ℕ) where
   -- one row more
   pub one-row-more : (i : ℕ) → i < count → firstRows s i .number ≡ 0
       → let r = firstRows s i .replay in
-      firstRows s (i + 1) ≡ granted (scansNumber (r .state .done) (rowOf s i .hold)) (whole (joined r (rowRun s i))) (refusedAt (rowPlace s i) r)
+      firstRows s (i + 1) ≡ granted (scansNumber (r .state .«scans_done») (rowOf s i .hold)) (whole (joined r (rowRun s i))) (refusedAt (rowPlace s i) r)
   unfolding firstRows rowRun
   one-row-more i l z =
       let front = take i (rowsOf s) in
@@ -126,7 +126,7 @@ module _ (s : List ℕ) where
   -- ## One row more, by its number
 
   abbrev pub numberAt : ℕ → ℕ
-  numberAt i = scansNumber (firstRows s i .replay .state .done) (rowOf s i .hold)
+  numberAt i = scansNumber (firstRows s i .replay .state .«scans_done») (rowOf s i .hold)
 
   module _ (i : ℕ) (l : i < count) (none : firstRows s i .number ≡ 0) where
     abbrev ran : Outcome
@@ -206,7 +206,7 @@ module _ (s : List ℕ) where
       (o .number ≡ 9)
       × (o .place ≡ rowPlace s (o .replay .rows))
       × (o .replay .rows < count)
-      × (mostScans < o .replay .state .done + rowOf s (o .replay .rows) .hold)
+      × (mostScans < o .replay .state .«scans_done» + rowOf s (o .replay .rows) .hold)
 
   abbrev Ended : Outcome → Type 0
   Ended o = ((o .number ≡ 0) × (o .place ≡ 0)) ⊎ Stopped o
@@ -215,10 +215,10 @@ module _ (s : List ℕ) where
   stopped i b h =
       let r = firstRows s i .replay in
       inr (
-        unless-refused (leb (r .state .done + rowOf s i .hold) mostScans) 9 h,
+        unless-refused (leb (r .state .«scans_done» + rowOf s i .hold) mostScans) 9 h,
         ap (rowPlace s) (sym (b .2)),
         omega (arith, b .0, b .2),
-        rw (b .2) (limit-passed (r .state .done + rowOf s i .hold) mostScans 9 h),
+        rw (b .2) (limit-passed (r .state .«scans_done» + rowOf s i .hold) mostScans 9 h),
       )
 
   ended : (o : Outcome) → (o .number ≡ 0 → o .replay .rows ≡ count) → Ended o
@@ -259,7 +259,7 @@ module _ (s : List ℕ) where
         sound-rows st (right .settings) width first (take i (rowsOf s))
         (all-take (rowNumber (knownOf st)) i (rowsOf s) (right .each-row)) started started-sound
 
-    pub scans-done : replay s .number ≡ 0 → replay s .replay .state .done ≡ sumOfHolds (rowsOf s)
+    pub scans-done : replay s .number ≡ 0 → replay s .replay .state .«scans_done» ≡ sumOfHolds (rowsOf s)
     scans-done =
         rw (accepted-replay a)
         (λ z. done-is-holds st (right .settings) width first (rowsOf s) (right .each-row) started started-sound z ∙ zero-add _)
@@ -270,11 +270,11 @@ module _ (s : List ℕ) where
       unfolding rowRun
       sound-next = sound-after st settings-right (rowOf s i) (row-right i l) (firstRows s i .replay) (sound i) z
 
-      pub done-next : rowRun s i .state .done ≡ firstRows s i .replay .state .done + rowOf s i .hold
+      pub done-next : rowRun s i .state .«scans_done» ≡ firstRows s i .replay .state .«scans_done» + rowOf s i .hold
       unfolding rowRun
       done-next = done-after st settings-right (rowOf s i) (row-right i l) (firstRows s i .replay) (sound i) z
 
-      pub scans-next : rowRun s i .state .done ≤ mostScans
+      pub scans-next : rowRun s i .state .«scans_done» ≤ mostScans
       unfolding rowRun
       scans-next = within-scans st settings-right (rowOf s i) (row-right i l) (firstRows s i .replay) (sound i) z
 

@@ -5,4 +5,3 @@ pub mod Turns
 pub mod Passing
 pub mod Stops
 pub mod Theorems
-pub mod Session

@@ -31,8 +31,8 @@ use Rattle.rerun.specs.Replay.{Replay, Outcome, whole, afterRow, refused
 module _ (st : Settings) (w : ℕ) where
   -- nothing is refused: neither the first row nor one after it
   none-refused : (x : Row) (xs : List Row) (at : ℕ) (r : Replay) → rowsFrom st w at (x ∷ xs) r .number ≡ 0
-      → (scansNumber (r .state .done) (x .hold) ≡ 0) × (rowsFrom st w (at + w) xs (afterRow st x r) .number ≡ 0)
-  none-refused x xs at r = of (scansNumber (r .state .done) (x .hold)) (rowsFrom st w (at + w) xs (afterRow st x r))
+      → (scansNumber (r .state .«scans_done») (x .hold) ≡ 0) × (rowsFrom st w (at + w) xs (afterRow st x r) .number ≡ 0)
+  none-refused x xs at r = of (scansNumber (r .state .«scans_done») (x .hold)) (rowsFrom st w (at + w) xs (afterRow st x r))
     where
       of : (n : ℕ) (o : Outcome) → granted n o (refusedAt at r) .number ≡ 0 → (n ≡ 0) × (o .number ≡ 0)
       of zero o h = (refl, h)
@@ -51,7 +51,7 @@ module _ (st : Settings) (w : ℕ) where
   pub refusal-ends : (xs ys : List Row) (at : ℕ) (r : Replay) → (rowsFrom st w at xs r .number ≡ 0 → ⊥) → rowsFrom st w at (xs ++ ys) r ≡ rowsFrom st w at xs r
   refusal-ends [] ys at r h = absurd (h refl)
   refusal-ends (x ∷ xs) ys at r h =
-      let n = scansNumber (r .state .done) (x .hold) in
+      let n = scansNumber (r .state .«scans_done») (x .hold) in
       let o = rowsFrom st w (at + w) xs (afterRow st x r) in
       granted-alike o (refusedAt at r) n (rowsFrom st w (at + w) (xs ++ ys) (afterRow st x r))
       (λ z. refusal-ends xs ys (at + w) (afterRow st x r) (λ q. h (ap (λ (v : Outcome). v .number) (granted-none o (refusedAt at r) n z) ∙ q)))
@@ -67,7 +67,7 @@ module _ (st : Settings) (w : ℕ) where
   pub events-stay : (xs : List Row) (at : ℕ) (r : Replay) → length (r .events) ≤ length (rowsFrom st w at xs r .replay .events)
   events-stay [] at r = omega arith
   events-stay (x ∷ xs) at r =
-      granted-either (rowsFrom st w (at + w) xs (afterRow st x r)) (refusedAt at r) (λ o. length (r .events) ≤ length (o .replay .events)) (scansNumber (r .state .done) (x .hold))
+      granted-either (rowsFrom st w (at + w) xs (afterRow st x r)) (refusedAt at r) (λ o. length (r .events) ≤ length (o .replay .events)) (scansNumber (r .state .«scans_done») (x .hold))
       (λ z. omega (arith, length-append (r .events) (run st x (r .state) .events), events-stay xs (at + w) (afterRow st x r)))
       (λ k. omega arith)
 
@@ -85,14 +85,14 @@ pub record Sound (st : Settings) (r : Replay) : Type 0 where
   pub slots : length (r .state .slots) ≡ 16
   pub events : length (r .events) ≤ 2 * st .count * r .rows
   pub live : r .live ≤ 32 * r .rows
-  pub exercised : r .exercised ≤ r .state .done
+  pub exercised : r .exercised ≤ r .state .«scans_done»
 
 module _ (st : Settings) (right : settingsNumber st ≡ 0) where
-  module _ (row : Row) (right-row : rowNumber (knownOf st) row ≡ 0) (r : Replay) (sound : Sound st r) (z : scansNumber (r .state .done) (row .hold) ≡ 0) where
-    scans : r .state .done + row .hold ≤ mostScans
-    scans = limit-kept (r .state .done + row .hold) mostScans 8 z
+  module _ (row : Row) (right-row : rowNumber (knownOf st) row ≡ 0) (r : Replay) (sound : Sound st r) (z : scansNumber (r .state .«scans_done») (row .hold) ≡ 0) where
+    scans : r .state .«scans_done» + row .hold ≤ mostScans
+    scans = limit-kept (r .state .«scans_done» + row .hold) mostScans 8 z
 
-    pub done-after : run st row (r .state) .state .done ≡ r .state .done + row .hold
+    pub done-after : run st row (r .state) .state .«scans_done» ≡ r .state .«scans_done» + row .hold
     done-after = scans-done-grow-by-the-hold st row (r .state) right (sound .state) right-row scans
 
     exercised-few : run st row (r .state) .exercised ≤ row .hold
@@ -125,19 +125,19 @@ module _ (st : Settings) (right : settingsNumber st ≡ 0) where
           exercised = omega (arith, exercised-few, done-after, sound .exercised);
         }
 
-    pub within-scans : run st row (r .state) .state .done ≤ mostScans
+    pub within-scans : run st row (r .state) .state .«scans_done» ≤ mostScans
     within-scans = omega (arith, done-after, scans)
 
   pub sound-rows : (w at : ℕ) (xs : List Row) → All (rowNumber (knownOf st)) xs → (r : Replay) → Sound st r → Sound st (rowsFrom st w at xs r .replay)
   sound-rows w at [] all r sound = sound
   sound-rows w at (x ∷ xs) all r sound =
-      granted-either (rowsFrom st w (at + w) xs (afterRow st x r)) (refusedAt at r) (λ o. Sound st (o .replay)) (scansNumber (r .state .done) (x .hold))
+      granted-either (rowsFrom st w (at + w) xs (afterRow st x r)) (refusedAt at r) (λ o. Sound st (o .replay)) (scansNumber (r .state .«scans_done») (x .hold))
       (λ z. sound-rows w (at + w) xs (all .1) (afterRow st x r) (sound-after x (all .0) r sound z))
       (λ k. sound)
 
   -- the scans done are the holds of the rows
   pub done-is-holds : (w at : ℕ) (xs : List Row) → All (rowNumber (knownOf st)) xs → (r : Replay) → Sound st r → rowsFrom st w at xs r .number ≡ 0
-      → rowsFrom st w at xs r .replay .state .done ≡ r .state .done + sumOfHolds xs
+      → rowsFrom st w at xs r .replay .state .«scans_done» ≡ r .state .«scans_done» + sumOfHolds xs
   done-is-holds w at [] all r sound h = omega arith
   done-is-holds w at (x ∷ xs) all r sound h =
       let p = none-refused st w x xs at r h in

@@ -28,7 +28,7 @@ pub record Reached (s : List ℕ) (width done place i : ℕ) : Type 0 where
   pub accepted : number (reading s .answer) ≡ 0
   pub wide : width ≡ rowWidth (reading s .answer)
   pub none-refused : firstRows s i .number ≡ 0
-  pub scans : firstRows s i .replay .state .done ≡ done
+  pub scans : firstRows s i .replay .state .«scans_done» ≡ done
   pub here : place ≡ rowPlace s i
 
 pub begins : (s : List ℕ) (rows first width : ℕ) → reading s .answer ≡ A.Accepted rows first width → Reached s width 0 first 0
@@ -37,7 +37,7 @@ begins s rows first width a =
       accepted = ap number a;
       wide = sym (ap rowWidth a);
       none-refused = ap (λ (o : Outcome). o .number) (no-rows s);
-      scans = ap (λ (o : Outcome). o .replay .state .done) (no-rows s);
+      scans = ap (λ (o : Outcome). o .replay .state .«scans_done») (no-rows s);
       here = omega (arith, ap firstRow a, mul-zero (rowWidth (reading s .answer)));
     }
 
@@ -78,6 +78,6 @@ module _ (s : List ℕ) (width done place i : ℕ) (g : Reached s width done pla
               accepted = g .accepted;
               wide = g .wide;
               none-refused = ap (λ (o : Outcome). o .number) next;
-              scans = ap (λ (o : Outcome). o .replay .state .done) next ∙ done-next s (g .accepted) i more (same-number ∙ z) ∙ (λ j. g .scans j + sym row-is j .hold);
+              scans = ap (λ (o : Outcome). o .replay .state .«scans_done») next ∙ done-next s (g .accepted) i more (same-number ∙ z) ∙ (λ j. g .scans j + sym row-is j .hold);
               here = rw add-one (omega (arith, g .here, g .wide, mul-suc (rowWidth (reading s .answer)) i));
             }

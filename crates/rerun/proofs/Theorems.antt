@@ -42,7 +42,7 @@ no-rows-give-nothing = files.no-rows
 
 pub one-row-more : (s : List ℕ) (i : ℕ) → i < rowCount (reading s .answer) → firstRows s i .number ≡ 0
     → let r = firstRows s i .replay in
-    firstRows s (i + 1) ≡ granted (scansNumber (r .state .done) (rowOf s i .hold)) (whole (joined r (rowRun s i))) (refusedAt (rowPlace s i) r)
+    firstRows s (i + 1) ≡ granted (scansNumber (r .state .«scans_done») (rowOf s i .hold)) (whole (joined r (rowRun s i))) (refusedAt (rowPlace s i) r)
 one-row-more = files.one-row-more
 
 -- a refused row ends the replay
@@ -68,12 +68,12 @@ module _ (s : List ℕ) (accepted : Accepted s) where
   -- neither 8 nor 10 nor 2 to 6 comes up
   pub a-row-is-refused-by-9-alone : (i : ℕ) → i < rowCount (reading s .answer)
       → let st = reading s .settings in let x = firstRows s i .replay .state in
-      (stateNumber st x ≡ 0) × (heldOf st (rowOf s i) x mostRowBytes ≡ granted (scansNumber (x .done) (rowOf s i .hold)) (grantedHeld st (rowOf s i) x) (refusedHeld x))
+      (stateNumber st x ≡ 0) × (heldOf st (rowOf s i) x mostRowBytes ≡ granted (scansNumber (x .«scans_done») (rowOf s i .hold)) (grantedHeld st (rowOf s i) x) (refusedHeld x))
   unfolding heldOf heldNumber inputNumber rowRun
   a-row-is-refused-by-9-alone i l =
       let st = reading s .settings in
       let x = firstRows s i .replay .state in
-      let n = scansNumber (x .done) (rowOf s i .hold) in
+      let n = scansNumber (x .«scans_done») (rowOf s i .hold) in
       let due = recordLength * length (run st (rowOf s i) x .events) in
       let state = files.sound s accepted i .state in
       let input : inputNumber st x (rowOf s i) ≡ n = rw (files.settings-right s accepted, state, files.row-right s accepted i l) in
@@ -83,7 +83,7 @@ module _ (s : List ℕ) (accepted : Accepted s) where
   -- an accepted file is replayed whole, or stops at the row whose scans cannot be counted
   pub whole-or-stopped : let o = replay s in let r = replay s .replay in
       ((o .number ≡ 0) × (o .place ≡ 0) × (r .rows ≡ rowCount (reading s .answer)))
-      ⊎ ((o .number ≡ 9) × (o .place ≡ rowPlace s (r .rows)) × (r .rows < rowCount (reading s .answer)) × (mostScans < r .state .done + rowOf s (r .rows) .hold))
+      ⊎ ((o .number ≡ 9) × (o .place ≡ rowPlace s (r .rows)) × (r .rows < rowCount (reading s .answer)) × (mostScans < r .state .«scans_done» + rowOf s (r .rows) .hold))
   whole-or-stopped = files.how-it-ends s accepted
 
   -- ## Counts
@@ -108,9 +108,9 @@ module _ (s : List ℕ) (accepted : Accepted s) where
   pub live-at-most-32-a-row : replay s .replay .live ≤ 32 * replay s .replay .rows
   live-at-most-32-a-row = of-all (λ o. o .replay .live ≤ 32 * o .replay .rows) (λ i l. files.sound s accepted i .live)
 
-  pub exercised-at-most-the-scans : replay s .replay .exercised ≤ replay s .replay .state .done
-  exercised-at-most-the-scans = of-all (λ o. o .replay .exercised ≤ o .replay .state .done) (λ i l. files.sound s accepted i .exercised)
+  pub exercised-at-most-the-scans : replay s .replay .exercised ≤ replay s .replay .state .«scans_done»
+  exercised-at-most-the-scans = of-all (λ o. o .replay .exercised ≤ o .replay .state .«scans_done») (λ i l. files.sound s accepted i .exercised)
 
   -- the scans done at the end are the holds of the rows
-  pub scans-are-the-holds : replay s .number ≡ 0 → replay s .replay .state .done ≡ sumOfHolds (rowsOf s)
+  pub scans-are-the-holds : replay s .number ≡ 0 → replay s .replay .state .«scans_done» ≡ sumOfHolds (rowsOf s)
   scans-are-the-holds = files.scans-done s accepted

@@ -92,7 +92,7 @@ module _ {s : List ℕ} {run : Run} {array : List ℕ} (g : Going s run array) w
         place = e j;
         records = g .totals j .records;
         rows = g .totals j .rows;
-        scans = g .totals j .board .done;
+        scans = g .totals j .board .«scans_done»;
         live = g .totals j .live;
         exercised = g .totals j .exercised;
       }
@@ -151,7 +151,7 @@ module _ {s : List ℕ} {run : Run} {array : List ℕ} (g : Going s run array) w
         refuses z = h (d .number-is ∙ number-next ∙ z)
 
         nine : numberAt s (run .rows) ≡ 9
-        nine = unless-refused (leb (so-far .state .done + rowOf s (run .rows) .hold) mostScans) 9 refuses
+        nine = unless-refused (leb (so-far .state .«scans_done» + rowOf s (run .rows) .hold) mostScans) 9 refuses
 
         pub unchanged : r .run .rows ≡ run .rows
         unchanged = d .rows-are ∙ granted-refused (run .rows + 1) (λ n. run .rows) (firstRows s (run .rows + 1) .number) (λ z. h (d .number-is ∙ z))
@@ -170,12 +170,12 @@ module _ {s : List ℕ} {run : Run} {array : List ℕ} (g : Going s run array) w
 
     -- ## What the code reads and computes of it
 
-    module _ (row : Row) (is : row ≡ rowAt s (run .place)) (v : ℕ) (number-is : v ≡ scansNumber (run .mark .done) (row .hold)) where
+    module _ (row : Row) (is : row ≡ rowAt s (run .place)) (v : ℕ) (number-is : v ≡ scansNumber (run .mark .«scans_done») (row .hold)) where
       row-is : row ≡ rowOf s (run .rows)
       row-is = is ∙ rw (place-is g) (row-in-the-file s (run .rows) more .1)
 
       same-number : v ≡ numberAt s (run .rows)
-      same-number = number-is ∙ (λ j. scansNumber (g .totals j .board .done) (row-is j .hold))
+      same-number = number-is ∙ (λ j. scansNumber (g .totals j .board .«scans_done») (row-is j .hold))
 
       -- a refused row leaves all as it was
       pub refused-done : (v ≡ 0 → ⊥) → (buf : List ℕ) → RowDone s run buf (record { number = v; records = 0; run = run }) array buf
@@ -207,7 +207,7 @@ module _ {s : List ℕ} {run : Run} {array : List ℕ} (g : Going s run array) w
 
         -- so they show the state
         state-is : keptState st (run .mark) array ≡ so-far .state
-        state-is = ap (reachedBy (st .count)) board-is ∙ (λ j. record { done = so-far .state .done; next = so-far .state .next; slots = slots-shown j })
+        state-is = ap (reachedBy (st .count)) board-is ∙ (λ j. record { «scans_done» = so-far .state .«scans_done»; next = so-far .state .next; slots = slots-shown j })
 
         run-is : keptRun st row (run .mark) array ≡ rowRun s (run .rows)
         unfolding rowRun
@@ -219,7 +219,7 @@ module _ {s : List ℕ} {run : Run} {array : List ℕ} (g : Going s run array) w
         right-input : inputNumber st (keptState st (run .mark) array) row ≡ 0
         right-input =
             right-input-is-accepted st row (keptState st (run .mark) array) (settings-right s (g .accepted)) (rw state-is (sound s (g .accepted) (run .rows) .state))
-            (rw row-is (row-right s (g .accepted) (run .rows) more)) (limit-kept (run .mark .done + row .hold) mostScans 8 (sym number-is ∙ z))
+            (rw row-is (row-right s (g .accepted) (run .rows) more)) (limit-kept (run .mark .«scans_done» + row .hold) mostScans 8 (sym number-is ∙ z))
 
         -- it can run, with its records in the room of the row's
         pub row-runs : (room : ℕ) → Fits s (run .rows) room → Runs st (run .plan) row (run .mark) array room

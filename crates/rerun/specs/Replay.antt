@@ -60,7 +60,7 @@ refusedAt at r n = record { number = n; place = at; replay = r }
 abbrev pub rowsFrom : Settings → (width at : ℕ) → List Row → Replay → Outcome
 rowsFrom st width at [] r = whole r
 rowsFrom st width at (row ∷ rows) r =
-    granted (scansNumber (r .state .done) (row .hold)) (rowsFrom st width (at + width) rows (afterRow st row r)) (refusedAt at r)
+    granted (scansNumber (r .state .«scans_done») (row .hold)) (rowsFrom st width (at + width) rows (afterRow st row r)) (refusedAt at r)
 
 -- these rows of a file, from its first row's place
 abbrev pub replayRows : List ℕ → List Row → Outcome
@@ -79,7 +79,7 @@ answered o =
       place = o .place;
       records = length (o .replay .events);
       rows = o .replay .rows;
-      scans = o .replay .state .done;
+      scans = o .replay .state .«scans_done»;
       live = o .replay .live;
       exercised = o .replay .exercised;
     }

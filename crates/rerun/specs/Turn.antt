@@ -175,7 +175,7 @@ answerOf t =
       place = granted (t .number) 0 (λ n. t .run .place);
       records = t .run .records;
       rows = t .run .rows;
-      scans = t .run .mark .done;
+      scans = t .run .mark .«scans_done»;
       live = t .run .live;
       exercised = t .run .exercised;
     }

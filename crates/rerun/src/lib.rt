@@ -116,7 +116,7 @@ pub fn row(s: &[u8], run: Run, board: &mut [u32; 64], buf: &mut [u8]) -> Turn
 {
     let row = layout::row_at(s, run.place);
     let mark = run.mark;
-    let number = block::scans_number(mark.done, row.hold);
+    let number = block::scans_number(mark.scans_done, row.hold);
     if number != 0 {
         return Turn {
             number: number,
@@ -219,7 +219,7 @@ pub fn answer_of(turn: Turn) -> Replayed
         place: place_at(turn.number, run.place),
         records: run.records,
         rows: run.rows,
-        scans: mark.done,
+        scans: mark.scans_done,
         live: run.live,
         exercised: run.exercised,
     }

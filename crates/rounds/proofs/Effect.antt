@@ -23,7 +23,7 @@ use Rattle.rules.proofs.States.{same-eq, same-refl}
 
 -- the timer is 0 but in Delayed, and first-out is 0 in Normal
 abbrev pub Settled : Slot → Type 0
-Settled x = (cond (same (x .state) Delayed) 0 (x .timer) ≡ 0) × (cond (same (x .state) Normal) (x .first) 0 ≡ 0)
+Settled x = (cond (same (x .state) Delayed) 0 (x .timer) ≡ 0) × (cond (same (x .state) Normal) (x .«first_out») 0 ≡ 0)
 
 -- whatever state is entered
 settled-enter : (s : Signals) (x : Slot) (q : EffectState) → Settled (enter s x q)
@@ -40,7 +40,7 @@ settled-next s x = settled-enter s x (after s x)
 
 -- a slot by its parts
 abbrev slot : EffectState → ℕ → ℕ → Slot
-slot p t f = record { state = p; timer = t; first = f }
+slot p t f = record { state = p; timer = t; «first_out» = f }
 
 -- slots of equal parts are equal
 slot-path : (p : EffectState) {t t′ f f′ : ℕ} → t ≡ t′ → f ≡ f′ → slot p t f ≡ slot p t′ f′
@@ -82,11 +82,11 @@ stays n k s Delayed t f h w =
 -- the law of a skip: one scan more
 pub more : (n k : ℕ) (s : Signals) (x : Slot) → 0 < s .period → Settled x → k < quiet n s x → next s (advance k s x) ≡ advance (suc k) s x
 more n k s x h g w =
-    ap (enter s (advance k s x)) (stays n k s (x .state) (x .timer) (x .first) h w) ∙ rests k s (x .state) (x .timer) (x .first) g
+    ap (enter s (advance k s x)) (stays n k s (x .state) (x .timer) (x .«first_out») h w) ∙ rests k s (x .state) (x .timer) (x .«first_out») g
 
 -- such a scan is not live
 pub unmoved : (n k : ℕ) (s : Signals) (x : Slot) → 0 < s .period → k < quiet n s x → moved s (advance k s x) ≡ false
-unmoved n k s x h w = rw (stays n k s (x .state) (x .timer) (x .first) h w) (ap not (same-refl (x .state)))
+unmoved n k s x h w = rw (stays n k s (x .state) (x .timer) (x .«first_out») h w) (ap not (same-refl (x .state)))
 
 -- no scans change nothing
 pub none : (s : Signals) (x : Slot) → advance 0 s x ≡ x
@@ -155,7 +155,7 @@ wakes-at n s Delayed t f h w = go (moved s x) refl
 
 -- the law of the scan after a skip: it moves
 pub wakes : (n : ℕ) (s : Signals) (x : Slot) → 0 < s .period → quiet n s x < n → moved s (advance (quiet n s x) s x) ≡ true
-wakes n s x h w = wakes-at n s (x .state) (x .timer) (x .first) h w
+wakes n s x h w = wakes-at n s (x .state) (x .timer) (x .«first_out») h w
 
 -- ## Each effect moves at most twice
 

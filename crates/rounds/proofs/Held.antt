@@ -21,7 +21,7 @@ use Rattle.rounds.proofs.Effects.{Timed, clear-clear, timed-clear, Sett
 
 -- the events of a run's next scan
 abbrev pub due : List Signals → Run → List Event
-due ss r = eventsFrom (r .next) (r .done + 1) 1 ss (r .slots)
+due ss r = eventsFrom (r .next) (r .«scans_done» + 1) 1 ss (r .slots)
 
 -- ## What a held run keeps
 
@@ -32,31 +32,31 @@ length-slots ss (suc n) r = length-slots (map clear ss) n (scan ss r) ∙ length
 
 -- it only appends events: those that a run gives which starts there
 pub appends : (ss : List Signals) (n : ℕ) (r : Run)
-    → (held ss n r) .events ≡ r .events ++ (held ss n (start (r .done) (r .next) (r .slots))) .events
+    → (held ss n r) .events ≡ r .events ++ (held ss n (start (r .«scans_done») (r .next) (r .slots))) .events
 appends ss zero r = sym (append-nil (r .events))
 appends ss (suc n) r =
     let s = scan ss r in
-    let es = (held (map clear ss) n (start (s .done) (s .next) (s .slots))) .events in
+    let es = (held (map clear ss) n (start (s .«scans_done») (s .next) (s .slots))) .events in
     appends (map clear ss) n s
     ∙ append-assoc (r .events) (due ss r) es
-    ∙ ap (λ (l : List Event). r .events ++ l) (sym (appends (map clear ss) n (scan ss (start (r .done) (r .next) (r .slots)))))
+    ∙ ap (λ (l : List Event). r .events ++ l) (sym (appends (map clear ss) n (scan ss (start (r .«scans_done») (r .next) (r .slots)))))
 
 -- so their number never falls
 pub grows : (ss : List Signals) (n : ℕ) (r : Run) → length (r .events) ≤ length ((held ss n r) .events)
 grows ss n r =
-    let es = (held ss n (start (r .done) (r .next) (r .slots))) .events in
+    let es = (held ss n (start (r .«scans_done») (r .next) (r .slots))) .events in
     omega (arith, ap length (appends ss n r), length-append (r .events) es)
 
 -- ## The skip
 
 -- runs of equal parts are equal
 run-path : {d d′ q q′ l l′ : ℕ} {xs xs′ : List Slot} {es es′ : List Event} → d ≡ d′ → q ≡ q′ → xs ≡ xs′ → es ≡ es′ → l ≡ l′
-    → _≡_ {A = Run} (record { done = d; next = q; slots = xs; events = es; live = l }) (record { done = d′; next = q′; slots = xs′; events = es′; live = l′ })
-run-path a b c d e = λ i. record { done = a i; next = b i; slots = c i; events = d i; live = e i }
+    → _≡_ {A = Run} (record { «scans_done» = d; next = q; slots = xs; events = es; live = l }) (record { «scans_done» = d′; next = q′; slots = xs′; events = es′; live = l′ })
+run-path a b c d e = λ i. record { «scans_done» = a i; next = b i; slots = c i; events = d i; live = e i }
 
 -- no scans change nothing
 skip-none : (cs : List Signals) (r : Run) → skip 0 cs r ≡ r
-skip-none cs r = run-path (add-zero (r .done)) refl (advances-none cs (r .slots)) refl refl
+skip-none cs r = run-path (add-zero (r .«scans_done»)) refl (advances-none cs (r .slots)) refl refl
 
 -- a scan that is not live gives no event, takes no sequence number, counts as no live scan, and advances the timers and
 -- the scan number
@@ -68,7 +68,7 @@ skip-more n k cs r h g w =
     (omega arith)
     (same-seq (r .next) cs (advances k cs (r .slots)) e)
     (steps-more n k cs (r .slots) h g w)
-    (ap (λ (l : List Event). r .events ++ l) (no-events (r .next) (r .done + k + 1) 1 cs (advances k cs (r .slots)) e) ∙ append-nil (r .events))
+    (ap (λ (l : List Event). r .events ++ l) (no-events (r .next) (r .«scans_done» + k + 1) 1 cs (advances k cs (r .slots)) e) ∙ append-nil (r .events))
     (omega (arith, ap one e))
 
 -- scans without reset are steps that can be skipped
@@ -129,20 +129,20 @@ due-falls : (n : ℕ) (ss : List Signals) (r : Run)
     → length ((iterate (scan (map clear ss)) n r) .events) + ranks ss ((iterate (scan (map clear ss)) n r) .slots) ≤ length (r .events) + ranks ss (r .slots)
 due-falls zero ss r = omega arith
 due-falls (suc n) ss r =
-    omega (arith, due-falls n ss (scan (map clear ss) r), events-fall (r .next) (r .done + 1) 1 ss (r .slots), length-append (r .events) (due (map clear ss) r))
+    omega (arith, due-falls n ss (scan (map clear ss) r), events-fall (r .next) (r .«scans_done» + 1) 1 ss (r .slots), length-append (r .events) (due (map clear ss) r))
 
 -- a held run gives at most two events an effect
 pub due-at-most : (ss : List Signals) (n : ℕ) (r : Run) → length ((held ss n r) .events) ≤ length (r .events) + 2 * length ss
 due-at-most ss zero r = omega arith
 due-at-most ss (suc n) r =
     rw (held-iterate n ss (scan ss r))
-    (omega (arith, due-falls n ss (scan ss r), events-two (r .next) (r .done + 1) 1 ss (r .slots), length-append (r .events) (due ss r)))
+    (omega (arith, due-falls n ss (scan ss r), events-two (r .next) (r .«scans_done» + 1) 1 ss (r .slots), length-append (r .events) (due ss r)))
 
 -- each live scan gives an event
 live-due : (ss : List Signals) (n : ℕ) (r : Run) → (held ss n r) .live + length (r .events) ≤ r .live + length ((held ss n r) .events)
 live-due ss zero r = omega arith
 live-due ss (suc n) r =
-    omega (arith, live-due (map clear ss) n (scan ss r), live-recorded (r .next) (r .done + 1) 1 ss (r .slots), length-append (r .events) (due ss r))
+    omega (arith, live-due (map clear ss) n (scan ss r), live-recorded (r .next) (r .«scans_done» + 1) 1 ss (r .slots), length-append (r .events) (due ss r))
 
 -- so its live scans are at most twice the effects
 pub live-at-most : (ss : List Signals) (n : ℕ) (r : Run) → (held ss n r) .live ≤ r .live + 2 * length ss

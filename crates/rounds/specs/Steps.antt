@@ -12,7 +12,7 @@ use Rattle.effects.specs.Scan.{steps, anyMoved, seqAfter, eventsFrom}
 
 -- a run: the scans done, the next sequence number and the slots, and what it has given so far, its events and its live scans
 pub record Run : Type 0 where
-  pub done : ℕ
+  pub «scans_done» : ℕ
   pub next : ℕ
   pub slots : List Slot
   pub events : List Event
@@ -20,16 +20,16 @@ pub record Run : Type 0 where
 
 -- a run that starts
 abbrev pub start : ℕ → ℕ → List Slot → Run
-start d q xs = record { done = d; next = q; slots = xs; events = []; live = 0 }
+start d q xs = record { «scans_done» = d; next = q; slots = xs; events = []; live = 0 }
 
 -- one scan more
 abbrev pub scan : List Signals → Run → Run
 scan ss r =
     record {
-      done = r .done + 1;
+      «scans_done» = r .«scans_done» + 1;
       next = seqAfter (r .next) ss (r .slots);
       slots = steps ss (r .slots);
-      events = r .events ++ eventsFrom (r .next) (r .done + 1) 1 ss (r .slots);
+      events = r .events ++ eventsFrom (r .next) (r .«scans_done» + 1) 1 ss (r .slots);
       live = r .live + one (anyMoved ss (r .slots));
     }
 

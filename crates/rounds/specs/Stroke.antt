@@ -17,7 +17,7 @@ quiet n s x = cond (moved s x) 0 (cond (same (x .state) Delayed) (min n ((x .tim
 
 -- the effect after k such scans
 abbrev pub advance : ℕ → Signals → Slot → Slot
-advance k s x = record { state = x .state; timer = x .timer - k * s .period; first = x .first }
+advance k s x = record { state = x .state; timer = x .timer - k * s .period; «first_out» = x .«first_out» }
 
 -- ## All effects
 
@@ -39,7 +39,7 @@ advances k (s ∷ ss) (x ∷ xs) = advance k s x ∷ advances k ss xs
 abbrev pub skip : ℕ → List Signals → Run → Run
 skip k ss r =
     record {
-      done = r .done + k;
+      «scans_done» = r .«scans_done» + k;
       next = r .next;
       slots = advances k ss (r .slots);
       events = r .events;

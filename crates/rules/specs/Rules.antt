@@ -99,10 +99,10 @@ firstOutWord s = s .active
 
 -- the first-out in state q, coming from x: 0 in Normal, that word in the scan that leaves Normal, and kept otherwise
 abbrev pub firstAt : Signals → Slot → EffectState → ℕ
-firstAt s x q = cond (same q Normal) 0 (cond (same (x .state) Normal) (firstOutWord s) (x .first))
+firstAt s x q = cond (same q Normal) 0 (cond (same (x .state) Normal) (firstOutWord s) (x .«first_out»))
 
 abbrev pub enter : Signals → Slot → EffectState → Slot
-enter s x q = record { state = q; timer = timerAt s x q; first = firstAt s x q }
+enter s x q = record { state = q; timer = timerAt s x q; «first_out» = firstAt s x q }
 
 -- the effect after the scan
 abbrev pub next : Signals → Slot → Slot
@@ -135,7 +135,7 @@ isExercised s = ltb 0 (s .active)
 
 -- the slot of no effect
 abbrev pub noSlot : Slot
-noSlot = record { state = Tripped; timer = 0; first = 0 }
+noSlot = record { state = Tripped; timer = 0; «first_out» = 0 }
 
 -- the signals of no effect
 abbrev pub noSignals : Signals

@@ -19,7 +19,7 @@ pub enum EffectState {
 pub struct Slot {
     pub state: EffectState,
     pub timer: u32,
-    pub first: u16,
+    pub first_out: u16,
 }
 
 // The code of a state.

@@ -30,10 +30,10 @@ module _ (e : Event) where
       length-append (decimal (e .seq) ++ ascii " ") (decimal (e .scan) ++ ascii " " ++ last)
       ∙ ap (λ (n : ℕ). length (decimal (e .seq) ++ ascii " ") + n) (length-append (decimal (e .scan) ++ ascii " ") last)
 
-  pub length-change : length (change e) ≡ length (name (e .from) ++ ascii " ") + (length (name (e .to) ++ ascii " ") + length (decimal (e .first) ++ ascii "\n"))
+  pub length-change : length (change e) ≡ length (name (e .from) ++ ascii " ") + (length (name (e .to) ++ ascii " ") + length (decimal (e .«first_out») ++ ascii "\n"))
   unfolding change
   length-change =
-      let last = decimal (e .first) ++ ascii "\n" in
+      let last = decimal (e .«first_out») ++ ascii "\n" in
       length-append (name (e .from) ++ ascii " ") (name (e .to) ++ ascii " " ++ last)
       ∙ ap (λ (n : ℕ). length (name (e .from) ++ ascii " ") + n) (length-append (name (e .to) ++ ascii " ") last)
 

@@ -23,13 +23,13 @@ name-at-most WaitStart = lit≤ tt
 name-at-most Normal = lit≤ tt
 name-at-most Delayed = lit≤ tt
 
-pub line-at-most : (e : Event) → e .seq < 256 ^ 2 → e .scan < 256 ^ 4 → e .effect < 256 ^ 1 → e .first < 256 ^ 2 → length (line e) ≤ mostLine
+pub line-at-most : (e : Event) → e .seq < 256 ^ 2 → e .scan < 256 ^ 4 → e .effect < 256 ^ 1 → e .«first_out» < 256 ^ 2 → length (line e) ≤ mostLine
 unfolding line
 line-at-most e s c i f =
     let q = length-decimal 4 (e .seq) (omega arith) in
     let r = length-of-32-bits (e .scan) (omega arith) in
     let t = length-decimal 2 (e .effect) (omega arith) in
-    let u = length-decimal 4 (e .first) (omega arith) in
+    let u = length-decimal 4 (e .«first_out») (omega arith) in
     simp length-append (omega (arith, name-at-most (e .from), name-at-most (e .to)))
 
 -- the records of any bytes

@@ -11,7 +11,7 @@ when e = decimal (e .seq) ++ ascii " " ++ (decimal (e .scan) ++ ascii " " ++ (de
 
 -- and the others
 unfoldable pub change : Event → List ℕ
-change e = lineOf (name (e .from) ∷ name (e .to) ∷ decimal (e .first) ∷ [])
+change e = lineOf (name (e .from) ∷ name (e .to) ∷ decimal (e .«first_out») ∷ [])
 
 -- a word, a space, a number, and a byte behind it
 unfoldable pub total : List ℕ → (v end : ℕ) → List ℕ

@@ -30,7 +30,7 @@ name Delayed = ascii "delayed"
 unfoldable pub line : Event → List ℕ
 line e =
     lineOf
-    (decimal (e .seq) ∷ decimal (e .scan) ∷ decimal (e .effect) ∷ name (e .from) ∷ name (e .to) ∷ decimal (e .first) ∷ [])
+    (decimal (e .seq) ∷ decimal (e .scan) ∷ decimal (e .effect) ∷ name (e .from) ∷ name (e .to) ∷ decimal (e .«first_out») ∷ [])
 
 -- the lines of event records, one after the other
 abbrev pub lines : List Event → List ℕ

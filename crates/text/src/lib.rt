@@ -82,7 +82,7 @@ fn put_change(out: &mut [u8], at: usize, e: Event) -> usize
     let q = e.to;
     let to = put_state(out, at, p);
     let first = put_state(out, to, q);
-    put_number(out, first, e.first as u64, b'\n')
+    put_number(out, first, e.first_out as u64, b'\n')
 }
 
 fn put_line(out: &mut [u8], at: usize, e: Event) -> usize

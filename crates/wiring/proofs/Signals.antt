@@ -28,7 +28,7 @@ use Rattle.settings.specs.declared.Words.{Words}
 use Rattle.settings.specs.Right.{knownOf, settingsNumber, wordsNumber}
 use Rattle.settings.specs.Signals.{badTrip, forcesCount, signals, signalsOf}
 use Rattle.settings.proofs.Right.{count-few, association-lt, inside}
-use Rattle.wiring.specs.Wiring.{associationAt, delayAt, causesOf, delaysOf, unionTo, planOf, trippedOf, askedBy}
+use Rattle.wiring.specs.Wiring.{associationAt, delayAt, associationsOf, delaysOf, unionTo, planOf, trippedOf, askedBy}
 use Rattle.wiring.proofs.Watched.{in-union, and-watched}
 
 -- a bit of a word that counts, or does not
@@ -61,16 +61,16 @@ module _ (st : Settings) (right : settingsNumber st ≡ 0) (w : Words) (words : 
   n = st .count
 
   abbrev asked : Asked
-  asked = askedBy (planOf st) (causesOf st) w
+  asked = askedBy (planOf st) (associationsOf st) w
 
   abbrev shown : ℕ → Signals
-  shown = signalsBy (causesOf st) (delaysOf st) (st .period) (trippedOf w) asked
+  shown = signalsBy (associationsOf st) (delaysOf st) (st .period) (trippedOf w) asked
 
   few : n ≤ 16
   few = count-few st right
 
   -- a cause that no effect watches makes no effect active
-  active-is : (i : ℕ) → i < n → activeAt (causesOf st) (bitAnd (trippedOf w) (unionTo (associationAt st) 16)) i ≡ activeAt (causesOf st) (trippedOf w) i
+  active-is : (i : ℕ) → i < n → activeAt (associationsOf st) (bitAnd (trippedOf w) (unionTo (associationAt st) 16)) i ≡ activeAt (associationsOf st) (trippedOf w) i
   active-is i k =
       let l : i < 16 = lt-of-lt-of-le k few in
       let a = getD-tabulate (associationAt st) 16 i 0 l in
@@ -88,7 +88,7 @@ module _ (st : Settings) (right : settingsNumber st ≡ 0) (w : Words) (words : 
       (bit-if (forcesCount (st .options) w) (w .«force_normal») i)
       (getD-tabulate (delayAt st) 16 i 0 l)
 
-  pub signals-are : signalsIn n (causesOf st) (delaysOf st) (st .period) (trippedOf w) asked ≡ signals st w
+  pub signals-are : signalsIn n (associationsOf st) (delaysOf st) (st .period) (trippedOf w) asked ≡ signals st w
   signals-are = tabulate-ext shown (signalsOf st w) n sees
 
   -- and the words are those of what they show

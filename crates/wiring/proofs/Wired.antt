@@ -9,7 +9,7 @@ use Rattle.bits.specs.Lists.{tabulate}
 use Rattle.bits.proofs.Lists.{length-tabulate}
 use Rattle.cells.specs.Array.{part, partLength, arrayLength, associationsAt, delaysAt, associationsIn, delaysIn}
 use Rattle.settings.specs.declared.Settings.{Settings}
-use Rattle.wiring.specs.Wiring.{associationAt, delayAt, causesOf, delaysOf, wiredInto}
+use Rattle.wiring.specs.Wiring.{associationAt, delayAt, associationsOf, delaysOf, wiredInto}
 use Rattle.cells.proofs.Parts.{length-part, part-filled, part-before, part-after}
 
 -- a part that is filled whole
@@ -23,22 +23,22 @@ part-whole o f xs h =
 module _ (st : Settings) (xs : List ℕ) where
   pub wired-long : length (wiredInto st xs) ≡ length xs
   unfolding wiredInto
-  wired-long = length-sets (sets xs associationsAt (causesOf st)) delaysAt (delaysOf st) ∙ length-sets xs associationsAt (causesOf st)
+  wired-long = length-sets (sets xs associationsAt (associationsOf st)) delaysAt (delaysOf st) ∙ length-sets xs associationsAt (associationsOf st)
 
   -- the parts past the delays stay
   pub wired-past : (o : ℕ) → delaysAt + partLength ≤ o → part o (wiredInto st xs) ≡ part o xs
   unfolding wiredInto
   wired-past o h =
-      part-after o delaysAt (sets xs associationsAt (causesOf st)) (delaysOf st) (omega (arith, length-tabulate (delayAt st) partLength))
-      ∙ part-after o associationsAt xs (causesOf st) (omega (arith, length-tabulate (associationAt st) partLength))
+      part-after o delaysAt (sets xs associationsAt (associationsOf st)) (delaysOf st) (omega (arith, length-tabulate (delayAt st) partLength))
+      ∙ part-after o associationsAt xs (associationsOf st) (omega (arith, length-tabulate (associationAt st) partLength))
 
-  pub wired-associations : length xs ≡ arrayLength → associationsIn (wiredInto st xs) ≡ causesOf st
+  pub wired-associations : length xs ≡ arrayLength → associationsIn (wiredInto st xs) ≡ associationsOf st
   unfolding wiredInto
   wired-associations long =
-      part-before associationsAt delaysAt (sets xs associationsAt (causesOf st)) (delaysOf st) (omega arith)
+      part-before associationsAt delaysAt (sets xs associationsAt (associationsOf st)) (delaysOf st) (omega arith)
       ∙ part-whole associationsAt (associationAt st) xs (omega arith)
 
   pub wired-delays : length xs ≡ arrayLength → delaysIn (wiredInto st xs) ≡ delaysOf st
   unfolding wiredInto
   wired-delays long =
-      part-whole delaysAt (delayAt st) (sets xs associationsAt (causesOf st)) (omega (arith, length-sets xs associationsAt (causesOf st)))
+      part-whole delaysAt (delayAt st) (sets xs associationsAt (associationsOf st)) (omega (arith, length-sets xs associationsAt (associationsOf st)))

@@ -37,15 +37,15 @@ abbrev pub delayAt : Settings → ℕ → ℕ
 delayAt st i = getD (st .effects) i noEffect .delay
 
 -- those of all slots
-abbrev pub causesOf : Settings → List ℕ
-causesOf st = tabulate (associationAt st) 16
+abbrev pub associationsOf : Settings → List ℕ
+associationsOf st = tabulate (associationAt st) 16
 
 abbrev pub delaysOf : Settings → List ℕ
 delaysOf st = tabulate (delayAt st) 16
 
 -- the array with them
 unfoldable pub wiredInto : Settings → (array : List ℕ) → List ℕ
-wiredInto st array = sets (sets array associationsAt (causesOf st)) delaysAt (delaysOf st)
+wiredInto st array = sets (sets array associationsAt (associationsOf st)) delaysAt (delaysOf st)
 
 -- the bits that are set in any of n words
 unfoldable pub unionTo : (ℕ → ℕ) → ℕ → ℕ
@@ -67,7 +67,7 @@ planOf st =
 -- plan and array are those of the settings
 pub record Wired (st : Settings) (plan : Plan) (array : List ℕ) : Type 0 where
   pub plan-is : plan ≡ planOf st
-  pub associations-are : associationsIn array ≡ causesOf st
+  pub associations-are : associationsIn array ≡ associationsOf st
   pub delays-are : delaysIn array ≡ delaysOf st
   pub long : length array ≡ arrayLength
 
@@ -78,13 +78,13 @@ abbrev pub trippedOf : Words → ℕ
 trippedOf w = bitAnd (65535 - w .mask) (65535 - w .values)
 
 -- what the rules are asked
-unfoldable pub askedBy : Plan → (causes : List ℕ) → Words → Asked
-askedBy plan causes w =
+unfoldable pub askedBy : Plan → (associations : List ℕ) → Words → Asked
+askedBy plan associations w =
     record {
       «force_trip» = cond (forcesCount (plan .options) w) (w .«force_trip») 0;
       «force_normal» = cond (forcesCount (plan .options) w) (w .«force_normal») 0;
       «bad_trip» = cond (badTrip (plan .options) w) (plan .all) 0;
-      active = wordOf (activeAt causes (bitAnd (trippedOf w) (plan .watched))) (plan .count);
+      active = wordOf (activeAt associations (bitAnd (trippedOf w) (plan .watched))) (plan .count);
       «require_reset» = w .«require_reset»;
       «reset_permit» = w .«reset_permit»;
       «start_permit» = w .«start_permit»;
@@ -93,9 +93,9 @@ askedBy plan causes w =
     }
 
 -- what the row asks of a stroke
-abbrev pub taskOf : Plan → (causes : List ℕ) → Row → Task
-taskOf plan causes row =
-    record { hold = row .hold; tripped = trippedOf (row .words); asked = askedBy plan causes (row .words) }
+abbrev pub taskOf : Plan → (associations : List ℕ) → Row → Task
+taskOf plan associations row =
+    record { hold = row .hold; tripped = trippedOf (row .words); asked = askedBy plan associations (row .words) }
 
 -- ## A held run
 
@@ -130,7 +130,7 @@ pub record Runs (st : Settings) (plan : Plan) (row : Row) (x : Mark) (array : Li
   pub settings : settingsNumber st ≡ 0
   pub wired : Wired st plan array
   pub row-right : rowNumber (knownOf st) row ≡ 0
-  pub countable : x .done + row .hold ≤ mostScans
+  pub countable : x .«scans_done» + row .hold ≤ mostScans
   pub shown : Shown (st .count) (boardAt x array .table)
   pub fits : recordLength * length (heldOf st row x array .events) ≤ room
 

@@ -16,6 +16,7 @@ use layout::Kind;
 use settings::Effect;
 use settings::Row;
 use settings::Settings;
+use settings::Words;
 
 // What writing a piece comes to: the bytes written, or the refusal's number.
 pub enum Written {
@@ -50,16 +51,28 @@ fn rows_section(count: usize) -> usize
 
 // ---- stores
 
-// Five words from `at`.
-fn put_five(s: &mut [u8], at: usize, a: u16, b: u16, c: u16, d: u16, e: u16)
+// The first five words of a row, from `at`.
+fn put_first_words(s: &mut [u8], at: usize, w: Words)
     requires { ⌜ at + 10 ≤ length (now s) ⌝ }
-    ensures { λ _. ⌜ now (s .exit) ≡ sets (now (s .entry)) at (pack (2 ∷ 2 ∷ 2 ∷ 2 ∷ 2 ∷ []) (a ∷ b ∷ c ∷ d ∷ e ∷ [])) ⌝ }
+    ensures { λ _. ⌜ now (s .exit) ≡ sets (now (s .entry)) at (pack (2 ∷ 2 ∷ 2 ∷ 2 ∷ 2 ∷ []) (w .values ∷ w .bad ∷ w .mask ∷ w .«require_reset» ∷ w .«reset_permit» ∷ [])) ⌝ }
 {
-    bits::put16(s, at, a);
-    bits::put16(s, at + 2, b);
-    bits::put16(s, at + 4, c);
-    bits::put16(s, at + 6, d);
-    bits::put16(s, at + 8, e);
+    bits::put16(s, at, w.values);
+    bits::put16(s, at + 2, w.bad);
+    bits::put16(s, at + 4, w.mask);
+    bits::put16(s, at + 6, w.require_reset);
+    bits::put16(s, at + 8, w.reset_permit);
+}
+
+// And the last five.
+fn put_last_words(s: &mut [u8], at: usize, w: Words)
+    requires { ⌜ at + 10 ≤ length (now s) ⌝ }
+    ensures { λ _. ⌜ now (s .exit) ≡ sets (now (s .entry)) at (pack (2 ∷ 2 ∷ 2 ∷ 2 ∷ 2 ∷ []) (w .«start_permit» ∷ w .reset ∷ w .«force_permit» ∷ w .«force_trip» ∷ w .«force_normal» ∷ [])) ⌝ }
+{
+    bits::put16(s, at, w.start_permit);
+    bits::put16(s, at + 2, w.reset);
+    bits::put16(s, at + 4, w.force_permit);
+    bits::put16(s, at + 6, w.force_trip);
+    bits::put16(s, at + 8, w.force_normal);
 }
 
 fn put_row(s: &mut [u8], at: usize, row: Row)
@@ -68,24 +81,8 @@ fn put_row(s: &mut [u8], at: usize, row: Row)
 {
     let w = row.words;
     bits::put32(s, at, row.hold);
-    put_five(
-        s,
-        at + 4,
-        w.values,
-        w.bad,
-        w.mask,
-        w.require_reset,
-        w.reset_permit,
-    );
-    put_five(
-        s,
-        at + 14,
-        w.start_permit,
-        w.reset,
-        w.force_permit,
-        w.force_trip,
-        w.force_normal,
-    );
+    put_first_words(s, at + 4, w);
+    put_last_words(s, at + 14, w);
 }
 
 fn put_effect(s: &mut [u8], at: usize, e: Effect)

@@ -17,7 +17,7 @@ returns c =
     let l = now (a .out) in
     let k = c .before .before .before .before .before .before .before .before .before .before .before .code .ensures in
     let two = sets-then l _ _ (a .at) 1 (digits 1 (code (a .x .state))) (digits 4 (a .x .timer)) (rw k at (c .before .before .before .before .before .before .before .before .before .before .put8 .ensures)) (c .before .before .before .before .before .before .put32 .ensures) refl in
-    sets-then l _ _ (a .at) 5 (digits 1 (code (a .x .state)) ++ digits 4 (a .x .timer)) (digits 2 (a .x .first)) two (c .before .before .put16 .ensures) refl
+    sets-then l _ _ (a .at) 5 (digits 1 (code (a .x .state)) ++ digits 4 (a .x .timer)) (digits 2 (a .x .«first_out»)) two (c .before .before .put16 .ensures) refl
 
 pub put-slot-spec : {M : Type 1} → statement M
 put-slot-spec =

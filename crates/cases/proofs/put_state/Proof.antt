@@ -15,9 +15,9 @@ unfolding stateBytes
 returns c =
     let a = c .before .before .before .before .before .before .before .before .before .before .before .before .before .before .args in
     let l = now (a .out) in
-    let two = sets-then l _ _ (a .at) 4 (digits 4 (a .x .done)) (digits 2 (a .x .next)) (c .before .before .before .before .before .before .before .before .before .before .put32 .ensures) (c .before .before .before .before .before .before .put16 .ensures) refl in
+    let two = sets-then l _ _ (a .at) 4 (digits 4 (a .x .«scans_done»)) (digits 2 (a .x .next)) (c .before .before .before .before .before .before .before .before .before .before .put32 .ensures) (c .before .before .before .before .before .before .put16 .ensures) refl in
     let slots = c .before .before .put-slots .ensures in
-    (sets-then l _ _ (a .at) 6 (digits 4 (a .x .done) ++ digits 2 (a .x .next)) (flatMap slotBytes (a .x .slots)) two (slots .0) refl, omega (arith, slots .1))
+    (sets-then l _ _ (a .at) 6 (digits 4 (a .x .«scans_done») ++ digits 2 (a .x .next)) (flatMap slotBytes (a .x .slots)) two (slots .0) refl, omega (arith, slots .1))
 
 pub put-state-spec : {M : Type 1} → statement M
 put-state-spec =

@@ -20,10 +20,10 @@ Inv-loop count board tripped word₀ i₀ word i = (i ≤ count) × (word ≡ wo
 abbrev μ-loop : tie.MeasureT-loop
 μ-loop count board tripped word₀ i₀ word i = count - i
 
-none-active : (causes : List ℕ) (n : ℕ) → wordOf (activeAt causes 0) n ≡ 0
+none-active : (associations : List ℕ) (n : ℕ) → wordOf (activeAt associations 0) n ≡ 0
 unfolding wordOf
-none-active causes zero = refl
-none-active causes (suc n) = rw (none-active causes n, and-zero-r)
+none-active associations zero = refl
+none-active associations (suc n) = rw (none-active associations n, and-zero-r)
 
 -- no cause is tripped
 returns : tie.Need-returns Inv-loop μ-loop

@@ -13,7 +13,7 @@ returns c =
     let a = c .before .before .before .before .before .before .before .before .before .args in
     c .before .before .put-change .ensures
     ∙ rw (c .before .before .before .before .before .before .put-number .ensures)
-    (sym (sets-append (now (a .buf)) (a .at) (pack (2 ∷ 4 ∷ 1 ∷ []) (a .r .seq ∷ a .r .scan ∷ a .r .effect ∷ [])) (pack (1 ∷ 1 ∷ 1 ∷ 2 ∷ []) (a .r .from ∷ a .r .to ∷ 0 ∷ a .r .first ∷ []))))
+    (sym (sets-append (now (a .buf)) (a .at) (pack (2 ∷ 4 ∷ 1 ∷ []) (a .r .seq ∷ a .r .scan ∷ a .r .effect ∷ [])) (pack (1 ∷ 1 ∷ 1 ∷ 2 ∷ []) (a .r .from ∷ a .r .to ∷ 0 ∷ a .r .«first_out» ∷ []))))
 
 pub put-record-spec : {M : Type 1} → statement M
 put-record-spec =

@@ -28,7 +28,7 @@ returns c =
     let k = c .before .before .before .before .before .before .before in
     let a = k .before .before .before .before .before .before .before .args in
     let e = a .e in
-    let last = decimal (e .first) ++ ascii "\n" in
+    let last = decimal (e .«first_out») ++ ascii "\n" in
     let later = put-then _ _ _ _ _ _ (name (e .to) ++ ascii " ") last (k .put-state2 .ensures) (c .before .before .put-number .ensures) in
     put-then (now (a .out)) _ _ (a .at) _ _ (name (e .from) ++ ascii " ") (name (e .to) ++ ascii " " ++ last) (k .before .before .before .before .put-state .ensures) later
 

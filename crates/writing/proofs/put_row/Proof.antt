@@ -20,8 +20,8 @@ returns c =
     let h = digits 4 (a .row .hold) in
     let x = pack five (w .values ∷ w .bad ∷ w .mask ∷ w .«require_reset» ∷ w .«reset_permit» ∷ []) in
     let y = pack five (w .«start_permit» ∷ w .reset ∷ w .«force_permit» ∷ w .«force_trip» ∷ w .«force_normal» ∷ []) in
-    let t = sets-then (now (a .s)) _ _ (a .at) 4 h x (c .before .before .before .before .before .before .before .before .before .before .put32 .ensures) (c .before .before .before .before .before .before .put-five .ensures) refl in
-    sets-then (now (a .s)) _ _ (a .at) 14 (h ++ x) y t (c .before .before .put-five2 .ensures) refl
+    let t = sets-then (now (a .s)) _ _ (a .at) 4 h x (c .before .before .before .before .before .before .before .before .before .before .put32 .ensures) (c .before .before .before .before .before .before .put-first-words .ensures) refl in
+    sets-then (now (a .s)) _ _ (a .at) 14 (h ++ x) y t (c .before .before .put-last-words .ensures) refl
 
 pub put-row-spec : {M : Type 1} → statement M
 put-row-spec =

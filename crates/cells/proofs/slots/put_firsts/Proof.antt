@@ -12,7 +12,7 @@ use Rattle.cells.proofs.slots.put_firsts.Statement.{statement}
 use Rattle.cells.proofs.slots.put_firsts.Tie as tie
 
 abbrev Inv-loop : tie.InvT-loop
-Inv-loop board₀ count xs i₀ board i = (i ≤ count) × (board ≡ upTo firstsAt (λ k. getD xs k noSlot .first) board₀ i)
+Inv-loop board₀ count xs i₀ board i = (i ≤ count) × (board ≡ upTo firstsAt (λ k. getD xs k noSlot .«first_out») board₀ i)
 
 abbrev μ-loop : tie.MeasureT-loop
 μ-loop board₀ count xs i₀ board i = count - i

@@ -6,11 +6,11 @@ use lib.ListN.{length}
 use Rattle.bits.specs.Decimal.{atMost, decimal}
 use Rattle.recording.specs.declared.Answer.{Answer}
 use Rattle.rerun.specs.Replay.{replay}
-use Rattle.rerun.specs.Session.{session, sessionEvents}
-use Rattle.rerun.proofs.Session.{the-session-is-read, the-session}
+use Rattle.worked.specs.Recorded.{session, sessionEvents}
+use Rattle.worked.proofs.Recorded.{the-session-is-read, the-session}
 use Rattle.text.specs.Text.{header, name, line, lines, lastLine}
 use Rattle.listing.specs.Listing.{closing, listed, listing}
-use Rattle.listing.specs.Session.{sessionText}
+use Rattle.worked.specs.Listed.{sessionText}
 
 -- by its events and totals; nothing is refused, so that no place counts
 spelled : (p : ℕ) → header ++ lines sessionEvents ++ closing (record { number = 0; place = p; records = 5; rows = 2; scans = 8; live = 3; exercised = 5 }) ≡ sessionText

@@ -10,13 +10,13 @@ use Rattle.recording.specs.declared.Answer.{Answer}
 use Rattle.recording.specs.declared.Answer.the-variants as A
 use Rattle.recording.specs.Answers.{number}
 use Rattle.rerun.specs.Replay.{replay, answered}
-use Rattle.rerun.specs.Session.{session, sessionEvents}
-use Rattle.rerun.proofs.Session.{the-session-is-read, the-session}
+use Rattle.worked.specs.Recorded.{session, sessionEvents}
+use Rattle.worked.proofs.Recorded.{the-session-is-read, the-session}
 use Rattle.embed.specs.Crossing.{checkBytes, totalsBytes, numbers, fitted, checked, checkNumber, checkInto, crossing, replayNumber, recordsInto, totalsInto}
-use Rattle.embed.specs.Session.{sessionRecords, sessionTotals, sessionAnswer}
+use Rattle.worked.specs.Crossed.{sessionRecords, sessionTotals, sessionAnswer}
 use Rattle.embed.proofs.Stores.{fits}
 use Rattle.embed.proofs.Answers.{crosses}
 use Rattle.embed.proofs.Theorems.{check-with-room, nothing-refused, no-place-for-ten}
 
 records-spelled : bytes sessionEvents ≡ sessionRecords
 unfolding encode flatMap

@@ -5,9 +5,9 @@ use lib.Count.{ones, onesIn}
 use Rattle.bits.specs.Lists.{tabulate}
 use Rattle.settings.specs.Right.{settingsNumber, wordsNumber, rowNumber}
 use Rattle.settings.specs.Signals.{signalsOf}
 use Rattle.block.specs.State.{stateNumber}
 use Rattle.block.specs.Scan.{inputNumber, after, events, scanNumber, scanOf}
-use Rattle.block.specs.Corners.{corners, allAgree}
+use Rattle.worked.specs.Corners.{corners, allAgree}
 
 pub corner-table : allAgree corners ≡ true
 unfolding ones onesIn tabulate settingsNumber wordsNumber rowNumber signalsOf stateNumber inputNumber after events scanNumber scanOf

@@ -59,7 +59,7 @@ causing value bad mask forcePermit forceNormal =
     }
 
 abbrev slot : EffectState → (timer first : ℕ) → Slot
-slot p t f = record { state = p; timer = t; first = f }
+slot p t f = record { state = p; timer = t; «first_out» = f }
 
 abbrev corner : (number options delay : ℕ) → Words → (before after : Slot) → Corner
 corner n o d w a b = record { number = n; options = o; delay = d; words = w; before = a; after = b }
@@ -104,10 +104,10 @@ settingsOf c =
     }
 
 abbrev stateBefore : Corner → State
-stateBefore c = record { done = 0; next = 0; slots = c .before ∷ replicate 15 noSlot }
+stateBefore c = record { «scans_done» = 0; next = 0; slots = c .before ∷ replicate 15 noSlot }
 
 abbrev sameSlot : Slot → Slot → Bool
-sameSlot a b = same (a .state) (b .state) && eqb (a .timer) (b .timer) && eqb (a .first) (b .first)
+sameSlot a b = same (a .state) (b .state) && eqb (a .timer) (b .timer) && eqb (a .«first_out») (b .«first_out»)
 
 -- the scan of a corner, with room for one record: it is accepted, and the effect is then as the table says
 abbrev scanned : Corner → Scanned

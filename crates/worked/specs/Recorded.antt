@@ -15,7 +15,7 @@ session =
     ∷ []
 
 abbrev event : (seq scan effect : ℕ) → (from to : EffectState) → (first : ℕ) → Event
-event q c i a b f = record { seq = q; scan = c; effect = i; from = a; to = b; first = f }
+event q c i a b f = record { seq = q; scan = c; effect = i; from = a; to = b; «first_out» = f }
 
 abbrev pub sessionEvents : List Event
 sessionEvents =

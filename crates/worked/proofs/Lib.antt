@@ -1,0 +1,4 @@
+pub mod Recorded
+pub mod Listed
+pub mod Crossed
+pub mod Corners
