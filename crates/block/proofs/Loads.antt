@@ -24,10 +24,9 @@ use Rattle.wiring.proofs.Wired.{wired-long, wired-past, wired-associations, wir
 use Rattle.settings.specs.declared.Row.{Row}
 use Rattle.settings.specs.declared.Settings.{Settings}
 use Rattle.block.specs.declared.State.{State}
-use Rattle.block.specs.declared.Loaded.{Loaded}
 use Rattle.block.specs.Scan.{inputNumber}
 use Rattle.block.specs.Held.{run}
-use Rattle.block.specs.Run.{reachedBy, keptState, LoadedAs, Runs}
+use Rattle.block.specs.Run.{Loaded, reachedBy, keptState, LoadedAs, Runs}
 use Rattle.block.proofs.Answers.{settings-right, state-right}
 use Rattle.block.proofs.Boards.{shows}
 use Rattle.block.proofs.Runs.{state}

@@ -21,7 +21,6 @@ use Rattle.wiring.specs.Wiring.{associationsOf, delaysOf, Wired}
 use Rattle.block.specs.declared.State.{State}
 use Rattle.block.specs.declared.Scanned.{Scanned}
 use Rattle.block.specs.declared.Held.{Held}
-use Rattle.block.specs.declared.Loaded.{Loaded}
 use Rattle.block.specs.Scan.{inputNumber}
 use Rattle.block.specs.Held.{Stepped, run}
 
@@ -36,6 +35,11 @@ reachedBy n b = record { «scans_done» = b .«scans_done»; next = b .next; slo
 -- the run over lists that single scans have come to
 abbrev pub runOf : Stepped → Run
 runOf r = record { «scans_done» = r .state .«scans_done»; next = r .state .next; slots = r .state .slots; events = r .events; live = r .live }
+
+-- a mark, and the array beside it
+pub record Loaded : Type 0 where
+  pub mark : Mark
+  pub board : List ℕ
 
 -- what a stroke starts with, at a state
 pub record LoadedAs (st : Settings) (x : State) (r : Loaded) : Type 0 where

@@ -4,7 +4,7 @@
 // them) may change without moving a contract; the order of the numbers and what a state keeps may not.
 ghost use mathlib.Core.Path.{_≡_};
 ghost use Prim.Native.Nat.{_*_, _≤_, _<_};
-ghost use lib.ListN.{length};
+ghost use lib.ListN.{length, replicate};
 ghost use lib.Seq.{sets};
 ghost use Rattle.bits.specs.Lists.{allFrom};
 ghost use Rattle.bits.specs.Words.{one};
@@ -13,7 +13,7 @@ ghost use Rattle.rules.specs.Limits.{mostScans};
 ghost use Rattle.block.specs.State.{timerRight, firstRight, slotRight, slotUnused, slotOk, stateNumber, fresh as freshState};
 ghost use Rattle.block.specs.Scan.{scansNumber, inputNumber, scanOf, scanInto};
 ghost use Rattle.block.specs.Held.{run, grantedHeld, refusedHeld, heldOf, heldInto};
-ghost use Rattle.cells.specs.Array.{firstsIn};
+ghost use Rattle.cells.specs.Array.{arrayLength, firstsIn};
 ghost use Rattle.engine.specs.Marks.{boardAt};
 ghost use Rattle.boards.specs.Table.{Narrow};
 ghost use Rattle.block.specs.Run.{LoadedAs, reachedBy, Runnable, RunsBy, scannedBy};
@@ -55,12 +55,6 @@ pub struct Held {
     pub records: usize,
     pub live: u32,
     pub exercised: u32,
-}
-
-// A state by the words of its effects, and the array of what its effects have: what a stroke starts with.
-pub struct Loaded {
-    pub mark: Mark,
-    pub board: [u32; 64],
 }
 
 // ---- what is right of a state: 8
@@ -197,23 +191,21 @@ pub fn exercised_scans(hold: u32, exercised: bool) -> u32
     if exercised { hold } else { 0 }
 }
 
-// What a stroke by these settings starts with, at a state.
-pub fn load(st: Settings, x: State) -> Loaded
-    requires { ⌜ st .count ≤ 16 ⌝ }
-    ensures { λ r. ⌜ LoadedAs st x r ⌝ }
+// What a stroke by these settings starts with, at a state: its mark, and the array, which is 0 before.
+pub fn load(board: &mut [u32; 64], st: Settings, x: State) -> Mark
+    requires { ⌜ (st .count ≤ 16) × (now board ≡ replicate arrayLength 0) ⌝ }
+    ensures { λ r. ⌜ LoadedAs st x (record { mark = r; board = now (board .exit) }) ⌝ }
 {
     let slots = x.slots;
-    let mut board = [0u32; 64];
-    wiring::wire(&mut board, st);
-    let planes = cells::load(&mut board, st.count as usize, slots);
-    let mark = Mark {
+    wiring::wire(board, st);
+    let planes = cells::load(board, st.count as usize, slots);
+    Mark {
         scans_done: x.scans_done,
         next: x.next,
         at: 0,
         live: 0,
         planes,
-    };
-    Loaded { mark, board }
+    }
 }
 
 // The state that a stroke has come to.
@@ -244,9 +236,8 @@ pub fn run_right(buf: &mut [u8], st: Settings, row: Row, x: State) -> Held
     ensures { λ r. ⌜ r ≡ grantedHeld st row x ⌝ }
     ensures { λ _. ⌜ now (buf .exit) ≡ sets (now (buf .entry)) 0 (bytes (run st row x .events)) ⌝ }
 {
-    let loaded = load(st, x);
-    let from = loaded.mark;
-    let mut board = loaded.board;
+    let mut board = [0u32; 64];
+    let from = load(&mut board, st, x);
     let plan = wiring::plan_of(st);
     let r = wiring::stroke(buf, &mut board, plan, row, from);
     let mark = r.mark;

@@ -16,9 +16,7 @@ use Rattle.engine.specs.Marks.{boardAt, begun}
 use Rattle.settings.specs.declared.Settings.{Settings}
 use Rattle.wiring.specs.declared.Struck.{Struck}
 use Rattle.wiring.specs.Wiring.{Wired, Stroked}
-use Rattle.block.specs.declared.Loaded.{Loaded}
 use Rattle.rerun.specs.declared.Run.{Run}
-use Rattle.rerun.specs.declared.Begun.{Begun}
 use Rattle.rerun.specs.declared.Turn.{Turn}
 use Rattle.listing.specs.declared.Printed.{Printed}
 use Rattle.rerun.specs.Replay.{firstRows}
@@ -127,12 +125,6 @@ module _ {s : List ℕ} {run run′ : Run} {xs ys : List ℕ} (h : Going s run x
 
 abbrev pub struckBy : Mark → Stroked → Struck
 struckBy mark s = record { mark = mark; effect = s .effect; latent = s .latent; exercised = s .exercised }
-
-abbrev pub loadedBy : Mark → List ℕ → Loaded
-loadedBy mark board = record { mark = mark; board = board }
-
-abbrev pub begunBy : Run → List ℕ → Begun
-begunBy run board = record { run = run; board = board }
 
 abbrev turnBy : ℕ → ℕ → Run → Turn
 turnBy number records run = record { number = number; records = records; run = run }

@@ -67,7 +67,7 @@ use Rattle.settings.proofs.Right.{hold-some}
 use Rattle.block.proofs.Answers.{row-right}
 use Rattle.demands.specs.Contracts.{Unique, UniqueWhereAsked, none, both}
 use Rattle.demands.proofs.Unique.{by-equations, by-equation}
-use Rattle.demands.proofs.Determined.{same-array, same-mark, same-end, same-plan, same-wired, same-run, going-run, going-array, lent, struckBy, loadedBy, begunBy, same-turn, same-printed, same-exercised}
+use Rattle.demands.proofs.Determined.{same-array, same-mark, same-end, same-plan, same-wired, same-run, going-run, going-array, lent, struckBy, same-turn, same-printed, same-exercised}
 
 -- ## Bits, numbers and text (`bits`)
 
@@ -227,12 +227,12 @@ wiring-stroke κs a r q e f asked h k =
 
 -- ## A held run without its checks (`block`)
 
-pub block-load : (κs : Lfts 0) → Unique (block·load.Learnt κs) none
+pub block-load : (κs : Lfts 1) → Unique (block·load.Learnt κs) (λ e. now (e .0))
 block-load κs a r q e f h k =
-    let shown = h .board-is ∙ sym (k .board-is) in
-    let mark : r .mark ≡ q .mark = same-mark (r .board) (q .board) shown in
-    let board : r .board ≡ q .board = same-array (h .long) (k .long) shown (h .associations-are ∙ sym (k .associations-are)) (h .delays-are ∙ sym (k .delays-are)) in
-    (ap₂ loadedBy mark board, refl)
+    let shown = h .board-is ∙ sym (k .board-is) in (
+      same-mark (now (e .0)) (now (f .0)) shown,
+      same-array (h .long) (k .long) shown (h .associations-are ∙ sym (k .associations-are)) (h .delays-are ∙ sym (k .delays-are)),
+    )
 
 pub block-exercised-scans : (κs : Lfts 0) → Unique (block·exercised-scans.Learnt κs) none
 block-exercised-scans κs = by-equation (block·exercised-scans.Learnt κs) _ (λ a r e h. h)
@@ -255,12 +255,12 @@ block-run-kept κs a r q e f asked h k =
 
 -- ## A replay row by row (`rerun`)
 
-pub rerun-begin : (κs : Lfts 0) → Unique (rerun·begin.Learnt κs) none
+pub rerun-begin : (κs : Lfts 1) → Unique (rerun·begin.Learnt κs) (λ e. now (e .1 .1 .1 .1 .0))
 rerun-begin κs a r q e f h k =
-    let shown = h .totals ∙ sym (k .totals) in
-    let run : r .run ≡ q .run = same-run (r .board) (q .board) shown (same-plan (h .wired) (k .wired)) (h .wide ∙ sym (k .wide)) (h .many ∙ sym (k .many)) in
-    let board : r .board ≡ q .board = same-wired (h .wired) (k .wired) (ap (λ (t : Totals). t .board) shown) in
-    (ap₂ begunBy run board, refl)
+    let shown = h .totals ∙ sym (k .totals) in (
+      same-run (now (e .1 .1 .1 .1 .0)) (now (f .1 .1 .1 .1 .0)) shown (same-plan (h .wired) (k .wired)) (h .wide ∙ sym (k .wide)) (h .many ∙ sym (k .many)),
+      same-wired (h .wired) (k .wired) (ap (λ (t : Totals). t .board) shown),
+    )
 
 pub rerun-row : (κs : Lfts 3) → Unique (rerun·row.Learnt κs) (both (λ e. now (e .1 .1 .0)) (λ e. now (e .1 .1 .1 .0)))
 rerun-row κs a r q e f h k =

@@ -202,9 +202,8 @@ pub extern "C" fn pohandira_replay(recording: &[u8], records: &mut [u8], totals:
     match answer {
         Answer::Accepted { rows, first, width } => {
             let stop = rerun::stop_of(recording, rows, first, width);
-            let begun = rerun::begin(st, rows, first, width);
-            let run = begun.run;
-            let mut board = begun.board;
+            let mut board = [0u32; 64];
+            let run = rerun::begin(st, rows, first, width, &mut board);
             replay_accepted(recording, stop, run, &mut board, records, totals)
         }
         Answer::Refused { number, place } => refuse(totals, number, place),

@@ -130,9 +130,8 @@ pub fn print(s: &[u8], out: &mut [u8]) -> u8
     let answer = reading.answer;
     match answer {
         Answer::Accepted { rows, first, width } => {
-            let begun = rerun::begin(st, rows, first, width);
-            let run = begun.run;
-            let mut board = begun.board;
+            let mut board = [0u32; 64];
+            let run = rerun::begin(st, rows, first, width, &mut board);
             print_rows(s, run, &mut board, out, opened.at)
         }
         Answer::Refused { number, place: _ } => status(flush(out, opened.at), number),

@@ -34,11 +34,10 @@ use Rattle.recording.specs.Reader.{reading}
 use Rattle.layout.specs.Sections.{widthOf, mostOf}
 use Rattle.recording.specs.Steps.{rowPlace}
 use Rattle.exactness.proofs.Theorems.{first-row-after-the-opening, row-in-the-file}
-use Rattle.rerun.specs.declared.Begun.{Begun}
 use Rattle.rerun.specs.declared.Run.{Run}
 use Rattle.rerun.specs.declared.Turn.{Turn}
 use Rattle.rerun.specs.Replay.{Replay, Outcome, whole, joined, refusedAt, started, replay, answered, firstRows, rowOf, rowRun}
-use Rattle.rerun.specs.Turn.{Totals, totalsAt, totalsOf, totalsIn, Going, Begins, Fits, RowDone, runAfter, SmallSums, rowsInto, roomOf, RowsReady, RowsDone, answerOf}
+use Rattle.rerun.specs.Turn.{Begun, Totals, totalsAt, totalsOf, totalsIn, Going, Begins, Fits, RowDone, runAfter, SmallSums, rowsInto, roomOf, RowsReady, RowsDone, answerOf}
 use Rattle.rerun.proofs.Files.{no-rows, all-the-rows, whole-so-far, counted, numberAt, next-number, next-runs, stops-there, told, settings-right, most-effects, row-right, few-rows, sound, sound-next, scans-next, records-next}
 use Rattle.rerun.proofs.Filling.{all-kept}
 

@@ -19,7 +19,6 @@ use Rattle.block.specs.Run.{startOf}
 use Rattle.recording.specs.Answers.{number, rowCount, rowWidth}
 use Rattle.recording.specs.Reader.{reading}
 use Rattle.recording.specs.Steps.{rowPlace}
-use Rattle.rerun.specs.declared.Begun.{Begun}
 use Rattle.rerun.specs.declared.Run.{Run}
 use Rattle.rerun.specs.declared.Turn.{Turn}
 use Rattle.rerun.specs.declared.Replayed.{Replayed}
@@ -76,6 +75,11 @@ pub record Going (s : List ℕ) (run : Run) (array : List ℕ) : Type 0 where
   pub totals : totalsIn run array ≡ totalsOf s (firstRows s (run .rows) .replay)
 
 -- ## The beginning
+
+-- a run, and the array beside it
+pub record Begun : Type 0 where
+  pub run : Run
+  pub board : List ℕ
 
 -- by the settings, and the rows' number, first place and width
 pub record Begins (st : Settings) (rows first width : ℕ) (r : Begun) : Type 0 where

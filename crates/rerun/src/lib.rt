@@ -5,7 +5,8 @@
 // and the laws of proofs/Turns alone.
 ghost use mathlib.Core.Path.{_≡_};
 ghost use Prim.Native.Nat.{_≤_};
-ghost use lib.ListN.{length};
+ghost use lib.ListN.{length, replicate};
+ghost use Rattle.cells.specs.Array.{arrayLength};
 ghost use Rattle.recording.specs.declared.Answer.the-variants.{Accepted};
 ghost use Rattle.recording.specs.Reader.{reading};
 ghost use Rattle.settings.specs.Refusals.{granted};
@@ -31,12 +32,6 @@ pub struct Run {
     pub records: u32,
     pub live: u32,
     pub exercised: u32,
-}
-
-// A replay before its first row, with its array.
-pub struct Begun {
-    pub run: Run,
-    pub board: [u32; 64],
 }
 
 // What one row more, or some, come to: 0 and the run after them; or 9 and the run before the row that is refused, whose place is that
@@ -66,16 +61,14 @@ pub struct Stop {
 
 // ---- row by row
 
-// A replay before its first row, by what the reader has answered.
-pub fn begin(st: Settings, rows: u16, first: usize, width: usize) -> Begun
-    requires { ⌜ st .count ≤ 16 ⌝ }
-    ensures { λ r. ⌜ Begins st rows first width r ⌝ }
+// A replay before its first row, by what the reader has answered: the run, and the array, which is 0 before.
+pub fn begin(st: Settings, rows: u16, first: usize, width: usize, board: &mut [u32; 64]) -> Run
+    requires { ⌜ (st .count ≤ 16) × (now board ≡ replicate arrayLength 0) ⌝ }
+    ensures { λ r. ⌜ Begins st rows first width (record { run = r; board = now (board .exit) }) ⌝ }
 {
-    let loaded = block::load(st, State::fresh());
-    let mark = loaded.mark;
-    let board = loaded.board;
+    let mark = block::load(board, st, State::fresh());
     let plan = wiring::plan_of(st);
-    let run = Run {
+    Run {
         plan,
         mark,
         width,
@@ -85,8 +78,7 @@ pub fn begin(st: Settings, rows: u16, first: usize, width: usize) -> Begun
         records: 0,
         live: 0,
         exercised: 0,
-    };
-    Begun { run, board }
+    }
 }
 
 // The run after a row of this hold that ran so.
@@ -245,9 +237,8 @@ fn replay_accepted(s: &[u8], st: Settings, rows: u16, first: usize, width: usize
     requires { ⌜ (reading (now s) .answer ≡ Accepted rows first width) × (st ≡ reading (now s) .settings) ⌝ }
     ensures { λ r. ⌜ r ≡ answered (wholeReplay (now (s .entry))) ⌝ }
 {
-    let begun = begin(st, rows, first, width);
-    let run = begun.run;
-    let mut board = begun.board;
+    let mut board = [0u32; 64];
+    let run = begin(st, rows, first, width, &mut board);
     let mut space = [0u8; effects::MOST_ROW_BYTES];
     let end = go(s, run, rows as u32, &mut board, &mut space, false);
     answer_of(end)

@@ -2,6 +2,7 @@
 use mathlib.Core.Path.{ap, _∙_}
 use borrow.Author.Needs.{needs}
 use Rattle.cells.specs.Loaded.{loadedInto}
+use Rattle.wiring.specs.Wiring.{wiredInto}
 use Rattle.block.proofs.Loads.{loaded}
 use Rattle.block.proofs.load.Statement.{statement}
 use Rattle.block.proofs.load.Tie as tie
@@ -10,8 +11,8 @@ returns : tie.Need-returns
 returns c =
     let w = c .before .before .before in
     let s = w .before .before .before in
-    loaded (s .args .st) (s .args .x) (s .pre) (c .load .ensures .0)
-    (c .load .ensures .1 ∙ ap (loadedInto (s .args .st .count) (s .args .x .slots)) (w .wire .ensures))
+    loaded (s .args .st) (s .args .x) (s .pre .0) (c .load .ensures .0)
+    (c .load .ensures .1 ∙ ap (loadedInto (s .args .st .count) (s .args .x .slots)) (w .wire .ensures ∙ ap (wiredInto (s .args .st)) (s .pre .1)))
 
 pub load-spec : {M : Type 1} → statement M
 load-spec =

@@ -13,9 +13,8 @@ use Rattle.settings.specs.declared.Settings.{Settings}
 use Rattle.wiring.proofs.Held.{few as few-planned}
 use Rattle.wiring.specs.Wiring.{Ran as Stroke-ran}
 use Rattle.block.specs.declared.State.{State}
-use Rattle.block.specs.declared.Loaded.{Loaded}
 use Rattle.block.specs.Held.{run, grantedHeld}
-use Rattle.block.specs.Run.{keptState, Runs}
+use Rattle.block.specs.Run.{Loaded, keptState, Runs}
 use Rattle.block.proofs.Answers.{few}
 use Rattle.block.proofs.Loads.{shows-state, runs-loaded}
 use Rattle.block.proofs.Runs.{strokes, laid, narrow-after, answers}
@@ -31,7 +30,7 @@ sixteen s = search (needs, length-mapped)
 -- what was loaded shows the state, and the row can run from it
 module _ (k : tie.After-plan-of) where
   abbrev begin : tie.Start
-  begin = k .before .before .before .before .before
+  begin = k .before .before .before .before
 
   abbrev st : Settings
   st = begin .args .st
@@ -43,13 +42,13 @@ module _ (k : tie.After-plan-of) where
   buf = now (begin .args .buf)
 
   abbrev from : Loaded
-  from = k .before .before .before .load .result
+  from = record { mark = k .before .load .result; board = k .before .load .last .0 }
 
   shows-at : keptState st (from .mark) (from .board) ≡ begin .args .x
-  shows-at = shows-state (k .before .before .before .load .ensures) row (begin .pre .0) (sixteen begin)
+  shows-at = shows-state (k .before .load .ensures) row (begin .pre .0) (sixteen begin)
 
   runs : Runs st (k .plan-of .result) row (from .mark) (from .board) (length buf)
-  runs = runs-loaded (k .before .before .before .load .ensures) row (begin .pre .0) (sixteen begin) (k .plan-of .ensures) (begin .pre .1)
+  runs = runs-loaded (k .before .load .ensures) row (begin .pre .0) (sixteen begin) (k .plan-of .ensures) (begin .pre .1)
 
 stroke-requires : tie.Need-stroke-requires
 stroke-requires c κs = record { st = st (c .before .before); runs = strokes (runs (c .before .before)) }
@@ -78,8 +77,8 @@ pub run-right-spec : {M : Type 1} → statement M
 run-right-spec =
     tie.close
     (tie.spec
-    (λ c κs. few-effects (c .before))
-    (λ c κs. few-effects (c .before .before .before .before))
+    (λ c κs. (few-effects (c .before .before), refl))
+    (λ c κs. few-effects (c .before .before .before))
     stroke-requires
     reached-requires
     (λ c κs. search needs)

@@ -1,5 +1,5 @@
 -- `embed::pohandira_replay` meets its contract: a file is accepted and replayed, or refused.
-use mathlib.Core.Path.{_≡_, sym, ap, _∙_}
+use mathlib.Core.Path.{_≡_, refl, sym, ap, _∙_}
 use denote.Ref.{now}
 use borrow.Author.Needs.{needs}
 use Rattle.recording.specs.declared.Reading.{Reading}
@@ -28,16 +28,18 @@ stop-of-requires c κs = same-answer (c .before .before .before) ∙ c .before .
 
 begin-requires : tie.Need-begin-requires
 begin-requires c κs =
-    let k = c .before .before .before .before in
-    few-effects _ _ _ _ _ (same-answer k ∙ c .before .before .answer .given .1) (same-settings k)
+    let answered = c .before .before .before in
+    let k = answered .before .before in
+    (few-effects _ _ _ _ _ (same-answer k ∙ answered .answer .given .1) (same-settings k), refl)
 
 replay-accepted-requires : tie.Need-replay-accepted-requires
 replay-accepted-requires c κs =
-    let begun = c .before .before .before .before .before in
-    let answered = begun .before .before .before in
+    let begun = c .before .before .before in
+    let stopped = begun .before .before in
+    let answered = stopped .before .before in
     let k = answered .before .before in
     let b = rw (same-settings k) at (begun .begin .ensures) in
-    (begins b (same-answer k ∙ answered .answer .given .1), ap (λ (u : Totals). u .rows) (b .totals), begun .before .stop-of .ensures)
+    (begins b (same-answer k ∙ answered .answer .given .1), ap (λ (u : Totals). u .rows) (b .totals), stopped .stop-of .ensures)
 
 returns-2 : tie.Need-returns-2
 returns-2 c =

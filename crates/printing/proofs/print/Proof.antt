@@ -1,6 +1,6 @@
 -- `printing::print` meets its contract: by what the reader answers, the opening and the rows from the place that it says, or the
 -- opening alone.
-use mathlib.Core.Path.{_≡_, sym, ap, _∙_}
+use mathlib.Core.Path.{_≡_, refl, sym, ap, _∙_}
 use Prim.Native.Nat.{_≤_}
 use native.Mathlib.Omega.{arith}
 use denote.Ref.{now}
@@ -34,13 +34,14 @@ within k = k .before .before .before .opening .ensures .1 .1 (omega arith)
 
 begin-requires : tie.Need-begin-requires
 begin-requires c κs =
-    let k = c .before .before .before in
-    few-effects _ _ _ _ _ (same-answer k ∙ c .before .answer .given .1) (same-settings k)
+    let answered = c .before .before in
+    let k = answered .before .before in
+    (few-effects _ _ _ _ _ (same-answer k ∙ answered .answer .given .1) (same-settings k), refl)
 
 print-rows-requires : tie.Need-print-rows-requires
 print-rows-requires c κs =
-    let begun = c .before .before .before .before in
-    let answered = begun .before .before in
+    let begun = c .before .before in
+    let answered = begun .before .before .before in
     let k = answered .before .before in
     (begins (rw (same-settings k) at (begun .begin .ensures)) (same-answer k ∙ answered .answer .given .1), omega (arith, within k), omega (arith, start-of k .pre))
 

@@ -9,8 +9,8 @@ use Rattle.rerun.proofs.begin.Tie as tie
 
 returns : tie.Need-returns
 returns c =
-    let l = c .before .before .before in
-    let a = c .before .before .before .before .before .args in
+    let l = c .before in
+    let a = c .before .before .before .before .args in
     let loaded = l .load .ensures in
     let board = loaded .board-is ∙ ap (λ (x : State). boardOf (a .st .count) (startOf x)) (l .before .fresh .ensures) in
     record {
