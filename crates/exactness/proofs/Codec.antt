@@ -12,7 +12,7 @@ use Rattle.bits.proofs.Numbers.{length-digits, digits-num, num-digits}
 use Rattle.bits.specs.Lists.{listOf}
 use Rattle.recording.specs.Encode.{counted, All}
 use Rattle.layout.proofs.Lists.{length-listOf}
-use Rattle.recording.proofs.Sections.{Passed, Whole}
+use Rattle.recording.specs.Refused.{FirstRight}
 
 -- an entry is read at a place, written as w bytes, and checked: 0 for right
 pub record Codec (A : Type 0) (w : ℕ) (get : List ℕ → ℕ → A) (put : A → List ℕ) (check : A → ℕ) : Type 0 where
@@ -44,16 +44,16 @@ module _ {A : Type 0} (w : ℕ) (get : List ℕ → ℕ → A) (put : A → List
   )
 
   -- a section that passes is its count and its entries, as written
-  pub section-bytes : (s : List ℕ) (lo hi at e : ℕ) → Bytes s → Whole (λ i. check (get s i)) w lo hi s at e
+  pub section-bytes : (s : List ℕ) (at e : ℕ) → Bytes s → at + 2 ≤ length s → at + 2 + w * numAt 2 s at ≤ length s → e ≡ at + 2 + w * numAt 2 s at
       → counted put (listOf (get s) w (numAt 2 s at) (at + 2)) ≡ take (e - at) (drop at s)
-  section-bytes s lo hi at e b h =
+  section-bytes s at e b room there next =
       let n = numAt 2 s at in
-      let m : e - at ≡ 2 + w * n = omega (arith, h .passed .next) in
+      let m : e - at ≡ 2 + w * n = omega (arith, next) in
       let front : digits 2 (length (listOf (get s) w n (at + 2))) ≡ take 2 (drop at s) =
-      ap (digits 2) (length-listOf (get s) w n (at + 2)) ∙ digits-num 2 s at b (h .room)
+      ap (digits 2) (length-listOf (get s) w n (at + 2)) ∙ digits-num 2 s at b room
       in
       let back : flatMap put (listOf (get s) w n (at + 2)) ≡ take (w * n) (drop (at + 2) s) =
-      put-list s n (at + 2) b (omega (arith, h .passed .next, h .passed .inside))
+      put-list s n (at + 2) b there
       in
       ap₂ (λ (x y : List ℕ). x ++ y) front back ∙ rw (m, take-add 2 (w * n) (drop at s), drop-drop 2 at s)
 
@@ -79,14 +79,15 @@ module _ {A : Type 0} (w : ℕ) (get : List ℕ → ℕ → A) (put : A → List
       rw e (all-at s n (at + w) (h .1) i (omega arith))
 
   -- a section that is written passes, and gives its entries back
-  pub record Back (s : List ℕ) (lo hi at : ℕ) (xs : List A) : Type 0 where
+  pub record Back (s : List ℕ) (at : ℕ) (xs : List A) : Type 0 where
     pub count : numAt 2 s at ≡ length xs
     pub entries : listOf (get s) w (length xs) (at + 2) ≡ xs
-    pub whole : Whole (λ i. check (get s i)) w lo hi s at (at + 2 + w * length xs)
+    pub room : at + 2 ≤ length s
+    pub right : FirstRight (λ i. check (get s i)) w (length s) (at + 2) (length xs)
 
-  pub section-back : (xs : List A) (p q : List ℕ) (lo hi at : ℕ) → at ≡ length p → All check xs → lo ≤ length xs → length xs ≤ hi → hi < 65536
-      → Back (p ++ (counted put xs ++ q)) lo hi at xs
-  section-back xs p q lo hi at e h low top small =
+  pub section-back : (xs : List A) (p q : List ℕ) (at : ℕ) → at ≡ length p → All check xs → length xs < 65536
+      → Back (p ++ (counted put xs ++ q)) at xs
+  section-back xs p q at e h small =
       let n = length xs in
       let s = p ++ (counted put xs ++ q) in
       let d = digits 2 n in
@@ -106,11 +107,6 @@ module _ {A : Type 0} (w : ℕ) (get : List ℕ → ℕ → A) (put : A → List
       record {
         count = c;
         entries = l;
-        whole = record {
-          least = omega (arith, c);
-          most = omega (arith, c);
-          room = omega (arith, len);
-          passed = subst (λ (k : ℕ). Passed (λ i. check (get s i)) w (length s) k (at + 2) (at + 2 + w * n)) (sym c)
-              (record { next = refl; inside = omega (arith, len); right = all-at s n (at + 2) all });
-        };
+        room = omega (arith, len);
+        right = record { there = omega (arith, len); right = all-at s n (at + 2) all };
       }

@@ -21,14 +21,15 @@ use Rattle.layout.specs.Entries.{BlockEntry, blockAt, blockCheck, effectAt, row
 use Rattle.bits.specs.Lists.{listOf}
 use Rattle.layout.specs.Sections.{widthOf, leastOf, mostOf, sectionOf}
 use Rattle.recording.specs.Reader.{nothingKnown, knownOfBlock, settingsAt, refusal, reading, afterRows}
-use Rattle.recording.specs.Refused.{ToEnd}
+use Rattle.recording.specs.Refused.{Passes, ToEnd}
 use Rattle.recording.specs.Encode.{blockOf, effectsOf, counted, encode, openingLength, All, Right}
 use Rattle.layout.proofs.Lists.{length-listOf}
-use Rattle.exactness.proofs.Sections.{section-pass}
+use Rattle.exactness.proofs.Sections.{section-pass, passes-by}
 use Rattle.exactness.proofs.Codec.{Codec, Back, section-back, section-bytes, all-list, length-counted}
 use Rattle.exactness.proofs.Entries.{Checked, block-causes, block-codec, effect-codec, row-codec}
 use Rattle.exactness.proofs.Right.{Parts, in-parts, of-parts}
-use Rattle.recording.proofs.Between.{WholeOf, section-whole, read-rows, accepted, left-over}
+use Rattle.recording.proofs.Between.{read-rows, accepted, left-over}
+use Rattle.recording.proofs.Sections.{passes-inside, count-within}
 
 abbrev blockBytes : Settings → List ℕ
 blockBytes st = counted putBlock (blockOf st ∷ [])
@@ -83,25 +84,25 @@ module _ (st : Settings) (rows : List Row) (right : Right st rows) where
         append-assoc (blockBytes st) (effectBytes st ++ counted putRow rows) q
         ∙ ap (λ (l : List ℕ). blockBytes st ++ l) (append-assoc (effectBytes st) (counted putRow rows) q)
 
-    block-back : Back (widthOf Block) blockAt putBlock blockCheck block-codec s (leastOf Block) (mostOf Block) 0 (blockOf st ∷ [])
+    block-back : Back (widthOf Block) blockAt putBlock blockCheck block-codec s 0 (blockOf st ∷ [])
     block-back =
-        subst (λ (l : List ℕ). Back (widthOf Block) blockAt putBlock blockCheck block-codec l (leastOf Block) (mostOf Block) 0 (blockOf st ∷ [])) (sym in-sections)
-        (section-back (widthOf Block) blockAt putBlock blockCheck block-codec (blockOf st ∷ []) [] (effectBytes st ++ (counted putRow rows ++ q)) (leastOf Block) (mostOf Block) 0
-        refl (parts .block, tt) (omega arith) (omega arith) (omega arith))
+        subst (λ (l : List ℕ). Back (widthOf Block) blockAt putBlock blockCheck block-codec l 0 (blockOf st ∷ [])) (sym in-sections)
+        (section-back (widthOf Block) blockAt putBlock blockCheck block-codec (blockOf st ∷ []) [] (effectBytes st ++ (counted putRow rows ++ q)) 0
+        refl (parts .block, tt) (omega arith))
 
-    effects-back : Back (widthOf Effects) effectAt putEffect (effectNumber (st .causes)) effects-are s (leastOf Effects) (mostOf Effects) 6 (effectsOf st)
+    effects-back : Back (widthOf Effects) effectAt putEffect (effectNumber (st .causes)) effects-are s 6 (effectsOf st)
     effects-back =
-        subst (λ (l : List ℕ). Back (widthOf Effects) effectAt putEffect (effectNumber (st .causes)) effects-are l (leastOf Effects) (mostOf Effects) 6 (effectsOf st)) (sym in-sections)
-        (section-back (widthOf Effects) effectAt putEffect (effectNumber (st .causes)) effects-are (effectsOf st) (blockBytes st) (counted putRow rows ++ q) (leastOf Effects) (mostOf Effects) 6
-        (sym length-block) (parts .effects) (omega (arith, length-effectsOf, parts .least)) (omega (arith, length-effectsOf, parts .most)) (omega arith))
+        subst (λ (l : List ℕ). Back (widthOf Effects) effectAt putEffect (effectNumber (st .causes)) effects-are l 6 (effectsOf st)) (sym in-sections)
+        (section-back (widthOf Effects) effectAt putEffect (effectNumber (st .causes)) effects-are (effectsOf st) (blockBytes st) (counted putRow rows ++ q) 6
+        (sym length-block) (parts .effects) (omega (arith, length-effectsOf, parts .most)))
 
-    rows-back : Back (widthOf Rows) rowAt putRow (rowNumber (knownOf st)) rows-are s (leastOf Rows) (mostOf Rows) rowsPlace rows
+    rows-back : Back (widthOf Rows) rowAt putRow (rowNumber (knownOf st)) rows-are s rowsPlace rows
     rows-back =
         let front = blockBytes st ++ effectBytes st in
         let same : s ≡ front ++ (counted putRow rows ++ q) = in-sections ∙ sym (append-assoc (blockBytes st) (effectBytes st) (counted putRow rows ++ q)) in
-        subst (λ (l : List ℕ). Back (widthOf Rows) rowAt putRow (rowNumber (knownOf st)) rows-are l (leastOf Rows) (mostOf Rows) rowsPlace rows) (sym same)
-        (section-back (widthOf Rows) rowAt putRow (rowNumber (knownOf st)) rows-are rows front q (leastOf Rows) (mostOf Rows) rowsPlace
-        (omega (arith, length-append (blockBytes st) (effectBytes st), length-block, length-effects)) (right .each-row) (right .rows-least) (right .rows-most) (omega arith))
+        subst (λ (l : List ℕ). Back (widthOf Rows) rowAt putRow (rowNumber (knownOf st)) rows-are l rowsPlace rows) (sym same)
+        (section-back (widthOf Rows) rowAt putRow (rowNumber (knownOf st)) rows-are rows front q rowsPlace
+        (omega (arith, length-append (blockBytes st) (effectBytes st), length-block, length-effects)) (right .each-row) (omega (arith, right .rows-most)))
 
     at-block : blockAt s 2 ≡ blockOf st
     at-block = ap (λ (l : List BlockEntry). getD l 0 (blockOf st)) (block-back .entries)
@@ -117,20 +118,26 @@ module _ (st : Settings) (rows : List Row) (right : Right st rows) where
         λ i. record { causes = at-block i .causes; options = at-block i .options; period = at-block i .period; count = at-count i; effects = list i }
 
     block-section : sectionOf Block nothingKnown s 0 ≡ S.Next 6
-    block-section = section-pass _ _ _ _ _ s 0 6 (block-back .whole)
+    block-section = section-pass Block nothingKnown s 0 6 (passes-by Block nothingKnown s 0 1 (block-back .count) (omega arith) (omega arith) (block-back .room) (block-back .right))
 
     effects-section : sectionOf Effects (knownOfBlock s) s 6 ≡ S.Next rowsPlace
     effects-section =
-        let known : knownOfBlock s ≡ record { causes = st .causes; count = 0; options = st .options } =
-        λ i. record { causes = at-block i .causes; count = 0; options = at-block i .options }
-        in
-        let place : 6 + 2 + widthOf Effects * length (effectsOf st) ≡ rowsPlace = omega (arith, length-effectsOf) in
-        ap (λ (k : Known). sectionOf Effects k s 6) known ∙ section-pass _ _ _ _ _ s 6 _ (effects-back .whole) ∙ ap {B = Section} (λ n. S.Next n) place
+        let k : Known = record { causes = st .causes; count = 0; options = st .options } in
+        let known : knownOfBlock s ≡ k = λ i. record { causes = at-block i .causes; count = 0; options = at-block i .options } in
+        let n = length (effectsOf st) in
+        let place : 6 + 2 + widthOf Effects * n ≡ rowsPlace = omega (arith, length-effectsOf) in
+        let low : leastOf Effects ≤ n = omega (arith, length-effectsOf, parts .least) in
+        let top : n ≤ mostOf Effects = omega (arith, length-effectsOf, parts .most) in
+        ap (λ (k : Known). sectionOf Effects k s 6) known
+        ∙ section-pass Effects k s 6 _ (passes-by Effects k s 6 n (effects-back .count) low top (effects-back .room) (effects-back .right))
+        ∙ ap {B = Section} (λ n. S.Next n) place
 
     rows-section : sectionOf Rows (knownOf (settingsAt s 6)) s rowsPlace ≡ S.Next (length (encode st rows))
     rows-section =
         let end : rowsPlace + 2 + widthOf Rows * length rows ≡ length (encode st rows) = omega (arith, length-encode) in
-        ap (λ (z : Settings). sectionOf Rows (knownOf z) s rowsPlace) settings-back ∙ section-pass _ _ _ _ _ s rowsPlace _ (rows-back .whole)
+        ap (λ (z : Settings). sectionOf Rows (knownOf z) s rowsPlace) settings-back
+        ∙ section-pass Rows (knownOf st) s rowsPlace _
+        (passes-by Rows (knownOf st) s rowsPlace (length rows) (rows-back .count) (right .rows-least) (right .rows-most) (rows-back .room) (rows-back .right))
         ∙ ap {B = Section} (λ n. S.Next n) end
 
     all-pass : reading s ≡ afterRows s 6 rowsPlace (length (encode st rows))
@@ -173,20 +180,20 @@ module _ (s : List ℕ) (e r end : ℕ) (t : ToEnd s e r end) where
   abbrev st : Settings
   st = settingsAt s e
 
-  block-whole : WholeOf Block nothingKnown s 0 e
-  block-whole = section-whole Block nothingKnown s 0 e (t .before .block)
+  abbrev block : Passes Block nothingKnown s 0 e
+  block = t .before .block
 
-  effects-whole : WholeOf Effects (knownOfBlock s) s e r
-  effects-whole = section-whole Effects (knownOfBlock s) s e r (t .before .effects)
+  abbrev effects : Passes Effects (knownOfBlock s) s e r
+  effects = t .before .effects
 
-  rows-whole : WholeOf Rows (knownOf st) s r end
-  rows-whole = section-whole Rows (knownOf st) s r end (t .rows)
+  effects-count : (1 ≤ st .count) × (st .count ≤ mostOf Effects)
+  effects-count = count-within Effects (st .count) (effects .count)
 
   block-right : blockCheck (blockOf st) ≡ 0
-  block-right = block-whole .passed .right 0 (block-whole .least)
+  block-right = block .entries .right 0 (count-within Block (numAt 2 s 0) (block .count) .0)
 
   settings-checked : Checked (knownOf st)
-  settings-checked = record { causes = block-causes (blockOf st) block-right; count = effects-whole .most }
+  settings-checked = record { causes = block-causes (blockOf st) block-right; count = effects-count .1 }
 
   effects-codec : Codec Effect (widthOf Effects) effectAt putEffect (effectNumber (st .causes))
   effects-codec = effect-codec (st .causes) (settings-checked .causes)
@@ -200,16 +207,16 @@ module _ (s : List ℕ) (e r end : ℕ) (t : ToEnd s e r end) where
   sixteen : length (st .effects) ≡ 16
   sixteen =
       length-append (listOf (effectAt s) (widthOf Effects) (st .count) (e + 2)) (replicate (16 - st .count) noEffect)
-      ∙ omega (arith, length-listOf (effectAt s) (widthOf Effects) (st .count) (e + 2), length-replicate (16 - st .count) noEffect, effects-whole .most)
+      ∙ omega (arith, length-listOf (effectAt s) (widthOf Effects) (st .count) (e + 2), length-replicate (16 - st .count) noEffect, effects-count .1)
 
   parts-at : Parts st
   parts-at =
       record {
         block = block-right;
-        least = effects-whole .least;
-        most = effects-whole .most;
+        least = effects-count .0;
+        most = effects-count .1;
         effects = subst (λ (l : List Effect). All (effectNumber (st .causes)) l) (sym listed)
-            (all-list (widthOf Effects) effectAt putEffect (effectNumber (st .causes)) effects-codec s (st .count) (e + 2) (effects-whole .passed .right));
+            (all-list (widthOf Effects) effectAt putEffect (effectNumber (st .causes)) effects-codec s (st .count) (e + 2) (effects .entries .right));
         slots = ap (λ (l : List Effect). l ++ replicate (16 - st .count) noEffect) (sym listed);
       }
 
@@ -217,33 +224,35 @@ module _ (s : List ℕ) (e r end : ℕ) (t : ToEnd s e r end) where
   pub right-at : Right st (rowsAt s r)
   right-at =
       let len = length-listOf (rowAt s) (widthOf Rows) (numAt 2 s r) (r + 2) in
+      let many = count-within Rows (numAt 2 s r) (t .rows .count) in
       record {
         settings = of-parts st sixteen parts-at;
         slots = sixteen;
-        rows-least = omega (arith, len, rows-whole .least);
-        rows-most = omega (arith, len, rows-whole .most);
-        each-row = all-list (widthOf Rows) rowAt putRow (rowNumber (knownOf st)) rows-codec s (numAt 2 s r) (r + 2) (rows-whole .passed .right);
+        rows-least = omega (arith, len, many .0);
+        rows-most = omega (arith, len, many .1);
+        each-row = all-list (widthOf Rows) rowAt putRow (rowNumber (knownOf st)) rows-codec s (numAt 2 s r) (r + 2) (t .rows .entries .right);
       }
 
   pub within : end ≤ length s
-  within = rows-whole .passed .inside
+  within = passes-inside Rows (knownOf st) s r end (t .rows)
 
   module _ (bytes : Bytes s) where
     block-bytes : blockBytes st ≡ take (e - 0) (drop 0 s)
     block-bytes =
-        let one : numAt 2 s 0 ≡ 1 = omega (arith, block-whole .least, block-whole .most) in
-        ap (λ (k : ℕ). counted putBlock (listOf (blockAt s) (widthOf Block) k 2)) (sym one) ∙ section-bytes (widthOf Block) blockAt putBlock blockCheck block-codec s (leastOf Block) (mostOf Block) 0 e bytes block-whole
+        let c = count-within Block (numAt 2 s 0) (block .count) in
+        let one : numAt 2 s 0 ≡ 1 = omega (arith, c .0, c .1) in
+        ap (λ (k : ℕ). counted putBlock (listOf (blockAt s) (widthOf Block) k 2)) (sym one) ∙ section-bytes (widthOf Block) blockAt putBlock blockCheck block-codec s 0 e bytes (block .room) (block .entries .there) (block .next)
 
     effect-bytes : effectBytes st ≡ take (r - e) (drop e s)
     effect-bytes =
-        ap (counted putEffect) listed ∙ section-bytes (widthOf Effects) effectAt putEffect (effectNumber (st .causes)) effects-codec s (leastOf Effects) (mostOf Effects) e r bytes effects-whole
+        ap (counted putEffect) listed ∙ section-bytes (widthOf Effects) effectAt putEffect (effectNumber (st .causes)) effects-codec s e r bytes (effects .room) (effects .entries .there) (effects .next)
 
     row-bytes : counted putRow (rowsAt s r) ≡ take (end - r) (drop r s)
-    row-bytes = section-bytes (widthOf Rows) rowAt putRow (rowNumber (knownOf st)) rows-codec s (leastOf Rows) (mostOf Rows) r end bytes rows-whole
+    row-bytes = section-bytes (widthOf Rows) rowAt putRow (rowNumber (knownOf st)) rows-codec s r end bytes (t .rows .room) (t .rows .entries .there) (t .rows .next)
 
     -- and their encoding is the bytes through the rows' end
     pub encoded-at : encode st (rowsAt s r) ≡ take end s
     unfolding encode
     encoded-at =
         ap₂ (λ (x y : List ℕ). x ++ y) block-bytes (ap₂ (λ (x y : List ℕ). x ++ y) effect-bytes row-bytes)
-        ∙ join s e r end (omega (arith, effects-whole .passed .next)) (omega (arith, rows-whole .passed .next))
+        ∙ join s e r end (omega (arith, effects .next)) (omega (arith, t .rows .next))

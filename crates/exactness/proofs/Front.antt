@@ -6,8 +6,7 @@ use mathlib.Core.List.{List}
 use Prim.Native.Nat.{ℕ, zero, suc, _+_, _*_, _≤_, _<_}
 use native.Mathlib.Nat.{mul-suc, mul-le-mul-left}
 use native.Mathlib.Omega.{arith}
-use borrow.Author.Tests.{le-leb, leb-true}
-use lib.Dec.{leb}
+use borrow.Author.Tests.{le-leb}
 use lib.ListN.{length, take}
 use lib.Seq.{length-take-le}
 use Rattle.bits.specs.Numbers.{numAt}
@@ -17,13 +16,14 @@ use Rattle.layout.specs.declared.Section.the-variants as S
 use Rattle.layout.specs.declared.Kind.{Kind}
 use Rattle.layout.specs.declared.Kind.the-variants.{Block, Effects, Rows}
 use Rattle.layout.specs.Entries.{blockCheck}
-use Rattle.layout.specs.Sections.{entries, widthOf, leastOf, mostOf, countOk, testOf, sectionOf}
+use Rattle.layout.specs.Sections.{entries, widthOf, mostOf, countOk, testOf, sectionOf}
 use Rattle.recording.specs.Encode.{mostLength}
+use Rattle.recording.specs.Refused.{Passes}
 use Rattle.recording.specs.Reader.{nothingKnown, knownOfBlock, settingsAt, reading}
-use Rattle.bits.proofs.Lists.{and-right}
-use Rattle.recording.proofs.Sections.{section-count, section-entries}
+use Rattle.recording.proofs.Sections.{section-count, section-entries, count-within}
+use Rattle.exactness.proofs.Sections.{block-pass, effects-pass, rows-pass}
 use Rattle.exactness.proofs.Entries.{num-front, block-front, effect-front, row-front}
-use Rattle.recording.proofs.Between.{block-room, section-whole, read-block, read-effects, read-rows, left-over}
+use Rattle.recording.proofs.Between.{block-room, read-block, read-effects, read-rows, left-over}
 use Rattle.recording.proofs.Cases.{reading-cases}
 
 -- ## One section
@@ -56,7 +56,7 @@ module _ (kind : Kind) (k : Known) (m : ℕ) (s : List ℕ) (at : ℕ) (long : m
   by-count true e =
       let n = numAt 2 s at in
       let w = widthOf kind in
-      let most : w * n ≤ w * mostOf kind = mul-le-mul-left w (leb-true n (mostOf kind) (and-right (leb (leastOf kind) n) (leb n (mostOf kind)) e)) in
+      let most : w * n ≤ w * mostOf kind = mul-le-mul-left w (count-within kind n e .1) in
       section-entries _ _ _ _ _ s at n (omega (arith, ends, long)) refl e
       ∙ entries-front (testOf kind k s) (testOf kind k (take m s)) w (length s) (length (take m s)) m n (at + 2) (test-front kind k m s) long long-front (omega (arith, most, ends))
       ∙ sym (section-entries _ _ _ _ _ (take m s) at n (omega (arith, ends, long-front)) count-front e)
@@ -79,9 +79,12 @@ module _ (s : List ℕ) (long : mostLength < length s) where
       let o = num-front (mostLength + 1) 1 s 3 (omega arith) in
       λ i. record { causes = sym c i; count = 0; options = sym o i }
 
-  module _ (e : ℕ) (b : sectionOf Block nothingKnown s 0 ≡ S.Next e) where
+  module _ (e : ℕ) (b : Passes Block nothingKnown s 0 e) where
     six : e ≡ 6
     six = block-room s e b .0
+
+    block-there : sectionOf Block nothingKnown front 0 ≡ S.Next e
+    block-there = sym block-same ∙ block-pass s e b
 
     effects-same : sectionOf Effects (knownOfBlock s) s e ≡ sectionOf Effects (knownOfBlock front) front e
     effects-same =
@@ -92,26 +95,30 @@ module _ (s : List ℕ) (long : mostLength < length s) where
         let n = num-front (mostLength + 1) 2 s e (omega (arith, six)) in
         λ i. record { causes = known-of-block-same i .causes; count = sym n i; options = known-of-block-same i .options }
 
-    module _ (r : ℕ) (f : sectionOf Effects (knownOfBlock s) s e ≡ S.Next r) where
+    module _ (r : ℕ) (f : Passes Effects (knownOfBlock s) s e r) where
+      effects-there : sectionOf Effects (knownOfBlock front) front e ≡ S.Next r
+      effects-there = sym effects-same ∙ effects-pass s e r f
+
       rows-by : r ≤ 104
-      rows-by = let w = section-whole Effects (knownOfBlock s) s e r f in omega (arith, six, w .most, w .passed .next)
+      rows-by = omega (arith, six, count-within Effects (numAt 2 s e) (f .count) .1, f .next)
 
       rows-same : sectionOf Rows (knownOf (settingsAt s e)) s r ≡ sectionOf Rows (knownOf (settingsAt front e)) front r
       rows-same =
           section-front Rows (knownOf (settingsAt s e)) (mostLength + 1) s r long (omega (arith, rows-by)) ∙ ap (λ (k : Known). sectionOf Rows k front r) known-same
 
-      end-by : (end : ℕ) → sectionOf Rows (knownOf (settingsAt s e)) s r ≡ S.Next end → end ≤ mostLength
-      end-by end g = let w = section-whole Rows (knownOf (settingsAt s e)) s r end g in omega (arith, rows-by, w .most, w .passed .next)
+      end-by : (end : ℕ) → Passes Rows (knownOf (settingsAt s e)) s r end → end ≤ mostLength
+      end-by end g = omega (arith, rows-by, count-within Rows (numAt 2 s r) (g .count) .1, g .next)
 
   pub reading-of-front : reading s ≡ reading front
   unfolding reading
   reading-of-front =
       reading-cases s (λ x. x ≡ reading front)
       (λ k p b. rw (← block-same, b))
-      (λ e k p b f. sym (read-block front e (sym block-same ∙ b) ∙ rw (← effects-same e b, f)))
-      (λ e r k p t g. sym (read-effects front e (sym block-same ∙ t .block) r (sym (effects-same e (t .block)) ∙ t .effects) ∙ rw (← rows-same e (t .block) r (t .effects), g)))
+      (λ e k p b f. sym (read-block front e (block-there e b) ∙ rw (← effects-same e b, f)))
+      (λ e r k p t g. sym (read-effects front e (block-there e (t .block)) r (effects-there e (t .block) r (t .effects)) ∙ rw (← rows-same e (t .block) r (t .effects), g)))
       (λ e r end t d.
-      let u = t .before in
-      left-over front e r end (λ q. omega (arith, q, end-by e (u .block) r (u .effects) end (t .rows), length-take-le (mostLength + 1) s long))
-      ∙ sym (read-rows front e (sym block-same ∙ u .block) r (sym (effects-same e (u .block)) ∙ u .effects) end (sym (rows-same e (u .block) r (u .effects)) ∙ t .rows)))
+      let b = t .before .block in
+      let f = t .before .effects in
+      left-over front e r end (λ q. omega (arith, q, end-by e b r f end (t .rows), length-take-le (mostLength + 1) s long))
+      ∙ sym (read-rows front e (block-there e b) r (effects-there e b r f) end (sym (rows-same e b r f) ∙ rows-pass s e r end (t .rows))))
       (λ e r t. let h = end-by e (t .before .block) r (t .before .effects) (length s) (t .rows) in absurd (omega (arith, h)))

@@ -11,18 +11,16 @@ use lib.ListN.{length, getD}
 use Rattle.bits.specs.Numbers.{numAt}
 use Rattle.bits.specs.Lists.{listOf}
 use Rattle.settings.specs.declared.Row.{Row}
-use Rattle.settings.specs.Right.{knownOf}
 use Rattle.recording.specs.declared.Reading.{Reading}
 use Rattle.recording.specs.declared.Step.the-variants as T
 use Rattle.layout.specs.declared.Kind.the-variants.{Rows}
 use Rattle.layout.specs.Entries.{rowAt}
 use Rattle.layout.specs.Sections.{widthOf}
-use Rattle.recording.specs.Reader.{settingsAt, reading}
+use Rattle.recording.specs.Reader.{reading}
 use Rattle.recording.specs.Answers.{rowCount, firstRow, rowWidth}
-use Rattle.recording.specs.Steps.{rowIn, isPlace, stepIn, rowsIn}
+use Rattle.recording.specs.Steps.{isPlace, stepIn, rowsIn}
 use Rattle.recording.specs.Refused.{ToEnd}
 use Rattle.bits.proofs.Lists.{and-left, and-right}
-use Rattle.recording.proofs.Between.{section-whole}
 use Rattle.exactness.proofs.Refusals.{said-or-accepted}
 use Rattle.recording.proofs.Steps.{refusal-ended}
 
@@ -38,23 +36,27 @@ module _ {A : Type 0} where
 
 -- ## Places, by arithmetic
 
-place-yes : (first n len i : ℕ) → len ≡ first + widthOf Rows * n → i < n → isPlace first (widthOf Rows) len (first + widthOf Rows * i) ≡ true
-place-yes first n len i e l =
+place-yes : (first n i : ℕ) → i < n → isPlace first (widthOf Rows) (first + widthOf Rows * n) (first + widthOf Rows * i) ≡ true
+place-yes first n i l =
     let at = first + widthOf Rows * i in
     let z : (at - first) % widthOf Rows ≡ 0 = omega arith in
-    rw (le-leb first at (omega arith), lt-ltb at len (omega (arith, e)), eq-eqb ((at - first) % widthOf Rows) 0 z)
+    rw (le-leb first at (omega arith), lt-ltb at (first + widthOf Rows * n) (omega arith), eq-eqb ((at - first) % widthOf Rows) 0 z)
 
-place-no : (first n len at : ℕ) → len ≡ first + widthOf Rows * n → ((i : ℕ) → i < n → at ≡ first + widthOf Rows * i → ⊥) → isPlace first (widthOf Rows) len at ≡ false
-place-no first n len at e none = go (isPlace first (widthOf Rows) len at) refl
-  where
-    go : (b : Bool) → isPlace first (widthOf Rows) len at ≡ b → isPlace first (widthOf Rows) len at ≡ false
-    go false q = q
-    go true q =
-        let both = and-left (leb first at && ltb at len) (eqb ((at - first) % widthOf Rows) 0) q in
-        let z = eqb-true ((at - first) % widthOf Rows) 0 (and-right (leb first at && ltb at len) (eqb ((at - first) % widthOf Rows) 0) q) in
-        let lo = leb-true first at (and-left (leb first at) (ltb at len) both) in
-        let hi = ltb-true at len (and-right (leb first at) (ltb at len) both) in
-        absurd (none ((at - first) / widthOf Rows) (omega (arith, z, lo, hi, e)) (omega (arith, z, lo)))
+module _ (first n at : ℕ) (none : (i : ℕ) → i < n → at ≡ first + widthOf Rows * i → ⊥) where
+  abbrev end : ℕ
+  end = first + widthOf Rows * n
+
+  nowhere : (b : Bool) → isPlace first (widthOf Rows) end at ≡ b → isPlace first (widthOf Rows) end at ≡ false
+  nowhere false q = q
+  nowhere true q =
+      let both = and-left (leb first at && ltb at end) (eqb ((at - first) % widthOf Rows) 0) q in
+      let z = eqb-true ((at - first) % widthOf Rows) 0 (and-right (leb first at && ltb at end) (eqb ((at - first) % widthOf Rows) 0) q) in
+      let lo = leb-true first at (and-left (leb first at) (ltb at end) both) in
+      let hi = ltb-true at end (and-right (leb first at) (ltb at end) both) in
+      absurd (none ((at - first) / widthOf Rows) (omega (arith, z, lo, hi)) (omega (arith, z, lo)))
+
+  place-no : isPlace first (widthOf Rows) end at ≡ false
+  place-no = nowhere (isPlace first (widthOf Rows) end at) refl
 
 -- ## At each way that a reading goes
 
@@ -63,30 +65,19 @@ module _ (s : List ℕ) where
   place x i = firstRow (x .answer) + rowWidth (x .answer) * i
 
   rows-end : (e r : ℕ) → ToEnd s e r (length s) → length s ≡ r + 2 + widthOf Rows * numAt 2 s r
-  rows-end e r t = section-whole Rows (knownOf (settingsAt s e)) s r (length s) (t .rows) .passed .next
+  rows-end e r t = t .rows .next
 
-  -- at a row's place the inner function gives what the outer one gives
-  abbrev Same : Reading → Type 0
-  Same x = (i : ℕ) → i < rowCount (x .answer) → rowIn s (place x i) (rowWidth (x .answer)) ≡ stepIn (x .answer) s (place x i)
-
-  pub same-at-place : Same (reading s)
-  same-at-place =
-      said-or-accepted s Same
-      (λ n p c i l. absurd (omega (arith, l)))
-      (λ e r t i l. rw (place-yes (r + 2) (numAt 2 s r) (length s) i (rows-end e r t) l))
-
-  -- and that is the row
+  -- at a row's place stands the row
   abbrev There : Row → Reading → Type 0
-  There d x = (i : ℕ) → i < rowCount (x .answer) → rowIn s (place x i) (rowWidth (x .answer)) ≡ T.Row (getD (rowsIn (x .answer) s) i d) (place x (suc i))
+  There d x = (i : ℕ) → i < rowCount (x .answer) → stepIn (x .answer) s (place x i) ≡ T.Row (getD (rowsIn (x .answer) s) i d) (place x (suc i))
 
   pub row-at-place : (d : Row) → There d (reading s)
   row-at-place d =
       said-or-accepted s (There d)
       (λ n p c i l. absurd (omega (arith, l)))
       (λ e r t i l.
-      let at = r + 2 + widthOf Rows * i in
-      let next : at + widthOf Rows ≡ r + 2 + widthOf Rows * suc i = omega arith in
-      rw (le-leb (at + widthOf Rows) (length s) (omega (arith, rows-end e r t, l)), getD-listOf (rowAt s) (widthOf Rows) (numAt 2 s r) (r + 2) i d l, next))
+      let next : r + 2 + widthOf Rows * i + widthOf Rows ≡ r + 2 + widthOf Rows * suc i = omega arith in
+      rw (place-yes (r + 2) (numAt 2 s r) i l, getD-listOf (rowAt s) (widthOf Rows) (numAt 2 s r) (r + 2) i d l, next))
 
   -- and the row's bytes are there to be read, without a look at the width
   abbrev Within : Row → Reading → Type 0
@@ -107,4 +98,4 @@ module _ (s : List ℕ) where
   ended-elsewhere at =
       said-or-accepted s (Elsewhere at)
       (λ n p c none. sym (refusal-ended s at n p))
-      (λ e r t none. rw (place-no (r + 2) (numAt 2 s r) (length s) at (rows-end e r t) none))
+      (λ e r t none. rw (place-no (r + 2) (numAt 2 s r) at none))

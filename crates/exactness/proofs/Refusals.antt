@@ -4,7 +4,7 @@ use mathlib.Core.Bool.{Bool, true, false, not, _&&_, _||_}
 use mathlib.Core.List.{List}
 use mathlib.Core.Logic.{_⊎_, inl, inr}
 use Prim.Native.Nat.{ℕ, zero, suc, _+_, _-_, _*_, _≤_, _<_}
-use native.Mathlib.Nat.{mul-suc, mul-zero, add-zero}
+use native.Mathlib.Nat.{mul-suc, mul-zero}
 use native.Mathlib.Omega.{arith}
 use borrow.Author.Tests.{leb-true, leb-false}
 use lib.Dec.{leb}
@@ -26,36 +26,22 @@ use Rattle.layout.specs.Entries.{blockAt, effectAt, rowAt}
 use Rattle.layout.specs.Sections.{entries, section, widthOf, numberOf, countOk, testOf, sectionOf}
 use Rattle.recording.specs.Answers.{sectionNumber, sectionPlace}
 use Rattle.recording.specs.Reader.{nothingKnown, knownOfBlock, settingsAt, refusal, reading}
-use Rattle.recording.specs.Refused.{Reached, EntryStops, Stops, ToEnd, Refused}
-use Rattle.recording.proofs.Between.{read-block, read-effects, section-whole, read-rows, left-over}
+use Rattle.recording.specs.Refused.{FirstRight, EntryStops, Stops, ToEnd, Refused}
+use Rattle.recording.proofs.Between.{read-block, read-effects, read-rows, left-over}
 use Rattle.recording.proofs.Cases.{reading-cases, acceptance, not-accepted}
 use Rattle.layout.proofs.Skipped.{entries-step}
-use Rattle.recording.proofs.Sections.{entries-short, entries-bad, section-short, section-count, section-entries}
+use Rattle.recording.proofs.Sections.{entries-short, entries-bad, none-yet, one-before, section-short, section-count, section-entries, passes-inside}
+use Rattle.exactness.proofs.Sections.{first-of, rest-of, block-pass, effects-pass, rows-pass}
 
 -- ## Entries
 
 module _ (test : ℕ → ℕ) (w len : ℕ) where
   -- one entry that is right, before those of `n at`
-  later : (n at i : ℕ) → test at ≡ 0 → Reached test w len n (at + w) i → Reached test w len (suc n) at (suc i)
-  later n at i r h =
-      record {
-        counted = omega (arith, h .counted);
-        there = omega (arith, mul-suc w i, h .there);
-        right = go;
-      }
-    where
-      go : (j : ℕ) → j < suc i → test (at + w * j) ≡ 0
-      go zero l = rw (mul-zero, add-zero) r
-      go (suc j) l = let e : at + w * suc j ≡ at + w + w * j = omega (arith, mul-suc w j) in rw e (h .right j (omega arith))
-
-  first : (n at : ℕ) → at ≤ len → Reached test w len (suc n) at 0
-  first n at h = record { counted = omega arith; there = omega (arith, mul-zero w); right = λ j l. absurd (omega arith) }
-
   shift : (n at k p : ℕ) → test at ≡ 0 → EntryStops test w len n (at + w) k p → EntryStops test w len (suc n) at k p
-  shift n at k p r (EntryStops.short i h l) = EntryStops.short (suc i) (later n at i r h) (omega (arith, mul-suc w i, l))
-  shift n at k p r (EntryStops.wrong i m h l t) =
+  shift n at k p r (EntryStops.short i c h l) = EntryStops.short (suc i) (omega (arith, c)) (one-before test w len at i r h) (omega (arith, mul-suc w i, l))
+  shift n at k p r (EntryStops.wrong i m c h l t) =
       let e : at + w + w * i ≡ at + w * suc i = omega (arith, mul-suc w i) in
-      rw e (EntryStops.wrong (suc i) m (later n at i r h) (omega (arith, e, l)) (rw (← e) t))
+      rw e (EntryStops.wrong (suc i) m (omega (arith, c)) (one-before test w len at i r h) (omega (arith, e, l)) (rw (← e) t))
 
   abbrev Stopped : (n at k p : ℕ) → Type 0
   Stopped n at k p = entries test w len n at ≡ S.Refused k p → EntryStops test w len n at k p
@@ -66,7 +52,7 @@ module _ (test : ℕ → ℕ) (w len : ℕ) where
       let e₁ : 1 ≡ k = cc in
       let e₂ : len ≡ p = cc in
       let past : len < at + w * 0 + w = omega (arith, mul-zero w, leb-false (at + w) len q) in
-      rw (← e₁, ← e₂) (EntryStops.short 0 (first n at h) past)
+      rw (← e₁, ← e₂) (EntryStops.short 0 (omega arith) (none-yet test w len at h) past)
   here n at k p h ih true q zero t eq = shift n at k p t (ih (leb-true (at + w) len q) (rw (q, t) at eq))
   here n at k p h ih true q (suc m) t eq =
       let same : S.Refused (suc m) at ≡ S.Refused k p = rw (q, t) at eq in
@@ -74,33 +60,27 @@ module _ (test : ℕ → ℕ) (w len : ℕ) where
       let e₂ : at ≡ p = cc in
       let z : at + w * 0 ≡ at = omega (arith, mul-zero w) in
       let fits : at + w * 0 + w ≤ len = omega (arith, z, leb-true (at + w) len q) in
-      rw (← e₁, ← e₂) (rw z at (EntryStops.wrong 0 m (first n at h) fits (rw z t)))
+      let some : 0 < suc n = omega arith in
+      rw (← e₁, ← e₂) (rw z at (EntryStops.wrong 0 m some (none-yet test w len at h) fits (rw z t)))
 
   entries-stop : (n at k p : ℕ) → at ≤ len → Stopped n at k p
   entries-stop zero at k p h eq = let z : _≡_ {A = ℕ} 0 1 = cc in absurd (omega arith)
   entries-stop (suc n) at k p h eq = here n at k p h (λ l. entries-stop n (at + w) k p l) (leb (at + w) len) refl (test at) refl eq
 
   -- the entries before i are passed over
-  skip : (i n at : ℕ) → Reached test w len n at i → entries test w len n at ≡ entries test w len (n - i) (at + w * i)
-  skip zero n at h = let e₁ : n - 0 ≡ n = omega arith in let e₂ : at + w * 0 ≡ at = omega (arith, mul-zero w) in rw (e₁, e₂)
-  skip (suc i) n at h =
+  skip : (i n at : ℕ) → i < n → FirstRight test w len at i → entries test w len n at ≡ entries test w len (n - i) (at + w * i)
+  skip zero n at c h = let e₁ : n - 0 ≡ n = omega arith in let e₂ : at + w * 0 ≡ at = omega (arith, mul-zero w) in rw (e₁, e₂)
+  skip (suc i) n at c h =
       let e₁ : n - 1 - i ≡ n - suc i = omega arith in
       let e₂ : at + w + w * i ≡ at + w * suc i = omega (arith, mul-suc w i) in
-      let t : test at ≡ 0 = rw (mul-zero, add-zero) at (h .right 0 (omega arith)) in
-      let rest : Reached test w len (n - 1) (at + w) i =
-      record {
-        counted = omega (arith, h .counted);
-        there = omega (arith, e₂, h .there);
-        right = λ j l. let e : at + w + w * j ≡ at + w * suc j = omega (arith, mul-suc w j) in rw e (h .right (suc j) (omega arith));
-      }
-      in
       let room : at + w ≤ len = omega (arith, e₂, h .there) in
-      entries-step test w len n at 0 (omega (arith, h .counted)) room (sym t) refl ∙ skip i (n - 1) (at + w) rest ∙ rw (e₁, e₂)
+      entries-step test w len n at 0 (omega arith) room (sym (first-of test w len at i h)) refl
+      ∙ skip i (n - 1) (at + w) (omega arith) (rest-of test w len at i h) ∙ rw (e₁, e₂)
 
   stops-entries : (n at k p : ℕ) → EntryStops test w len n at k p → entries test w len n at ≡ S.Refused k p
-  stops-entries n at k p (EntryStops.short i h l) = skip i n at h ∙ entries-short test w len (n - i) (at + w * i) (omega (arith, h .counted)) l
-  stops-entries n at k p (EntryStops.wrong i m h l t) =
-      skip i n at h ∙ entries-bad test w len (n - i) (at + w * i) (suc m) (omega (arith, h .counted)) l (sym t) (λ e. omega (arith, e))
+  stops-entries n at k p (EntryStops.short i c h l) = skip i n at c h ∙ entries-short test w len (n - i) (at + w * i) (omega arith) l
+  stops-entries n at k p (EntryStops.wrong i m c h l t) =
+      skip i n at c h ∙ entries-bad test w len (n - i) (at + w * i) (suc m) (omega arith) l (sym t) (λ e. omega (arith, e))
 
 -- ## Sections
 
@@ -184,8 +164,8 @@ not-zero n k (inr h) e = (omega (arith, h .0, e), omega (arith, h .1, e))
 
 module _ (kind : Kind) (k : Known) (s : List ℕ) (at : ℕ) where
   entry-gives : (n p : ℕ) → EntryStops (testOf kind k s) (widthOf kind) (length s) (numAt 2 s at) (at + 2) n p → Given s n p
-  entry-gives n p (EntryStops.short i h l) = inl (refl, refl)
-  entry-gives n p (EntryStops.wrong i m h l t) = inr (not-zero _ m (test-range kind k s (at + 2 + widthOf kind * i)) t)
+  entry-gives n p (EntryStops.short i c h l) = inl (refl, refl)
+  entry-gives n p (EntryStops.wrong i m c h l t) = inr (not-zero _ m (test-range kind k s (at + 2 + widthOf kind * i)) t)
 
   pub section-gives : (n p : ℕ) → Stops kind k s at n p → Given s n p
   section-gives n p (Stops.short h) = inl (refl, refl)
@@ -202,7 +182,7 @@ said-or-accepted s P refuses accepts =
     (λ k p b. refuses k p (Refused.in-block k p (refuses-stops Block nothingKnown s 0 k p b)))
     (λ e k p b f. refuses k p (Refused.in-effects k p e b (refuses-stops Effects (knownOfBlock s) s e k p f)))
     (λ e r k p t g. refuses k p (Refused.in-rows k p e r t (refuses-stops Rows (knownOf (settingsAt s e)) s r k p g)))
-    (λ e r end t d. refuses 7 end (Refused.spare e r end t (let i = section-whole Rows (knownOf (settingsAt s e)) s r end (t .rows) .passed .inside in omega (arith, i, d))))
+    (λ e r end t d. refuses 7 end (Refused.spare e r end t (let i = passes-inside Rows (knownOf (settingsAt s e)) s r end (t .rows) in omega (arith, i, d))))
     accepts
 
 -- a refusal's number and place are those that are said of the bytes
@@ -224,11 +204,11 @@ refused-as-said s n p =
 pub said-is-refused : (s : List ℕ) (n p : ℕ) → Refused s n p → reading s ≡ refusal n p
 unfolding reading
 said-is-refused s n p (Refused.in-block n′ p′ h) = rw (stops-refuses Block nothingKnown s 0 n′ p′ h)
-said-is-refused s n p (Refused.in-effects n′ p′ e b h) = read-block s e b ∙ rw (stops-refuses Effects (knownOfBlock s) s e n′ p′ h)
+said-is-refused s n p (Refused.in-effects n′ p′ e b h) = read-block s e (block-pass s e b) ∙ rw (stops-refuses Effects (knownOfBlock s) s e n′ p′ h)
 said-is-refused s n p (Refused.in-rows n′ p′ e r t h) =
-    read-effects s e (t .block) r (t .effects) ∙ rw (stops-refuses Rows (knownOf (settingsAt s e)) s r n′ p′ h)
+    read-effects s e (block-pass s e (t .block)) r (effects-pass s e r (t .effects)) ∙ rw (stops-refuses Rows (knownOf (settingsAt s e)) s r n′ p′ h)
 said-is-refused s n p (Refused.spare e r end t h) =
-    read-rows s e (t .before .block) r (t .before .effects) end (t .rows) ∙ sym (left-over s e r end (λ q. omega (arith, q, h)))
+    read-rows s e (block-pass s e (t .before .block)) r (effects-pass s e r (t .before .effects)) end (rows-pass s e r end (t .rows)) ∙ sym (left-over s e r end (λ q. omega (arith, q, h)))
 
 -- a file is refused by 1 at its length, by one of 2 to 6, or by 7
 pub file-gives : (s : List ℕ) (n p : ℕ) → Refused s n p → Given s n p ⊎ (n ≡ 7)

@@ -1,5 +1,5 @@
 -- What is promised of recordings, each theorem stated once by what it says. Document 01, "Recordings" and "Refusal numbers".
--- `reading`, `stepAt` and `rowIn` are what the code returns, by the contracts in src/; `Bytes s` is what every slice of bytes is.
+-- `reading` and `stepAt` are what the code returns, by the contracts in src/; `Bytes s` is what every slice of bytes is.
 use mathlib.Core.Path.{_≡_, refl, sym, ap, _∙_}
 use mathlib.Core.Bool.{true, false}
 use mathlib.Core.List.{List, _++_, flatMap}
@@ -19,13 +19,13 @@ use Rattle.layout.specs.Entries.{rowAt, putRow}
 use Rattle.recording.specs.Reader.{refusal, reading}
 use Rattle.recording.specs.Answers.{number, place, rowCount, firstRow, rowWidth, sectionNumber, sectionPlace, ended, stepRow, nextPlace}
 use Rattle.settings.specs.Zeros.{noRow}
-use Rattle.recording.specs.Steps.{rowIn, stepAt, rowsOf}
+use Rattle.recording.specs.Steps.{stepAt, rowsOf}
 use Rattle.recording.specs.Accepted.{Accepted, Answers}
 use Rattle.recording.specs.Encode.{encode, opening, openingLength, leastLength, mostLength, Right}
 use Rattle.layout.specs.Sections.{widthOf, sectionOf}
 use Rattle.recording.specs.Refused.{Stops, Refused}
 use Rattle.exactness.proofs.Right.{in-parts}
-use Rattle.exactness.proofs.Places.{same-at-place, row-at-place, row-within, ended-elsewhere as nothing-elsewhere}
+use Rattle.exactness.proofs.Places.{row-at-place, row-within, ended-elsewhere as nothing-elsewhere}
 use Rattle.exactness.proofs.Refusals.{refused-as-said as said, said-is-refused as answered, section-said, stops-refuses}
 use Rattle.exactness.proofs.Numbers.{not-accepted-refused, reading-numbers, before-spare}
 use Rattle.exactness.proofs.Front.{reading-of-front}
@@ -67,7 +67,7 @@ pub row-at-its-place : (s : List ℕ) (i : ℕ) → i < rowCount (reading s .ans
     → let first = firstRow (reading s .answer) in let width = rowWidth (reading s .answer) in let step = stepAt s (first + width * i) in
     (ended step ≡ false) × (stepRow step ≡ getD (rowsOf s) i noRow) × (nextPlace step ≡ first + width * suc i)
 unfolding stepAt
-row-at-its-place s i l = rw (sym (same-at-place s i l) ∙ row-at-place s noRow i l) (refl, refl, refl)
+row-at-its-place s i l = rw (row-at-place s noRow i l) (refl, refl, refl)
 
 -- the first row stands after the opening
 pub first-row-after-the-opening : (s : List ℕ) → Accepted s → firstRow (reading s .answer) ≡ openingLength (reading s .settings)
@@ -84,12 +84,6 @@ pub ended-elsewhere : (s : List ℕ) (at : ℕ)
     → ((i : ℕ) → i < rowCount (reading s .answer) → at ≡ firstRow (reading s .answer) + rowWidth (reading s .answer) * i → ⊥) → ended (stepAt s at) ≡ true
 unfolding stepAt
 ended-elsewhere s at none = ap ended (nothing-elsewhere s at none)
-
--- at a row's place of an accepted file the function that reads nothing again gives the same
-pub same-without-reading : (s : List ℕ) (i : ℕ) → i < rowCount (reading s .answer)
-    → let at = firstRow (reading s .answer) + rowWidth (reading s .answer) * i in rowIn s at (rowWidth (reading s .answer)) ≡ stepAt s at
-unfolding stepAt
-same-without-reading = same-at-place
 
 -- ## Refusals
 

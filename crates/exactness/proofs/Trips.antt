@@ -12,16 +12,15 @@ use Rattle.settings.specs.declared.Row.{Row}
 use Rattle.settings.specs.declared.Settings.{Settings}
 use Rattle.recording.specs.declared.Answer.the-variants as A
 use Rattle.recording.specs.declared.Reading.{Reading}
-use Rattle.layout.specs.declared.Kind.the-variants.{Effects}
 use Rattle.layout.specs.Entries.{rowAt, putRow}
-use Rattle.recording.specs.Reader.{knownOfBlock, reading}
+use Rattle.recording.specs.Reader.{reading}
 use Rattle.recording.specs.Answers.{number, rowCount, firstRow, rowWidth}
 use Rattle.recording.specs.Steps.{rowsIn, rowsOf}
 use Rattle.recording.specs.Encode.{encode, opening, openingLength, Right}
 use Rattle.recording.specs.Refused.{ToEnd}
 use Rattle.layout.proofs.Lists.{length-listOf}
 use Rattle.exactness.proofs.Refusals.{Given, file-gives, said-or-accepted}
-use Rattle.recording.proofs.Between.{block-room, section-whole}
+use Rattle.recording.proofs.Between.{block-room}
 use Rattle.recording.proofs.Cases.{acceptance}
 use Rattle.exactness.proofs.Exact.{right-at, encoded-at}
 
@@ -58,7 +57,7 @@ accepted-case s = when-accepted s (λ x. x .answer ≡ A.Accepted (rowCount (x .
 pub first-row-place : (s : List ℕ) → number (reading s .answer) ≡ 0 → firstRow (reading s .answer) ≡ openingLength (reading s .settings)
 first-row-place s =
     when-accepted s (λ x. firstRow (x .answer) ≡ openingLength (x .settings))
-    (λ e r t. omega (arith, block-room s e (t .before .block) .0, section-whole Effects (knownOfBlock s) s e r (t .before .effects) .passed .next))
+    (λ e r t. omega (arith, block-room s e (t .before .block) .0, t .before .effects .next))
 
 -- the count that is answered is the number of the rows
 pub length-rowsOf : (s : List ℕ) → length (rowsOf s) ≡ rowCount (reading s .answer)

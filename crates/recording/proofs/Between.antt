@@ -7,17 +7,16 @@ use borrow.Author.Tests.{eq-eqb, ne-eqb}
 use lib.ListN.{length}
 use Rattle.bits.specs.Numbers.{numAt}
 use Rattle.settings.specs.declared.Settings.{Settings}
-use Rattle.settings.specs.declared.Known.{Known}
 use Rattle.settings.specs.Right.{knownOf}
 use Rattle.layout.specs.declared.Section.{Section}
 use Rattle.layout.specs.declared.Section.the-variants as S
 use Rattle.recording.specs.declared.Answer.the-variants as A
 use Rattle.recording.specs.declared.Reading.{Reading}
-use Rattle.layout.specs.declared.Kind.{Kind}
 use Rattle.layout.specs.declared.Kind.the-variants.{Block, Effects, Rows}
-use Rattle.layout.specs.Sections.{widthOf, leastOf, mostOf, testOf, sectionOf}
+use Rattle.layout.specs.Sections.{widthOf, sectionOf}
+use Rattle.recording.specs.Refused.{Passes}
 use Rattle.recording.specs.Reader.{fromSection, nothingKnown, knownOfBlock, settingsAt, refusal, reading, afterBlock, afterEffects, afterRows}
-use Rattle.recording.proofs.Sections.{Whole, section-next}
+use Rattle.recording.proofs.Sections.{passes-inside, count-within}
 
 -- a section that refuses ends the reading
 pub from-refused : (x y : Section) (f g : ℕ → Reading) (n p : ℕ) → x ≡ y → x ≡ S.Refused n p → fromSection x f ≡ fromSection y g
@@ -25,18 +24,12 @@ from-refused x y f g n p e r = rw (← e, r)
 
 -- ## What each section has shown
 
-pub block-room : (s : List ℕ) (e : ℕ) → sectionOf Block nothingKnown s 0 ≡ S.Next e → (e ≡ 6) × (6 ≤ length s)
-block-room s e h =
-    let w = section-next _ _ _ _ _ s 0 e h in
-    let one : numAt 2 s 0 ≡ 1 = omega (arith, w .least, w .most) in
-    let next : e ≡ 6 = rw one at (w .passed .next) in
-    (next, omega (arith, w .passed .inside, next))
-
-abbrev pub WholeOf : Kind → Known → List ℕ → (at e : ℕ) → Type 0
-WholeOf kind k s at e = Whole (testOf kind k s) (widthOf kind) (leastOf kind) (mostOf kind) s at e
-
-pub section-whole : (kind : Kind) (k : Known) (s : List ℕ) (at e : ℕ) → sectionOf kind k s at ≡ S.Next e → WholeOf kind k s at e
-section-whole kind k s at e h = section-next _ _ _ _ _ s at e h
+pub block-room : (s : List ℕ) (e : ℕ) → Passes Block nothingKnown s 0 e → (e ≡ 6) × (6 ≤ length s)
+block-room s e w =
+    let c = count-within Block (numAt 2 s 0) (w .count) in
+    let one : numAt 2 s 0 ≡ 1 = omega (arith, c .0, c .1) in
+    let next : e ≡ 6 = rw one at (w .next) in
+    (next, omega (arith, passes-inside Block nothingKnown s 0 e w, next))
 
 -- ## The reading, as far as the sections that passed
 

@@ -11,8 +11,11 @@ use lib.ListN.{length}
 use Rattle.bits.specs.Numbers.{numAt}
 use Rattle.bits.proofs.Lists.{and-left, and-right}
 use Rattle.settings.proofs.Refusals.{granted-refused}
+use Rattle.settings.specs.declared.Known.{Known}
 use Rattle.layout.specs.declared.Section.the-variants as S
-use Rattle.layout.specs.Sections.{entries, section}
+use Rattle.layout.specs.declared.Kind.{Kind}
+use Rattle.layout.specs.Sections.{entries, section, widthOf, leastOf, mostOf, numberOf, countOk, testOf, sectionOf}
+use Rattle.recording.specs.Refused.{FirstRight, Passes}
 
 module _ (test : ℕ → ℕ) (w len : ℕ) where
   pub entries-short : (n at : ℕ) → 0 < n → len < at + w → entries test w len n at ≡ S.Refused 1 len
@@ -46,53 +49,56 @@ module _ (test : ℕ → ℕ) (w lo hi number : ℕ) (s : List ℕ) (at : ℕ) w
 never : {X : Type 0} (k p e : ℕ) → S.Refused k p ≡ S.Next e → X
 never k p e h = let z : _≡_ {A = ℕ} 0 1 = cc in absurd (omega arith)
 
--- what n entries that pass have shown
-pub record Passed (test : ℕ → ℕ) (w len n at e : ℕ) : Type 0 where
-  pub next : e ≡ at + w * n
-  pub inside : e ≤ len
-  pub right : (i : ℕ) → i < n → test (at + w * i) ≡ 0
-
 module _ (test : ℕ → ℕ) (w len : ℕ) where
-  all : (n at : ℕ) → test at ≡ 0 → ((i : ℕ) → i < n → test (at + w + w * i) ≡ 0) → (i : ℕ) → i < suc n → test (at + w * i) ≡ 0
-  all n at r f zero l = rw (mul-zero, add-zero) r
-  all n at r f (suc i) l =
-      let place : at + w * suc i ≡ at + w + w * i = omega (arith, mul-suc w i) in
-      rw place (f i (omega arith))
+  -- no entry yet, and one that is right before others
+  pub none-yet : (at : ℕ) → at ≤ len → FirstRight test w len at 0
+  none-yet at h = record { there = omega (arith, mul-zero w); right = λ j l. absurd (omega arith) }
 
-  one-more : (n at e : ℕ) → (at + w ≤ len → entries test w len n (at + w) ≡ S.Next e → Passed test w len n (at + w) e)
-      → (b : Bool) → leb (at + w) len ≡ b → (k : ℕ) → test at ≡ k → entries test w len (suc n) at ≡ S.Next e → Passed test w len (suc n) at e
+  pub one-before : (at i : ℕ) → test at ≡ 0 → FirstRight test w len (at + w) i → FirstRight test w len at (suc i)
+  one-before at i r h = record { there = omega (arith, mul-suc w i, h .there); right = go }
+    where
+      go : (j : ℕ) → j < suc i → test (at + w * j) ≡ 0
+      go zero l = rw (mul-zero, add-zero) r
+      go (suc j) l = let e : at + w * suc j ≡ at + w + w * j = omega (arith, mul-suc w j) in rw e (h .right j (omega arith))
+
+  -- what n entries that pass have shown
+  abbrev Passed : (n at e : ℕ) → Type 0
+  Passed n at e = FirstRight test w len at n × (e ≡ at + w * n)
+
+  one-more : (n at e : ℕ) → (at + w ≤ len → entries test w len n (at + w) ≡ S.Next e → Passed n (at + w) e)
+      → (b : Bool) → leb (at + w) len ≡ b → (k : ℕ) → test at ≡ k → entries test w len (suc n) at ≡ S.Next e → Passed (suc n) at e
   one-more n at e ih false p k r q = never 1 len e (rw p at q)
   one-more n at e ih true p (suc k) r q = never (suc k) at e (rw (p, r) at q)
   one-more n at e ih true p zero r q =
       let t = ih (leb-true (at + w) len p) (rw (p, r) at q) in
-      record { next = omega (arith, mul-suc w n, t .next); inside = t .inside; right = all n at r (t .right) }
+      (one-before at n r (t .0), omega (arith, mul-suc w n, t .1))
 
-  pub entries-next : (n at e : ℕ) → at ≤ len → entries test w len n at ≡ S.Next e → Passed test w len n at e
+  entries-next : (n at e : ℕ) → at ≤ len → entries test w len n at ≡ S.Next e → Passed n at e
   entries-next zero at e h q =
       let z : at ≡ e = cc in
-      record { next = rw mul-zero (omega arith); inside = omega arith; right = λ i l. absurd (omega arith) }
+      (none-yet at h, rw mul-zero (omega arith))
   entries-next (suc n) at e h q = one-more n at e (entries-next n (at + w) e) (leb (at + w) len) refl (test at) refl q
 
--- what a section that passes has shown
-pub record Whole (test : ℕ → ℕ) (w lo hi : ℕ) (s : List ℕ) (at e : ℕ) : Type 0 where
-  pub least : lo ≤ numAt 2 s at
-  pub most : numAt 2 s at ≤ hi
-  pub room : at + 2 ≤ length s
-  pub passed : Passed test w (length s) (numAt 2 s at) (at + 2) e
-
-module _ (test : ℕ → ℕ) (w lo hi number : ℕ) (s : List ℕ) (at e : ℕ) where
-  count-cases : (b : Bool) → leb (at + 2) (length s) ≡ b → (d : Bool) → (leb lo (numAt 2 s at) && leb (numAt 2 s at) hi) ≡ d
-      → section test w lo hi number s at ≡ S.Next e → Whole test w lo hi s at e
+module _ (kind : Kind) (k : Known) (s : List ℕ) (at e : ℕ) where
+  count-cases : (b : Bool) → leb (at + 2) (length s) ≡ b → (d : Bool) → countOk kind (numAt 2 s at) ≡ d → sectionOf kind k s at ≡ S.Next e → Passes kind k s at e
   unfolding section
   count-cases false p d r q = never 1 (length s) e (rw p at q)
-  count-cases true p false r q = never number at e (rw (p, r) at q)
+  count-cases true p false r q = never (numberOf kind) at e (rw (p, r) at q)
   count-cases true p true r q =
-      record {
-        least = leb-true lo (numAt 2 s at) (and-left (leb lo (numAt 2 s at)) (leb (numAt 2 s at) hi) r);
-        most = leb-true (numAt 2 s at) hi (and-right (leb lo (numAt 2 s at)) (leb (numAt 2 s at) hi) r);
-        room = leb-true (at + 2) (length s) p;
-        passed = entries-next test w (length s) (numAt 2 s at) (at + 2) e (leb-true (at + 2) (length s) p) (rw (p, r) at q);
-      }
+      let room = leb-true (at + 2) (length s) p in
+      let t = entries-next (testOf kind k s) (widthOf kind) (length s) (numAt 2 s at) (at + 2) e room (rw (p, r) at q) in
+      record { room = room; count = r; entries = t .0; next = t .1 }
 
-  pub section-next : section test w lo hi number s at ≡ S.Next e → Whole test w lo hi s at e
-  section-next = count-cases (leb (at + 2) (length s)) refl (leb lo (numAt 2 s at) && leb (numAt 2 s at) hi) refl
+  -- what a section that passes has shown
+  pub section-next : sectionOf kind k s at ≡ S.Next e → Passes kind k s at e
+  section-next = count-cases (leb (at + 2) (length s)) refl (countOk kind (numAt 2 s at)) refl
+
+  pub passes-inside : Passes kind k s at e → e ≤ length s
+  passes-inside h = omega (arith, h .next, h .entries .there)
+
+-- a right count is within its limits
+pub count-within : (kind : Kind) (n : ℕ) → countOk kind n ≡ true → (leastOf kind ≤ n) × (n ≤ mostOf kind)
+count-within kind n h = (
+  leb-true (leastOf kind) n (and-left (leb (leastOf kind) n) (leb n (mostOf kind)) h),
+  leb-true n (mostOf kind) (and-right (leb (leastOf kind) n) (leb n (mostOf kind)) h),
+)

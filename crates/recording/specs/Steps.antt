@@ -3,31 +3,26 @@ use Prim.Native.Nat.{ℕ, _+_, _*_, _-_, _%_}
 use mathlib.Core.Bool.{Bool, cond, _&&_}
 use mathlib.Core.List.{List}
 use lib.Dec.{leb, ltb, eqb}
-use lib.ListN.{length}
 use Rattle.settings.specs.declared.Row.{Row}
-use Rattle.settings.specs.Refusals.{granted}
 use Rattle.recording.specs.declared.Answer.{Answer}
-use Rattle.layout.specs.declared.Kind.the-variants.{Rows}
 use Rattle.recording.specs.declared.Step.{Step}
 use Rattle.recording.specs.declared.Step.the-variants as T
 use Rattle.layout.specs.Entries.{rowAt}
 use Rattle.bits.specs.Lists.{listOf}
-use Rattle.recording.specs.Answers.{number, rowCount, firstRow, rowWidth}
-use Rattle.layout.specs.Sections.{widthOf}
+use Rattle.recording.specs.Answers.{rowCount, firstRow, rowWidth}
 use Rattle.recording.specs.Reader.{reading}
 
--- in a file that was read and has rows of this width: ended where fewer bytes are left, or the width is no row's
-abbrev pub rowIn : List ℕ → (at width : ℕ) → Step
-rowIn s at width = cond (eqb width (widthOf Rows) && leb (at + width) (length s)) (T.Row (rowAt s at) (at + width)) T.Ended
+-- the place after the last row
+abbrev pub rowsEnd : Answer → ℕ
+rowsEnd a = firstRow a + rowWidth a * rowCount a
 
 -- a row's first byte: whole rows after the first one's, before the end
 abbrev pub isPlace : (first width end at : ℕ) → Bool
 isPlace first width end at = leb first at && ltb at end && eqb ((at - first) % width) 0
 
--- in bytes that the reader answers so, at any place: ended where it refuses them, or the place is no row's
+-- in bytes that the reader answers so, at any place: ended where the place is no row's. Bytes that it refuses have no rows
 abbrev pub stepIn : Answer → List ℕ → ℕ → Step
-stepIn a s at =
-    granted (number a) (cond (isPlace (firstRow a) (rowWidth a) (length s) at) (rowIn s at (rowWidth a)) T.Ended) (λ n. T.Ended)
+stepIn a s at = cond (isPlace (firstRow a) (rowWidth a) (rowsEnd a) at) (T.Row (rowAt s at) (at + rowWidth a)) T.Ended
 
 -- in any bytes, at any place
 unfoldable pub stepAt : List ℕ → ℕ → Step

@@ -8,7 +8,7 @@ ghost use lib.ListN.{length};
 ghost use Rattle.bits.specs.Numbers.{numAt};
 ghost use Rattle.layout.specs.Sections.{sectionOf};
 ghost use Rattle.recording.specs.Reader.{nothingKnown, knownOfBlock, settingsAt, refusal, fromSection, reading};
-ghost use Rattle.recording.specs.Steps.{rowIn, isPlace, stepAt};
+ghost use Rattle.recording.specs.Steps.{isPlace, stepAt};
 use layout::Kind;
 use layout::Section;
 use settings::Effect;
@@ -192,22 +192,6 @@ pub fn read(s: &[u8]) -> Reading
 
 // ---- the row at a place
 
-// In a file that was read and has rows of this width: the row at `at`, or ended where fewer bytes are left.
-pub fn row_in(s: &[u8], at: usize, width: usize) -> Step
-    ensures { λ r. ⌜ r ≡ rowIn (now (s .entry)) at width ⌝ }
-{
-    if width != layout::width_of(Kind::Rows) {
-        return Step::Ended;
-    }
-    if s.len() < at {
-        return Step::Ended;
-    }
-    if s.len() - at < width {
-        return Step::Ended;
-    }
-    Step::Row(layout::row_at(s, at), at + width)
-}
-
 // A row's first byte: whole rows after the first one's, before the end.
 fn is_place(first: usize, width: usize, end: usize, at: usize) -> bool
     requires { ⌜ 0 < width ⌝ }
@@ -236,5 +220,5 @@ pub fn row_step(s: &[u8], at: usize) -> Step
     if !is_place(first, width, s.len(), at) {
         return Step::Ended;
     }
-    row_in(s, at, width)
+    Step::Row(layout::row_at(s, at), at + width)
 }

@@ -1,5 +1,5 @@
--- One stroke by rounds. Document 01, "Held runs and their two counts". Promises cite `byRounds` (`rounds-suffice`,
--- block/proofs/Theorems, and `one-stroke-is-by-rounds`, demands/proofs/Demands); no contract does.
+-- One stroke by rounds. Document 01, "Held runs and their two counts". A promise cites `byRounds` (`rounds-suffice`,
+-- block/proofs/Theorems); no contract does.
 use Prim.Native.Nat.{ℕ, zero, suc, _+_, _-_, _*_, _/_, min}
 use mathlib.Core.Bool.{cond}
 use mathlib.Core.List.{List, [], _∷_, map}

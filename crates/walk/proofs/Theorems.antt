@@ -10,13 +10,12 @@ use lib.Dec.{leb}
 use lib.ListN.{take, getD}
 use lib.Seq.{take-all}
 use denote.Ref.{RefT, now}
-use Rattle.settings.proofs.Refusals.{granted-refused}
 use Rattle.recording.specs.declared.Reading.{Reading}
-use Rattle.recording.specs.declared.Step.the-variants as T
 use Rattle.recording.specs.Reader.{reading}
 use Rattle.recording.specs.Answers.{number, place, rowCount, firstRow, ended, stepRow}
 use Rattle.settings.specs.Zeros.{noRow}
-use Rattle.recording.specs.Steps.{stepAt, rowPlace, rowsOf}
+use Rattle.recording.specs.Steps.{stepIn, stepAt, rowPlace, rowsOf}
+use Rattle.recording.proofs.Steps.{refusal-ended}
 use Rattle.recording.specs.Refused.{Refused}
 use Rattle.recording.specs.Accepted.{Accepted}
 use Rattle.exactness.proofs.Theorems.{ended-elsewhere, refused-as-said}
@@ -64,7 +63,10 @@ walk-elsewhere-has-ended w none = ended-elsewhere (now (w .bytes)) (w .place) no
 -- or whose bytes the reader refuses
 pub walk-on-refused-has-ended : (w : Walk) → (Accepted (now (w .bytes)) → ⊥) → ended (nextOf w) ≡ true
 unfolding stepAt
-walk-on-refused-has-ended w h = ap ended (granted-refused _ (λ n. T.Ended) (number (reading (now (w .bytes)) .answer)) h)
+walk-on-refused-has-ended w h =
+    let s = now (w .bytes) in
+    let a = reading s .answer in
+    ap (λ (x : Reading). ended (stepIn (x .answer) s (w .place))) (refused-as-said s h .0) ∙ sym (ap ended (refusal-ended s (w .place) (number a) (place a)))
 
 -- on those, `start` gives the reader's refusal, and a walk at 0
 pub start-on-refused : (s : RefT (List ℕ)) → (Accepted (now s) → ⊥) → let z = startOf s in let a = reading (now s) .answer in

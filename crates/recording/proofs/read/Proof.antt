@@ -1,6 +1,8 @@
 -- `recording::read` meets its contract, from what its callees ensure and the tests on the way.
-use Rattle.recording.proofs.Between.{from-refused, left-over, accepted, block-room, WholeOf, section-whole, read-block, read-effects, read-rows}
+use Rattle.recording.proofs.Between.{from-refused, left-over, accepted, block-room, read-block, read-effects, read-rows}
 use Rattle.recording.specs.Reader.{nothingKnown, knownOfBlock, settingsAt, reading, afterRows}
+use Rattle.recording.specs.Refused.{Passes}
+use Rattle.recording.proofs.Sections.{section-next, passes-inside, count-within}
 use Rattle.layout.specs.Sections.{sectionOf}
 use Rattle.layout.specs.declared.Kind.the-variants.{Block, Effects, Rows}
 use Rattle.layout.specs.declared.Section.the-variants as S
@@ -61,8 +63,11 @@ whole : (c : tie.After-known-told3) → let d = past-block (past-effects c) in
     reading (bytes d) ≡ afterRows (bytes d) (at-effects d) (at-rows (past-effects c)) (at-end c)
 whole c = read-rows _ _ (block-next (past-block (past-effects c))) _ (effects-next (past-effects c)) _ (rows-next c)
 
-effects-facts : (c : tie.After-known-told2) → let d = past-block c in WholeOf Effects (knownOfBlock (bytes d)) (bytes d) (at-effects d) (at-rows c)
-effects-facts c = section-whole Effects (knownOfBlock (bytes (past-block c))) _ _ _ (effects-next c)
+block-passes : (c : tie.After-known-told) → Passes Block nothingKnown (bytes c) 0 (at-effects c)
+block-passes c = section-next Block nothingKnown (bytes c) 0 (at-effects c) (block-next c)
+
+effects-pass : (c : tie.After-known-told2) → let d = past-block c in Passes Effects (knownOfBlock (bytes d)) (bytes d) (at-effects d) (at-rows c)
+effects-pass c = section-next Effects (knownOfBlock (bytes (past-block c))) _ _ _ (effects-next c)
 
 -- ## The needs
 
@@ -71,10 +76,10 @@ unfolding reading
 returns c = c .stopped .ensures ∙ from-refused _ _ _ _ _ _ (c .before .before .before .read-section .ensures) (c .before .enum-told .given .1)
 
 known-of-block-requires : tie.Need-known-of-block-requires
-known-of-block-requires c κs = let k = block-room (bytes c) (at-effects c) (block-next c) in omega (arith, k .1)
+known-of-block-requires c κs = let k = block-room (bytes c) (at-effects c) (block-passes c) in omega (arith, k .1)
 
 read-section-requires-2 : tie.Need-read-section-requires-2
-read-section-requires-2 c κs = let k = block-room (bytes (c .before)) (at-effects (c .before)) (block-next (c .before)) in omega (arith, k .0, k .1)
+read-section-requires-2 c κs = let k = block-room (bytes (c .before)) (at-effects (c .before)) (block-passes (c .before)) in omega (arith, k .0, k .1)
 
 returns-2 : tie.Need-returns-2
 returns-2 c = c .stopped2 .ensures ∙ from-refused _ _ _ _ _ _ (effects-are (c .before .before .before)) (c .before .enum-told2 .given .1) ∙ sym (read-block _ _ (block-next (c .before .before .before .before .before)))
@@ -82,12 +87,12 @@ returns-2 c = c .stopped2 .ensures ∙ from-refused _ _ _ _ _ _ (effects-are (c 
 settings-at-requires : tie.Need-settings-at-requires
 settings-at-requires c κs =
     let d = past-block c in
-    let k = block-room (bytes d) (at-effects d) (block-next d) in
-    let f = effects-facts c in
-    (omega (arith, k .0), f .most, omega (arith, f .passed .next, f .passed .inside))
+    let k = block-room (bytes d) (at-effects d) (block-passes d) in
+    let f = effects-pass c in
+    (omega (arith, k .0), count-within Effects _ (f .count) .1, omega (arith, f .entries .there))
 
 read-section-requires-3 : tie.Need-read-section-requires-3
-read-section-requires-3 c κs = let f = effects-facts (c .before .before) in f .passed .inside
+read-section-requires-3 c κs = passes-inside Effects _ _ _ _ (effects-pass (c .before .before))
 
 returns-3 : tie.Need-returns-3
 returns-3 c = c .stopped3 .ensures ∙ from-refused _ _ _ _ _ _ (rows-are (c .before .before .before)) (c .before .enum-told3 .given .1) ∙ sym (read-effects _ _ (block-next (past-block (c .before .before .before .before .before .before))) _ (effects-next (c .before .before .before .before .before .before)))
@@ -99,10 +104,10 @@ returns-4 c =
     c .refused .ensures ∙ left-over (bytes p) (at-effects p) (at-rows (past-effects d)) (at-end d) (λ q. omega (arith, q, c .before .if1 .taken)) ∙ sym (whole d)
 
 get16-requires : tie.Need-get16-requires
-get16-requires c κs = section-whole Rows _ _ _ _ (rows-next (c .before)) .room
+get16-requires c κs = section-next Rows _ _ _ _ (rows-next (c .before)) .room
 
 add-t11 : tie.Need-add-t11
-add-t11 c = let k = section-whole Rows _ _ _ _ (rows-next (c .before .before)) .room in omega (arith, k)
+add-t11 c = let k = section-next Rows _ _ _ _ (rows-next (c .before .before)) .room in omega (arith, k)
 
 returns-5 : tie.Need-returns-5
 returns-5 c =
