@@ -1,16 +1,16 @@
 -- Laws of bytes laid one after the other: a slot, and a line of digits.
-use mathlib.Core.Path.{_≡_, refl}
+use mathlib.Core.Path.{_≡_, refl, ap, _∙_}
 use mathlib.Core.List.{List, [], _∷_, _++_, flatMap}
-use Prim.Native.Nat.{ℕ, _+_, _*_}
+use Prim.Native.Nat.{ℕ, _+_, _*_, _≤_}
 use native.Mathlib.Nat.{zero-add}
 use native.Mathlib.Omega.{arith}
-use lib.ListN.{length, length-append}
-use lib.Seq.{sets}
+use lib.ListN.{length, take, drop, length-append}
+use lib.Seq.{sets, sets-eq, take-at}
 use Rattle.bits.specs.Numbers.{digits}
 use Rattle.bits.proofs.Lists.{length-flatMap}
 use Rattle.bits.proofs.Numbers.{sets-then}
 use Rattle.rules.specs.declared.Slot.{Slot}
-use Rattle.cases.specs.Answers.{slotBytes, hexByte, pairBytes}
+use Rattle.cases.specs.Answers.{slotBytes, hexByte, pairBytes, lineBytes}
 
 -- a slot takes 7 bytes, an element like every other
 pub length-slot : (x : Slot) → length (slotBytes x) ≡ 7
@@ -33,3 +33,11 @@ length-pair a b = rw length-append (omega (arith, length-flatMap hexByte 2 (λ x
 pub line-is : (l l₁ l₂ : List ℕ) (n : ℕ) (a b x : List ℕ) → l₁ ≡ sets l 0 (pairBytes a b) → n ≡ 0 + 2 * length a + 1 + 2 * length b
     → l₂ ≡ sets l₁ n x → l₂ ≡ sets l 0 (pairBytes a b ++ x)
 line-is l l₁ l₂ n a b x p e q = sets-then l l₁ l₂ 0 n (pairBytes a b) x p (rw zero-add q) (omega (arith, length-pair a b))
+
+-- the front of the buffer is the line
+pub line-at-front : (l l₁ : List ℕ) (n : ℕ) (a b : List ℕ) (last : ℕ) → l₁ ≡ sets l 0 (lineBytes a b last) → n ≡ 2 * length a + 2 * length b + 2 → n ≤ length l
+    → take n l₁ ≡ lineBytes a b last
+line-at-front l l₁ n a b last p e h =
+    let text = lineBytes a b last in
+    let long : length text ≡ n = length-append (pairBytes a b) (digits 1 last) ∙ omega (arith, length-pair a b, e) in
+    ap (take n) (p ∙ sets-eq text l 0 (omega (arith, long, h))) ∙ take-at text (drop (0 + length text) l) n long

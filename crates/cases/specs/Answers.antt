@@ -4,6 +4,7 @@ use mathlib.Core.Bool.{cond}
 use mathlib.Core.List.{List, [], _∷_, _++_, flatMap}
 use lib.Dec.{ltb}
 use Rattle.bits.specs.Layout.{pack}
+use Rattle.bits.specs.Numbers.{digits}
 use Rattle.rules.specs.declared.Slot.{Slot}
 use Rattle.rules.specs.Rules.{code}
 use Rattle.block.specs.declared.State.{State}
@@ -33,3 +34,7 @@ hexByte b = hexDigit (b / 16) ∷ hexDigit (b % 16) ∷ []
 -- the digits of a, a space, and those of b
 unfoldable pub pairBytes : List ℕ → List ℕ → List ℕ
 pairBytes a b = flatMap hexByte a ++ 32 ∷ flatMap hexByte b
+
+-- a line: the same and a last byte
+abbrev pub lineBytes : List ℕ → List ℕ → (last : ℕ) → List ℕ
+lineBytes a b last = pairBytes a b ++ digits 1 last

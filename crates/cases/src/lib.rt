@@ -3,15 +3,16 @@
 // `block`, `layout` (for effects) and what these rest on, and on the kit's `io` and `libc`; no promise rests on it. All but the
 // streams may change.
 ghost use mathlib.Core.Path.{_≡_};
-ghost use mathlib.Core.List.{[], _∷_, _++_, flatMap};
+ghost use mathlib.Core.List.{[], _∷_, flatMap};
 ghost use Prim.Native.Nat.{_+_, _*_, _%_, _<_, _≤_, min};
 ghost use lib.ListN.{length};
 ghost use lib.Seq.{sets};
 ghost use Rattle.bits.specs.Layout.{pack};
 ghost use Rattle.bits.specs.Lists.{tabulate};
-ghost use Rattle.bits.specs.Numbers.{numAt, digits};
-ghost use Rattle.cases.specs.Given.{settingsAt, slotAt, stateAt, fillAt};
-ghost use Rattle.cases.specs.Answers.{slotBytes, stateBytes, answerBytes, hexDigit, hexByte, pairBytes};
+ghost use Rattle.bits.specs.Numbers.{numAt};
+ghost use Rattle.rules.specs.Rules.{mostCode};
+ghost use Rattle.cases.specs.Given.{settingsAt, codeAt, SlotAt, SlotsAt, StateAt, fillAt};
+ghost use Rattle.cases.specs.Answers.{slotBytes, stateBytes, answerBytes, hexDigit, hexByte, pairBytes, lineBytes};
 use block::Scanned;
 use block::State;
 use rules::EffectState;
@@ -37,13 +38,25 @@ pub fn settings_at(s: &[u8], at: usize) -> Settings
 
 // ---- state: 118 bytes
 
+// The highest state code.
+const MOST_CODE: u8 = 5;
+
+// The state code that stands at `at`; a byte that is none is taken for the highest.
+fn code_at(s: &[u8], at: usize) -> u8
+    requires { ⌜ at + 1 ≤ length (now s) ⌝ }
+    ensures { λ r. ⌜ (r ≡ codeAt (now (s .entry)) at) × (r ≤ mostCode) ⌝ }
+{
+    let code = bits::get8(s, at);
+    if code < MOST_CODE { code } else { MOST_CODE }
+}
+
 // Slot i of those that stand from `at` on.
 fn slot_at(s: &[u8], at: usize, i: usize) -> Slot
     requires { ⌜ (i < 16) × (at + 112 ≤ length (now s)) ⌝ }
-    ensures { λ r. ⌜ r ≡ slotAt (now (s .entry)) at i ⌝ }
+    ensures { λ r. ⌜ SlotAt (now (s .entry)) at i r ⌝ }
 {
     Slot {
-        state: rules::state_of(bits::get8(s, at + 7 * i)),
+        state: rules::state_of(code_at(s, at + 7 * i)),
         timer: bits::get32(s, at + 7 * i + 1),
         first_out: bits::get16(s, at + 7 * i + 5),
     }
@@ -51,7 +64,7 @@ fn slot_at(s: &[u8], at: usize, i: usize) -> Slot
 
 fn slots_at(s: &[u8], at: usize) -> [Slot; 16]
     requires { ⌜ at + 112 ≤ length (now s) ⌝ }
-    ensures { λ r. ⌜ r ≡ tabulate (slotAt (now (s .entry)) at) 16 ⌝ }
+    ensures { λ r. ⌜ SlotsAt (now (s .entry)) at 16 r ⌝ }
 {
     let none = Slot {
         state: EffectState::Tripped,
@@ -70,7 +83,7 @@ fn slots_at(s: &[u8], at: usize) -> [Slot; 16]
 // The state that stands at `at`.
 pub fn state_at(s: &[u8], at: usize) -> State
     requires { ⌜ at + 118 ≤ length (now s) ⌝ }
-    ensures { λ r. ⌜ r ≡ stateAt (now (s .entry)) at ⌝ }
+    ensures { λ r. ⌜ StateAt (now (s .entry)) at r ⌝ }
 {
     let slots = slots_at(s, at + 6);
     State {
@@ -220,18 +233,25 @@ fn put_pair(a: &[u8], b: &[u8], out: &mut [u8], at: usize) -> usize
 fn put_line(a: &[u8], b: &[u8], last: u8, out: &mut [u8]) -> usize
     requires { ⌜ 2 * length (now a) + 2 * length (now b) + 2 ≤ length (now out) ⌝ }
     ensures { λ r. ⌜ r ≡ 2 * length (now (a .entry)) + 2 * length (now (b .entry)) + 2 ⌝ }
-    ensures { λ _. ⌜ now (out .exit) ≡ sets (now (out .entry)) 0 (pairBytes (now (a .entry)) (now (b .entry)) ++ digits 1 last) ⌝ }
+    ensures { λ _. ⌜ now (out .exit) ≡ sets (now (out .entry)) 0 (lineBytes (now (a .entry)) (now (b .entry)) last) ⌝ }
 {
     let n = put_pair(a, b, out, 0);
     bits::put8(out, n, last);
     n + 1
 }
 
+// Writes such a line to standard output; false if it takes no more.
+fn write_line(a: &[u8], b: &[u8], last: u8, text: &[u8]) -> bool
+    requires { ⌜ now text ≡ lineBytes (now a) (now b) last ⌝ }
+{
+    io::write_all(1, text)
+}
+
 // Writes such a line at the front of `line`, and from there to standard output; false if it takes no more.
 pub fn print_line(a: &[u8], b: &[u8], last: u8, line: &mut [u8]) -> bool
     requires { ⌜ 2 * length (now a) + 2 * length (now b) + 2 ≤ length (now line) ⌝ }
-    ensures { λ _. ⌜ now (line .exit) ≡ sets (now (line .entry)) 0 (pairBytes (now (a .entry)) (now (b .entry)) ++ digits 1 last) ⌝ }
+    ensures { λ _. ⌜ now (line .exit) ≡ sets (now (line .entry)) 0 (lineBytes (now (a .entry)) (now (b .entry)) last) ⌝ }
 {
     let n = put_line(a, b, last, line);
-    io::write_all(1, &line[0..n])
+    write_line(a, b, last, &line[..n])
 }

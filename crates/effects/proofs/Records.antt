@@ -1,20 +1,21 @@
 -- Records laid one after the other, and read back.
-use mathlib.Core.Path.{_≡_, refl, ap, ap₂, _∙_}
+use mathlib.Core.Path.{_≡_, refl, ap, sym, subst, _∙_}
 use mathlib.Core.Bool.{Bool, true, false}
 use mathlib.Core.List.{List, [], _∷_, _++_, flatMap, append-assoc}
-use Prim.Native.Nat.{ℕ, _+_, _*_, _≤_}
+use Prim.Native.Nat.{ℕ, zero, suc, _+_, _*_, _≤_, _<_}
 use native.Mathlib.Nat.{add-zero}
 use native.Mathlib.Omega.{arith}
-use lib.ListN.{length, take, drop, getD, length-append}
-use lib.Seq.{sets, sets-eq, take-at}
+use lib.ListN.{length, take, drop, getD, length-append, length-take, take-append-drop}
+use lib.Seq.{sets, sets-eq, take-at, drop-at, drop-drop}
 use Rattle.bits.specs.Words.{one}
 use Rattle.bits.specs.Numbers.{numAt}
 use Rattle.bits.proofs.Lists.{flatMap-append, length-flatMap}
 use Rattle.bits.proofs.Numbers.{fields-spelled}
-use Rattle.rules.specs.Rules.{code, stateOf}
-use Rattle.rules.proofs.States.{state-of-code}
+use Rattle.rules.specs.Rules.{code}
+use Rattle.rules.proofs.States.{code-injective}
+use Rattle.rules.specs.declared.EffectState.{EffectState}
 use Rattle.effects.specs.declared.Event.{Event}
-use Rattle.effects.specs.Records.{recordLength, recordLayout, encode, bytes, eventAt, eventsAt}
+use Rattle.effects.specs.Records.{recordLength, recordLayout, encode, bytes, StandsAt, StandFrom}
 use Rattle.effects.specs.Scan.{only}
 
 pub length-encode : (e : Event) → length (encode e) ≡ recordLength
@@ -38,31 +39,88 @@ front-bytes es l h =
 
 -- ## Records that are read back
 
--- a record is read as the event that it is of
-pub event-encoded : (e : Event) (p q : List ℕ) (at : ℕ) → at ≡ length p → eventAt (p ++ (encode e ++ q)) at ≡ e
-unfolding encode eventAt
-event-encoded e p q at h =
-    let s = p ++ (encode e ++ q) in
+-- what stands in a record, field by field
+pub record Fields (s : List ℕ) (at : ℕ) (e : Event) : Type 0 where
+  pub seq : numAt 2 s at ≡ e .seq
+  pub scan : numAt 4 s (at + 2) ≡ e .scan
+  pub effect : numAt 1 s (at + 6) ≡ e .effect
+  pub from : numAt 1 s (at + 7) ≡ code (e .from)
+  pub to : numAt 1 s (at + 8) ≡ code (e .to)
+  pub first-out : numAt 2 s (at + 10) ≡ e .«first_out»
+
+fields-encoded : (e : Event) (p q : List ℕ) (at : ℕ) → at ≡ length p → Fields (p ++ (encode e ++ q)) at e
+unfolding encode
+fields-encoded e p q at h =
     let vs = e .seq ∷ e .scan ∷ e .effect ∷ code (e .from) ∷ code (e .to) ∷ 0 ∷ e .«first_out» ∷ [] in
     let f =
     fields-spelled recordLayout vs p q at 0 (omega arith)
     ((λ z. omega arith), ((λ z. omega arith), ((λ z. omega arith), ((λ z. omega arith), ((λ z. omega arith), ((λ z. refl), ((λ z. omega arith), tt)))))))
     in
-    let seq : numAt 2 s at ≡ e .seq = rw add-zero at (ap (λ (l : List ℕ). getD l 0 0) f) in
-    let scan : numAt 4 s (at + 2) ≡ e .scan = ap (λ (l : List ℕ). getD l 1 0) f in
-    let effect : numAt 1 s (at + 6) ≡ e .effect = ap (λ (l : List ℕ). getD l 2 0) f in
-    let from : stateOf (numAt 1 s (at + 7)) ≡ e .from = ap (λ (l : List ℕ). stateOf (getD l 3 0)) f ∙ state-of-code (e .from) in
-    let to : stateOf (numAt 1 s (at + 8)) ≡ e .to = ap (λ (l : List ℕ). stateOf (getD l 4 0)) f ∙ state-of-code (e .to) in
-    let first : numAt 2 s (at + 10) ≡ e .«first_out» = ap (λ (l : List ℕ). getD l 6 0) f in
-    rw (seq, scan, effect, from, to, first)
+    record {
+      seq = rw add-zero at (ap (λ (l : List ℕ). getD l 0 0) f);
+      scan = ap (λ (l : List ℕ). getD l 1 0) f;
+      effect = ap (λ (l : List ℕ). getD l 2 0) f;
+      from = ap (λ (l : List ℕ). getD l 3 0) f;
+      to = ap (λ (l : List ℕ). getD l 4 0) f;
+      first-out = ap (λ (l : List ℕ). getD l 6 0) f;
+    }
 
-pub events-of-bytes : (es : List Event) (p q : List ℕ) (at : ℕ) → at ≡ length p → eventsAt (p ++ (bytes es ++ q)) (length es) at ≡ es
-unfolding flatMap
-events-of-bytes [] p q at h = refl
-events-of-bytes (e ∷ es) p q at h =
-    let again : p ++ ((encode e ++ bytes es) ++ q) ≡ (p ++ encode e) ++ (bytes es ++ q) = simp append-assoc in
-    let here : eventAt (p ++ ((encode e ++ bytes es) ++ q)) at ≡ e = rw (append-assoc (encode e) (bytes es) q) (event-encoded e p (bytes es ++ q) at h) in
-    let there : eventsAt (p ++ ((encode e ++ bytes es) ++ q)) (length es) (at + recordLength) ≡ es =
-    rw again (events-of-bytes es (p ++ encode e) q (at + recordLength) (omega (arith, length-append p (encode e), length-encode e)))
-    in
-    ap₂ {B = List Event} (λ (x : Event) (y : List Event). x ∷ y) here there
+pub fields-of : (s : List ℕ) (at : ℕ) (e : Event) → StandsAt s at e → Fields s at e
+fields-of s at e h =
+    let rest = drop recordLength (drop at s) in
+    let here : drop at s ≡ encode e ++ rest = sym (take-append-drop recordLength (drop at s)) ∙ ap (λ (l : List ℕ). l ++ rest) (h .1) in
+    let whole : s ≡ take at s ++ (encode e ++ rest) = sym (take-append-drop at s) ∙ ap (λ (l : List ℕ). take at s ++ l) here in
+    let n : at ≡ length (take at s) = simp length-take (omega arith) in
+    subst (λ (l : List ℕ). Fields l at e) (sym whole) (fields-encoded e (take at s) rest at n)
+
+abbrev made : (seq scan effect : ℕ) → (from to : EffectState) → (first : ℕ) → Event
+made a b c p q f = record { seq = a; scan = b; effect = c; from = p; to = q; «first_out» = f }
+
+same-made : (a b c a′ b′ c′ : ℕ) (p q p′ q′ : EffectState) (f f′ : ℕ) → a ≡ a′ → b ≡ b′ → c ≡ c′ → p ≡ p′ → q ≡ q′ → f ≡ f′ → made a b c p q f ≡ made a′ b′ c′ p′ q′ f′
+same-made a b c a′ b′ c′ p q p′ q′ f f′ h₁ h₂ h₃ h₄ h₅ h₆ = rw (h₁, h₂, h₃, h₄, h₅, h₆)
+
+-- an event is that of its fields
+pub same-event : (r e : Event) → r .seq ≡ e .seq → r .scan ≡ e .scan → r .effect ≡ e .effect → code (r .from) ≡ code (e .from)
+    → code (r .to) ≡ code (e .to) → r .«first_out» ≡ e .«first_out» → r ≡ e
+same-event r e a b c p q f =
+    same-made (r .seq) (r .scan) (r .effect) (e .seq) (e .scan) (e .effect) (r .from) (r .to) (e .from) (e .to) (r .«first_out») (e .«first_out») a b c (code-injective (r .from) (e .from) p) (code-injective (r .to) (e .to) q) f
+
+-- an event with the fields of a record that stands at a place is the one whose record it is
+pub read-as : (s : List ℕ) (at : ℕ) (e r : Event) → StandsAt s at e → r .seq ≡ numAt 2 s at → r .scan ≡ numAt 4 s (at + 2) → r .effect ≡ numAt 1 s (at + 6)
+    → code (r .from) ≡ numAt 1 s (at + 7) → code (r .to) ≡ numAt 1 s (at + 8) → r .«first_out» ≡ numAt 2 s (at + 10) → StandsAt s at r
+read-as s at e r h a b c p q f =
+    let x = fields-of s at e h in
+    rw (same-event r e (a ∙ x .seq) (b ∙ x .scan) (c ∙ x .effect) (p ∙ x .from) (q ∙ x .to) (f ∙ x .first-out)) h
+
+-- at a place stands the record of one event at most
+pub one-event : (s : List ℕ) (at : ℕ) (r e : Event) → StandsAt s at r → StandsAt s at e → r ≡ e
+one-event s at r e h k =
+    let x = fields-of s at r h in
+    let y = fields-of s at e k in
+    same-event r e (sym (x .seq) ∙ y .seq) (sym (x .scan) ∙ y .scan) (sym (x .effect) ∙ y .effect) (sym (x .from) ∙ y .from) (sym (x .to) ∙ y .to) (sym (x .first-out) ∙ y .first-out)
+
+-- records that stand one after the other: the first, and the rest
+module _ (s : List ℕ) (at : ℕ) (e : Event) (es : List Event) (h : StandFrom s at (e ∷ es)) where
+  split-first : drop at s ≡ encode e ++ (bytes es ++ drop (recordLength * length (e ∷ es)) (drop at s))
+  unfolding flatMap
+  split-first =
+      let n = recordLength * length (e ∷ es) in
+      sym (take-append-drop n (drop at s)) ∙ ap (λ (l : List ℕ). l ++ drop n (drop at s)) (h .1) ∙ append-assoc (encode e) (bytes es) (drop n (drop at s))
+
+  pub stand-first : StandsAt s at e
+  stand-first = (omega (arith, h .0), ap (take recordLength) split-first ∙ take-at (encode e) _ recordLength (length-encode e))
+
+  pub stand-rest : StandFrom s (at + recordLength) es
+  stand-rest = (
+    omega (arith, h .0),
+    ap (take (recordLength * length es)) (sym (drop-drop recordLength at s) ∙ ap (drop recordLength) split-first ∙ drop-at (encode e) _ recordLength (length-encode e))
+        ∙ take-at (bytes es) _ (recordLength * length es) (length-bytes es),
+  )
+
+-- and record i
+pub stand-nth : (s : List ℕ) (at : ℕ) (es : List Event) → StandFrom s at es → (i : ℕ) (d : Event) → i < length es → StandsAt s (at + recordLength * i) (getD es i d)
+stand-nth s at [] h i d l = absurd (omega arith)
+stand-nth s at (e ∷ es) h zero d l = rw add-zero (stand-first s at e es h)
+stand-nth s at (e ∷ es) h (suc i) d l =
+    let place : at + recordLength * suc i ≡ at + recordLength + recordLength * i = omega arith in
+    rw place (stand-nth s (at + recordLength) es (stand-rest s at e es h) i d (omega arith))

@@ -1,11 +1,11 @@
--- The bytes of an event record, and of records; and the events that they are of. Document 01, "The rules of one scan".
-use Prim.Native.Nat.{ℕ, _+_, _*_}
+-- The bytes of an event record, and of records; and bytes that are those of events. Document 01, "The rules of one scan".
+use Prim.Native.Nat.{ℕ, _+_, _*_, _≤_}
+use mathlib.Core.Path.{_≡_}
 use mathlib.Core.List.{List, [], _∷_, flatMap}
+use lib.ListN.{length, take, drop}
 use Rattle.bits.specs.Layout.{pack}
-use Rattle.bits.specs.Lists.{listOf}
-use Rattle.bits.specs.Numbers.{numAt}
 use Rattle.rules.specs.Limits.{mostEffects}
-use Rattle.rules.specs.Rules.{code, stateOf}
+use Rattle.rules.specs.Rules.{code}
 use Rattle.effects.specs.declared.Event.{Event}
 use Rattle.effects.specs.declared.Record.{Record}
 
@@ -41,18 +41,12 @@ encode e = recordOf (e .seq) (e .scan) (e .effect) (code (e .from)) (code (e .to
 abbrev pub bytes : List Event → List ℕ
 bytes es = flatMap encode es
 
--- the event of the record at a place
-unfoldable pub eventAt : List ℕ → ℕ → Event
-eventAt s at =
-    record {
-      seq = numAt 2 s at;
-      scan = numAt 4 s (at + 2);
-      effect = numAt 1 s (at + 6);
-      from = stateOf (numAt 1 s (at + 7));
-      to = stateOf (numAt 1 s (at + 8));
-      «first_out» = numAt 2 s (at + 10);
-    }
+-- ## Bytes that are records
 
--- the events of n records, from a place on
-abbrev pub eventsAt : List ℕ → (n at : ℕ) → List Event
-eventsAt s = listOf (eventAt s) recordLength
+-- the record of an event stands at a place
+abbrev pub StandsAt : List ℕ → (at : ℕ) → Event → Type 0
+StandsAt s at e = (at + recordLength ≤ length s) × (take recordLength (drop at s) ≡ encode e)
+
+-- the records of events stand from a place on
+abbrev pub StandFrom : List ℕ → (at : ℕ) → List Event → Type 0
+StandFrom s at es = (at + recordLength * length es ≤ length s) × (take (recordLength * length es) (drop at s) ≡ bytes es)

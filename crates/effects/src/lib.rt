@@ -7,7 +7,8 @@ ghost use Prim.Native.Nat.{_+_, _≤_};
 ghost use lib.ListN.{length};
 ghost use lib.Seq.{sets};
 ghost use Rattle.bits.specs.Layout.{pack};
-ghost use Rattle.effects.specs.Records.{recordLength, bytesOf, eventAt};
+ghost use Rattle.effects.specs.Records.{recordLength, bytesOf, StandsAt};
+ghost use Rattle.effects.specs.declared.Event.{Event};
 use rules::EffectState;
 
 // An event: what a record holds.
@@ -66,10 +67,10 @@ pub fn put_record(buf: &mut [u8], at: usize, r: Record)
     put_change(buf, at + 7, r.from, r.to, r.first_out);
 }
 
-// The event of the record at a place.
+// The event whose record stands at a place.
 pub fn event_at(s: &[u8], at: usize) -> Event
-    requires { ⌜ at + recordLength ≤ length (now s) ⌝ }
-    ensures { λ r. ⌜ r ≡ eventAt (now (s .entry)) at ⌝ }
+    requires { ⌜ ((e : Event) × StandsAt (now s) at e) ⌝ }
+    ensures { λ r. ⌜ StandsAt (now (s .entry)) at r ⌝ }
 {
     Event {
         seq: bits::get16(s, at),

@@ -6,11 +6,11 @@ use Prim.Native.Nat.{ℕ, zero, suc, _+_, _-_, _*_, _≤_, _<_}
 use native.Mathlib.Omega.{arith}
 use borrow.Author.Tests.{not-true, not-false, leb-true, leb-false, le-leb, lt-leb}
 use lib.Dec.{leb}
-use lib.ListN.{length, drop}
-use lib.Seq.{sets, sets-eq}
+use lib.ListN.{length}
+use lib.Seq.{sets, length-sets}
 use Rattle.effects.specs.declared.Event.{Event}
-use Rattle.effects.specs.Records.{recordLength, bytes, eventsAt, mostRecords, mostRowBytes}
-use Rattle.effects.proofs.Records.{length-bytes, events-of-bytes}
+use Rattle.effects.specs.Records.{recordLength, bytes, StandFrom, mostRecords, mostRowBytes}
+use Rattle.effects.proofs.Records.{front-bytes}
 use Rattle.settings.specs.Refusals.{granted}
 use Rattle.rerun.specs.declared.Run.{Run}
 use Rattle.rerun.specs.declared.Turn.{Turn}
@@ -77,16 +77,15 @@ module _ (out : List ℕ) (at : ℕ) (b : Bool) (is : b ≡ hasRoom (length out)
 
 -- ## The records that a row leaves in the space that it was lent
 
-read-back : (n : ℕ) (es : List Event) (space : List ℕ) → recordLength * granted n (length es) (λ k. 0) ≤ length space
-    → lines (eventsAt (granted n (sets space 0 (bytes es)) (λ k. space)) (granted n (length es) (λ k. 0)) 0) ≡ granted n (lines es) (λ k. [])
+-- those of some events, whose lines the row has
+left-in : (n : ℕ) (es : List Event) (space : List ℕ) → recordLength * granted n (length es) (λ k. 0) ≤ length space
+    → (us : List Event) × (length us ≡ granted n (length es) (λ k. 0)) × StandFrom (granted n (sets space 0 (bytes es)) (λ k. space)) 0 us × (lines us ≡ granted n (lines es) (λ k. []))
 unfolding flatMap
-read-back zero es space h =
-    rw (sets-eq (bytes es) space 0 (omega (arith, length-bytes es)), events-of-bytes es [] (drop (0 + length (bytes es)) space) 0 refl)
-read-back (suc k) es space h = refl
+left-in zero es space h = (es, refl, (omega (arith, length-sets space 0 (bytes es)), front-bytes es space h), refl)
+left-in (suc k) es space h = ([], refl, (omega arith, refl), refl)
 
--- they are those whose lines the row has
-pub lines-of-turn : {s : List ℕ} {run : Run} {space : List ℕ} {u : Turn} {array′ space′ : List ℕ} → RowDone s run space u array′ space′
-    → u .records ≤ mostRecords → mostRowBytes ≤ length space → lines (eventsAt space′ (u .records) 0) ≡ rowLines s (run .rows)
-lines-of-turn {s} {run} {space} d few room =
+pub recorded-by : {s : List ℕ} {run : Run} {space : List ℕ} {u : Turn} {array′ space′ : List ℕ} → RowDone s run space u array′ space′
+    → u .records ≤ mostRecords → mostRowBytes ≤ length space → (us : List Event) × (length us ≡ u .records) × StandFrom space′ 0 us × (lines us ≡ rowLines s (run .rows))
+recorded-by {s} {run} {space} d few room =
     rw (d .records-are, d .laid)
-    (read-back (firstRows s (run .rows + 1) .number) (rowRun s (run .rows) .events) space (omega (arith, d .records-are)))
+    (left-in (firstRows s (run .rows + 1) .number) (rowRun s (run .rows) .events) space (omega (arith, d .records-are)))

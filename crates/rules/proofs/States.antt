@@ -1,23 +1,43 @@
 -- States are told apart by their codes.
 use mathlib.Core.Path.{_≡_, refl, ap, sym, _∙_}
-use mathlib.Core.Bool.{true}
+use mathlib.Core.Bool.{true, cond}
+use Prim.Native.Nat.{ℕ, _≤_}
+use lib.Dec.{eqb, lit≤}
 use borrow.Author.Tests.{eqb-true, eq-eqb}
 use Rattle.rules.specs.declared.EffectState.{EffectState}
 use Rattle.rules.specs.declared.EffectState.the-variants.{Tripped, WaitReset, Ready, WaitStart, Normal, Delayed}
-use Rattle.rules.specs.Rules.{code, stateOf, same}
+use Rattle.rules.specs.Rules.{code, mostCode, same}
 
--- the state of a state's code is that state
-pub state-of-code : (p : EffectState) → stateOf (code p) ≡ p
-state-of-code Tripped = refl
-state-of-code WaitReset = refl
-state-of-code Ready = refl
-state-of-code WaitStart = refl
-state-of-code Normal = refl
-state-of-code Delayed = refl
+-- from a code back to its state; what it gives for other numbers is never used
+abbrev back : ℕ → EffectState
+back k =
+    cond (eqb k 0) Tripped
+    (cond (eqb k 1) WaitReset (cond (eqb k 2) Ready (cond (eqb k 3) WaitStart (cond (eqb k 4) Normal Delayed))))
+
+back-of-code : (p : EffectState) → back (code p) ≡ p
+back-of-code Tripped = refl
+back-of-code WaitReset = refl
+back-of-code Ready = refl
+back-of-code WaitStart = refl
+back-of-code Normal = refl
+back-of-code Delayed = refl
+
+-- no two states have one code
+pub code-injective : (p q : EffectState) → code p ≡ code q → p ≡ q
+code-injective p q e = sym (back-of-code p) ∙ ap back e ∙ back-of-code q
+
+-- and none has a code above the highest
+pub code-at-most : (p : EffectState) → code p ≤ mostCode
+code-at-most Tripped = lit≤ tt
+code-at-most WaitReset = lit≤ tt
+code-at-most Ready = lit≤ tt
+code-at-most WaitStart = lit≤ tt
+code-at-most Normal = lit≤ tt
+code-at-most Delayed = lit≤ tt
 
 -- states that are the same are one
 pub same-eq : (p q : EffectState) → same p q ≡ true → p ≡ q
-same-eq p q e = sym (state-of-code p) ∙ ap stateOf (eqb-true (code p) (code q) e) ∙ state-of-code q
+same-eq p q e = code-injective p q (eqb-true (code p) (code q) e)
 
 -- and a state is the same as itself
 pub same-refl : (p : EffectState) → same p p ≡ true

@@ -16,11 +16,9 @@ code WaitStart = 3
 code Normal = 4
 code Delayed = 5
 
--- the state of a code; above 5 there is none, and Delayed stands in
-abbrev pub stateOf : ℕ → EffectState
-stateOf k =
-    cond (eqb k 0) Tripped
-    (cond (eqb k 1) WaitReset (cond (eqb k 2) Ready (cond (eqb k 3) WaitStart (cond (eqb k 4) Normal Delayed))))
+-- the highest code; a number above it is none
+abbrev pub mostCode : ℕ
+mostCode = 5
 
 abbrev pub same : EffectState → EffectState → Bool
 same p q = eqb (code p) (code q)

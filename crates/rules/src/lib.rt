@@ -3,7 +3,8 @@
 // A rule that changes in specs/ changes what every crate above promises, and its formula in `planes` with it, but no proof of theirs:
 // what they need of the rules is tested by computing.
 ghost use mathlib.Core.Path.{_≡_};
-ghost use Rattle.rules.specs.Rules.{code as codeOf, stateOf, same as sameAs};
+ghost use Prim.Native.Nat.{_≤_};
+ghost use Rattle.rules.specs.Rules.{code as codeOf, mostCode, same as sameAs};
 
 // The state of one effect.
 pub enum EffectState {
@@ -36,9 +37,10 @@ pub fn code(p: EffectState) -> u8
     }
 }
 
-// The state of a code. Above 5 there is none, and Delayed stands in.
+// The state whose code this is.
 pub fn state_of(code: u8) -> EffectState
-    ensures { λ r. ⌜ r ≡ stateOf code ⌝ }
+    requires { ⌜ code ≤ mostCode ⌝ }
+    ensures { λ r. ⌜ codeOf r ≡ code ⌝ }
 {
     if code == 0 {
         EffectState::Tripped

@@ -1,13 +1,12 @@
 -- Laws of lines: their pieces, and those that are left in a loop.
 use mathlib.Core.Path.{_≡_, sym, ap, _∙_}
 use mathlib.Core.List.{List, [], _∷_, _++_, flatMap, append-assoc}
-use Prim.Native.Nat.{ℕ, suc, _+_, _-_, _*_, _<_}
-use native.Mathlib.Nat.{sub-zero}
-use native.Mathlib.Omega.{arith}
-use lib.ListN.{length, length-append}
+use Prim.Native.Nat.{ℕ, _+_, _<_, _≤_}
+use native.Mathlib.Numerals.{add-one}
+use lib.ListN.{length, drop, getD, length-append, drop-of-length-le}
+use lib.Seq.{drop-cons}
 use Rattle.bits.specs.Decimal.{ascii, decimal}
 use Rattle.effects.specs.declared.Event.{Event}
-use Rattle.effects.specs.Records.{recordLength, eventAt, eventsAt}
 use Rattle.text.specs.Text.{name, line, lines, lastLine, refusalLine}
 use Rattle.text.specs.Pieces.{when, change, total}
 
@@ -70,27 +69,19 @@ module _ (r s l x : ℕ) where
 pub length-refusal : (n p : ℕ) → length (refusalLine n p) ≡ length (total (ascii "refused") n 32) + length (total (ascii "at") p 10)
 length-refusal n p = ap length (refusal-pieces n p) ∙ length-append (total (ascii "refused") n 32) (total (ascii "at") p 10)
 
--- ## A loop over n records: the lines that are left from record i on
+-- ## A loop over records: the lines that are left from record i on
 
-abbrev pub left : List ℕ → (n i : ℕ) → List ℕ
-left s n i = lines (eventsAt s (n - i) (recordLength * i))
+abbrev pub left : List Event → (i : ℕ) → List ℕ
+left es i = lines (drop i es)
 
-pub left-all : (s : List ℕ) (n : ℕ) → left s n 0 ≡ lines (eventsAt s n 0)
-left-all s n = rw sub-zero
-
-module _ (s : List ℕ) (n i : ℕ) where
-  pub left-turn : i < n → left s n i ≡ line (eventAt s (recordLength * i)) ++ left s n (i + 1)
+module _ (es : List Event) (i : ℕ) (d : Event) (more : i < length es) where
+  pub left-turn : left es i ≡ line (getD es i d) ++ left es (i + 1)
   unfolding flatMap
-  left-turn h =
-      let m : n - i ≡ suc (n - (i + 1)) = omega arith in
-      let p : recordLength * (i + 1) ≡ recordLength * i + recordLength = omega arith in
-      rw (m, p)
+  left-turn = rw (add-one, drop-cons es i d)
 
-  pub left-length : i < n → length (left s n i) ≡ length (line (eventAt s (recordLength * i))) + length (left s n (i + 1))
-  left-length h = ap length (left-turn h) ∙ length-append (line (eventAt s (recordLength * i))) (left s n (i + 1))
+  pub left-length : length (left es i) ≡ length (line (getD es i d)) + length (left es (i + 1))
+  left-length = ap length left-turn ∙ length-append (line (getD es i d)) (left es (i + 1))
 
-  pub left-none : i ≡ n → left s n i ≡ []
-  unfolding flatMap
-  left-none h =
-      let m : n - i ≡ 0 = omega arith in
-      rw m
+pub left-none : (es : List Event) (i : ℕ) → length es ≤ i → left es i ≡ []
+unfolding flatMap
+left-none es i h = rw drop-of-length-le

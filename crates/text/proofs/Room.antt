@@ -1,6 +1,6 @@
 -- How long lines are at most.
-use mathlib.Core.List.{List, flatMap}
-use Prim.Native.Nat.{ℕ, zero, suc, _+_, _*_, _^_, _≤_, _<_}
+use mathlib.Core.List.{List, [], _∷_, flatMap}
+use Prim.Native.Nat.{ℕ, _+_, _*_, _^_, _≤_, _<_}
 use native.Mathlib.Omega.{arith}
 use lib.Dec.{lit≤}
 use lib.ListN.{length, length-append}
@@ -10,7 +10,8 @@ use Rattle.bits.proofs.Numbers.{num-lt}
 use Rattle.rules.specs.declared.EffectState.{EffectState}
 use Rattle.rules.specs.declared.EffectState.the-variants.{Tripped, WaitReset, Ready, WaitStart, Normal, Delayed}
 use Rattle.effects.specs.declared.Event.{Event}
-use Rattle.effects.specs.Records.{recordLength, eventAt, eventsAt}
+use Rattle.effects.specs.Records.{recordLength, StandsAt, StandFrom}
+use Rattle.effects.proofs.Records.{fields-of, stand-first, stand-rest}
 use Rattle.text.specs.Text.{name, line, lines, lastLine, refusalLine}
 use Rattle.text.specs.Room.{mostLine, mostPiece}
 
@@ -33,15 +34,16 @@ line-at-most e s c i f =
     simp length-append (omega (arith, name-at-most (e .from), name-at-most (e .to)))
 
 -- the records of any bytes
-record-at-most : (s : List ℕ) → Bytes s → (at : ℕ) → length (line (eventAt s at)) ≤ mostLine
-unfolding eventAt
-record-at-most s b at = line-at-most (eventAt s at) (num-lt 2 s at b) (num-lt 4 s (at + 2) b) (num-lt 1 s (at + 6) b) (num-lt 2 s (at + 10) b)
+record-at-most : (s : List ℕ) → Bytes s → (at : ℕ) (e : Event) → StandsAt s at e → length (line e) ≤ mostLine
+record-at-most s b at e h =
+    let f = fields-of s at e h in
+    line-at-most e (rw (f .seq) at (num-lt 2 s at b)) (rw (f .scan) at (num-lt 4 s (at + 2) b)) (rw (f .effect) at (num-lt 1 s (at + 6) b)) (rw (f .first-out) at (num-lt 2 s (at + 10) b))
 
-pub lines-at-most : (s : List ℕ) → Bytes s → (n at : ℕ) → length (lines (eventsAt s n at)) ≤ mostLine * n
+pub lines-at-most : (s : List ℕ) → Bytes s → (at : ℕ) (es : List Event) → StandFrom s at es → length (lines es) ≤ mostLine * length es
 unfolding flatMap
-lines-at-most s b zero at = omega arith
-lines-at-most s b (suc n) at =
-    omega (arith, length-append (line (eventAt s at)) (lines (eventsAt s n (at + recordLength))), record-at-most s b at, lines-at-most s b n (at + recordLength))
+lines-at-most s b at [] h = omega arith
+lines-at-most s b at (e ∷ es) h =
+    omega (arith, length-append (line e) (lines es), record-at-most s b at e (stand-first s at e es h), lines-at-most s b (at + recordLength) es (stand-rest s at e es h))
 
 -- the other lines
 pub last-at-most : (r s l x : ℕ) → r < 2 ^ 32 → s < 2 ^ 32 → l < 2 ^ 32 → x < 2 ^ 32 → length (lastLine r s l x) ≤ mostPiece

@@ -4,14 +4,14 @@
 // moving a contract; the text is specs/Text.
 ghost use mathlib.Core.Path.{_≡_};
 ghost use mathlib.Core.List.{[], _∷_, _++_};
-ghost use Prim.Native.Nat.{_+_, _*_, _≤_};
+ghost use Prim.Native.Nat.{_+_, _≤_};
 ghost use lib.ListN.{length};
 ghost use lib.Seq.{sets};
 ghost use Rattle.bits.specs.Decimal.{ascii, decimal};
-ghost use Rattle.effects.specs.Records.{recordLength, eventsAt, mostRecords};
-ghost use Rattle.text.specs.Pieces.{when, change, total};
+ghost use Rattle.effects.specs.Records.{mostRecords};
+ghost use Rattle.text.specs.Pieces.{when, change, total, Recorded, LinesPut};
 ghost use Rattle.text.specs.Room.{mostPiece};
-ghost use Rattle.text.specs.Text.{header, name, line, lines, lastLine, refusalLine};
+ghost use Rattle.text.specs.Text.{header, name, line, lastLine, refusalLine};
 use effects::Event;
 use rules::EffectState;
 
@@ -95,8 +95,8 @@ fn put_line(out: &mut [u8], at: usize, e: Event) -> usize
 
 // The lines of the n records at the front of `records`.
 pub fn put_lines(out: &mut [u8], at: usize, records: &[u8], n: usize) -> usize
-    requires { ⌜ (n ≤ mostRecords) × (recordLength * n ≤ length (now records)) × (at + mostPiece ≤ length (now out)) ⌝ }
-    ensures { λ r. ⌜ (r ≡ at + length (lines (eventsAt (now (records .entry)) n 0))) × (now (out .exit) ≡ sets (now (out .entry)) at (lines (eventsAt (now (records .entry)) n 0))) ⌝ }
+    requires { ⌜ (n ≤ mostRecords) × Recorded (now records) n × (at + mostPiece ≤ length (now out)) ⌝ }
+    ensures { λ r. ⌜ LinesPut (now (records .entry)) n at (now (out .entry)) r (now (out .exit)) ⌝ }
     ensures { λ r. ⌜ r ≤ length (now (out .entry)) ⌝ }
 {
     let mut next = at;

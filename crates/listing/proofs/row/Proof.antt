@@ -7,7 +7,7 @@ use borrow.Author.Needs.{needs}
 use Rattle.rerun.proofs.Turns.{few-records, fits-any}
 use Rattle.text.specs.Room.{mostPiece}
 use Rattle.effects.specs.Records.{mostRecords}
-use Rattle.listing.proofs.Placing.{fits, full-row, whole-row, lines-of-turn}
+use Rattle.listing.proofs.Placing.{fits, full-row, whole-row, recorded-by}
 use Rattle.listing.proofs.row.Statement.{statement}
 use Rattle.listing.proofs.row.Tie as tie
 
@@ -37,15 +37,16 @@ room k =
 put-lines-requires : tie.Need-put-lines-requires
 put-lines-requires c κs =
     let row = c .before .before .before in
-    (few row, omega (arith, few row), omega (arith, room row))
+    let g = recorded-by (row .row .ensures) (few row) (omega arith) in
+    (few row, (g .0, g .1, g .2), omega (arith, room row))
 
 returns-2 : tie.Need-returns-2
 returns-2 c =
     let put = c .before .before .put-lines .ensures in
     let k = c .before .before .before .before .before .before in
     let a = start-of k .args in
-    let text = lines-of-turn (k .row .ensures) (few k) (omega arith) in
-    whole-row (now (a .out)) (a .at) _ (k .before .before .before .before .has-room .ensures) (k .row .ensures) (k .before .before .before .if1 .left) (rw text at (put .0)) (put .1)
+    let g = recorded-by (k .row .ensures) (few k) (omega arith) in
+    whole-row (now (a .out)) (a .at) _ (k .before .before .before .before .has-room .ensures) (k .row .ensures) (k .before .before .before .if1 .left) (rw (g .3) at (put .0 (g .0) (g .1) (g .2))) (put .1)
 
 pub row-spec : {M : Type 1} → statement M
 row-spec =
