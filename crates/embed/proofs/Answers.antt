@@ -10,9 +10,9 @@ use Rattle.settings.proofs.Refusals.{granted-none, granted-refused}
 use Rattle.recording.specs.declared.Answer.the-variants as A
 use Rattle.recording.specs.Reader.{reading}
 use Rattle.rerun.specs.declared.Replayed.{Replayed}
-use Rattle.rerun.specs.Replay.{Outcome, replay, answered}
+use Rattle.rerun.specs.Replay.{Outcome, replay, counts, refusal}
 use Rattle.rerun.proofs.Files.{refusal-number, refused-replay}
-use Rattle.embed.specs.Crossing.{totalsBytes, numbers, fitted, crossing, refusal, replayNumber, recordsInto, totalsOrRefusal, totalsInto}
+use Rattle.embed.specs.Crossing.{totalsBytes, numbers, fitted, crossing, replayNumber, recordsInto, totalsOrRefusal, totalsInto}
 use Rattle.embed.proofs.Stores.{length-numbers, stays}
 use Rattle.embed.proofs.Theorems.{ten-is-last, ten-for-the-totals}
 
@@ -30,7 +30,7 @@ module _ (s records totals : List ℕ) where
   refused r m p totals′ same e h at f =
       let other : n ≡ 0 → ⊥ = λ z. h (e ∙ z) in
       let gives : refusal p m ≡ totalsOrRefusal s (length records) (length totals) =
-      (λ j. refusal (at j) (e j)) ∙ sym (granted-refused (answered (replay s)) (refusal (replay s .place)) n other)
+      (λ j. refusal (at j) (e j)) ∙ sym (granted-refused (counts (replay s .replay)) (refusal (replay s .place)) n other)
       in (
         same ∙ e,
         (sym (granted-refused (sets records 0 (bytes (replay s .replay .events))) (λ k. records) n other), f ∙ ap (λ (r : Replayed). fitted (numbers (crossing r)) totals) gives),
@@ -51,9 +51,9 @@ module _ (s records totals : List ℕ) where
       (stays (numbers (crossing (refusal (replay s .place) 10))) totals (omega (arith, h, length-numbers (crossing (refusal (replay s .place) 10)))))
 
   -- no refusal: all records, and the totals
-  pub crosses : (r : Replayed) (records′ totals′ : List ℕ) → n ≡ 0 → r ≡ answered (replay s) → records′ ≡ sets records 0 (bytes (replay s .replay .events)) → totals′ ≡ fitted (numbers (crossing r)) totals → Answered 0 records′ totals′
+  pub crosses : (r : Replayed) (records′ totals′ : List ℕ) → n ≡ 0 → r ≡ counts (replay s .replay) → records′ ≡ sets records 0 (bytes (replay s .replay .events)) → totals′ ≡ fitted (numbers (crossing r)) totals → Answered 0 records′ totals′
   crosses r records′ totals′ z e f g =
-      let gives : r ≡ totalsOrRefusal s (length records) (length totals) = e ∙ sym (granted-none (answered (replay s)) (refusal (replay s .place)) n z) in (
+      let gives : r ≡ totalsOrRefusal s (length records) (length totals) = e ∙ sym (granted-none (counts (replay s .replay)) (refusal (replay s .place)) n z) in (
         sym z,
         (f ∙ sym (granted-none (sets records 0 (bytes (replay s .replay .events))) (λ k. records) n z), g ∙ ap (λ (r : Replayed). fitted (numbers (crossing r)) totals) gives),
       )

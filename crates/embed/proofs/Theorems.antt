@@ -15,10 +15,10 @@ use Rattle.settings.proofs.Refusals.{granted-refused, granted-either, granted-n
 use Rattle.recording.specs.Answers.{number, rowCount}
 use Rattle.recording.specs.Reader.{reading}
 use Rattle.recording.specs.Accepted.{Accepted}
-use Rattle.rerun.specs.Replay.{Outcome, replay, answered}
+use Rattle.rerun.specs.Replay.{Outcome, replay, counts, refusal}
 use Rattle.rerun.proofs.Files.{most-effects, whole-so-far}
 use Rattle.rerun.proofs.Theorems.{a-refused-file-is-not-run, a-replay-is-all-its-rows, two-records-an-effect-and-row}
-use Rattle.embed.specs.Crossing.{checkBytes, totalsBytes, mostEffectBytes, refusal, checkNumber, replayNumber, recordsInto, totalsOrRefusal}
+use Rattle.embed.specs.Crossing.{checkBytes, totalsBytes, mostEffectBytes, checkNumber, replayNumber, recordsInto, totalsOrRefusal}
 
 -- ## A check
 
@@ -42,6 +42,12 @@ whole-is-accepted s z = go (number (reading s .answer)) refl
     go : (n : ℕ) → number (reading s .answer) ≡ n → Accepted s
     go zero e = e
     go (suc n) e = sym (ap (λ (o : Outcome). o .number) (a-refused-file-is-not-run s (λ a. omega (arith, a, e)))) ∙ z
+
+-- the place is 0 unless the reader or 9 refuses, so for 10 too
+pub no-place-for-ten : (s : List ℕ) → replay s .number ≡ 0 → replay s .place ≡ 0
+no-place-for-ten s z =
+    let all = a-replay-is-all-its-rows s (whole-is-accepted s z) in
+    ap (λ (o : Outcome). o .place) (all ∙ whole-so-far s (rowCount (reading s .answer)) (ap (λ (o : Outcome). o .number) (sym all) ∙ z))
 
 -- two records an effect and row are the most that can be due
 pub most-due : (s : List ℕ) → Accepted s → recordLength * length (replay s .replay .events) ≤ mostEffectBytes * reading s .settings .count * rowCount (reading s .answer)
@@ -98,21 +104,15 @@ module _ (s : List ℕ) (room totalsRoom : ℕ) where
   -- the number that crosses is the result, and the place is the replay's
   pub the-number-crosses : totalsOrRefusal s room totalsRoom .number ≡ replayNumber s room totalsRoom
   the-number-crosses =
-      granted-number (answered (replay s)) (refusal (replay s .place)) (λ r. r .number) (replayNumber s room totalsRoom)
-      (λ z. or-else-none (replay s .number) _ z .0)
+      granted-number (counts (replay s .replay)) (refusal (replay s .place)) (λ r. r .number) (replayNumber s room totalsRoom)
+      (λ z. refl)
       (λ k. refl)
 
   pub the-place-crosses : totalsOrRefusal s room totalsRoom .place ≡ replay s .place
   the-place-crosses =
-      granted-either (answered (replay s)) (refusal (replay s .place)) (λ r. r .place ≡ replay s .place) (replayNumber s room totalsRoom)
-      (λ z. refl)
+      granted-either (counts (replay s .replay)) (refusal (replay s .place)) (λ r. r .place ≡ replay s .place) (replayNumber s room totalsRoom)
+      (λ z. sym (no-place-for-ten s (or-else-none (replay s .number) _ z .0)))
       (λ k. refl)
-
--- it is 0 unless the reader or 9 refuses, so for 10 too
-pub no-place-for-ten : (s : List ℕ) → replay s .number ≡ 0 → replay s .place ≡ 0
-no-place-for-ten s z =
-    let all = a-replay-is-all-its-rows s (whole-is-accepted s z) in
-    ap (λ (o : Outcome). o .place) (all ∙ whole-so-far s (rowCount (reading s .answer)) (ap (λ (o : Outcome). o .number) (sym all) ∙ z))
 
 -- on any number but 0 the records stay as they were
 pub refused-untouched : (s records : List ℕ) (totalsRoom : ℕ) → (replayNumber s (length records) totalsRoom ≡ 0 → ⊥) → recordsInto s totalsRoom records ≡ records

@@ -13,7 +13,7 @@ use Rattle.recording.specs.declared.Answer.{Answer}
 use Rattle.recording.specs.Answers.{number, place, rowCount}
 use Rattle.recording.specs.Reader.{reading}
 use Rattle.rerun.specs.declared.Replayed.{Replayed}
-use Rattle.rerun.specs.Replay.{replay, answered}
+use Rattle.rerun.specs.Replay.{replay, counts, refusal}
 
 -- every number that crosses is 8 bytes, big-endian
 abbrev pub numberBytes : ℕ
@@ -51,10 +51,6 @@ checkInto s out = fitted (numbers (checked (reading s .answer))) out
 abbrev pub crossing : Replayed → List ℕ
 crossing r = r .records ∷ r .rows ∷ r .scans ∷ r .live ∷ r .exercised ∷ r .number ∷ r .place ∷ []
 
--- a refusal: zeros, its number and place
-abbrev pub refusal : (place number : ℕ) → Replayed
-refusal place number = record { number = number; place = place; records = 0; rows = 0; scans = 0; live = 0; exercised = 0 }
-
 -- the most bytes of records that an effect has in a row: two records
 abbrev pub mostEffectBytes : ℕ
 mostEffectBytes = recordLength * 2
@@ -69,9 +65,9 @@ abbrev pub recordsInto : List ℕ → (totalsRoom : ℕ) → List ℕ → List �
 recordsInto s totalsRoom out =
     granted (replayNumber s (length out) totalsRoom) (sets out 0 (bytes (replay s .replay .events))) (λ n. out)
 
--- on 0 the totals, whose number and place are 0 then; else the refusal. Its place is the replay's: 0 for 10
+-- on 0 what all rows have given; else the refusal. Its place is the replay's: 0 for 10
 abbrev pub totalsOrRefusal : List ℕ → (room totalsRoom : ℕ) → Replayed
-totalsOrRefusal s room totalsRoom = granted (replayNumber s room totalsRoom) (answered (replay s)) (refusal (replay s .place))
+totalsOrRefusal s room totalsRoom = granted (replayNumber s room totalsRoom) (counts (replay s .replay)) (refusal (replay s .place))
 
 abbrev pub totalsInto : List ℕ → (room : ℕ) → List ℕ → List ℕ
 totalsInto s room out = fitted (numbers (crossing (totalsOrRefusal s room (length out)))) out

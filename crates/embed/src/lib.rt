@@ -9,9 +9,9 @@ ghost use lib.ListN.{length};
 ghost use lib.Seq.{sets};
 ghost use Rattle.effects.specs.Records.{recordLength};
 ghost use Rattle.settings.specs.Refusals.{orElse, roomNumber};
-ghost use Rattle.rerun.specs.Replay.{replay};
+ghost use Rattle.rerun.specs.Replay.{replay, refusal};
 ghost use Rattle.rerun.specs.Turn.{Going, stopOf};
-ghost use Rattle.embed.specs.Crossing.{numberBytes, checkBytes, numbers, fitted, checkNumber, checkInto, crossing, refusal, replayNumber, recordsInto, totalsInto};
+ghost use Rattle.embed.specs.Crossing.{numberBytes, checkBytes, numbers, fitted, checkNumber, checkInto, crossing, replayNumber, recordsInto, totalsInto};
 use recording::Answer;
 use rerun::Replayed;
 use rerun::Run;
@@ -128,18 +128,7 @@ fn refuse(totals: &mut [u8], number: u8, place: usize) -> u8
     ensures { λ r. ⌜ r ≡ number ⌝ }
     ensures { λ _. ⌜ now (totals .exit) ≡ fitted (numbers (crossing (refusal place number))) (now (totals .entry)) ⌝ }
 {
-    put_totals(
-        totals,
-        Replayed {
-            number: number,
-            place: place,
-            records: 0,
-            rows: 0,
-            scans: 0,
-            live: 0,
-            exercised: 0,
-        },
-    );
+    put_totals(totals, rerun::refused(number, place));
     number
 }
 

@@ -1,5 +1,5 @@
 -- What a caller's loop over the rows has after each of them: it goes on, ends after the last row, or stops at a refusal.
-use mathlib.Core.Path.{_≡_, refl, sym, _∙_}
+use mathlib.Core.Path.{_≡_, refl, sym, ap, _∙_}
 use mathlib.Core.Bool.{true, false}
 use mathlib.Core.List.{List, []}
 use Prim.Native.Nat.{ℕ, _+_, _≤_, _<_}
@@ -10,7 +10,7 @@ use Rattle.settings.proofs.Refusals.{granted-refused}
 use Rattle.recording.specs.Answers.{rowCount}
 use Rattle.recording.specs.Reader.{reading}
 use Rattle.rerun.specs.declared.Run.{Run}
-use Rattle.rerun.specs.Replay.{firstRows, rowRun}
+use Rattle.rerun.specs.Replay.{Outcome, firstRows, rowRun}
 use Rattle.rerun.specs.Turn.{Going, rowInto, RowDone}
 use Rattle.rerun.proofs.Turns as turns
 use Rattle.listing.specs.declared.Printed.{Printed}
@@ -22,7 +22,13 @@ use Rattle.text.proofs.Puts.{Put}
 module _ {s : List ℕ} {run : Run} {array : List ℕ} (g : Going s run array) where
   -- no row is left
   pub ends : run .rows ≡ rowCount (reading s .answer) → Last s (record { number = 0; records = 0; run = run })
-  ends = turns.ends-answered g 0
+  ends e =
+      let o = turns.ends g e in
+      record {
+        number-is = sym (ap (λ (x : Outcome). x .number) o);
+        rows-are = sym (ap (λ (x : Outcome). x .replay .rows) o ∙ turns.rows-so-far g);
+        answer-is = turns.ends-answered g 0 e;
+      }
 
   module _ {at : ℕ} {out : List ℕ} {r : Printed} {array′ out′ : List ℕ} (p : PrintedRow s run at out r array′ out′) where
     -- ## The buffer was full: all is as it was
@@ -79,4 +85,10 @@ module _ {s : List ℕ} {run : Run} {array : List ℕ} (g : Going s run array) w
 
           -- it is the last
           pub stops : Last s (r .turn)
-          stops = turns.stops-answered g more done refused
+          stops =
+              let o = turns.stops g more done refused in
+              record {
+                number-is = turns.stops-number g more done refused ∙ sym (ap (λ (x : Outcome). x .number) o);
+                rows-are = unchanged ∙ sym (ap (λ (x : Outcome). x .replay .rows) o ∙ turns.rows-so-far g);
+                answer-is = turns.stops-answered g more done refused;
+              }

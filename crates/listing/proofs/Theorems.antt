@@ -57,5 +57,5 @@ module _ (s : List ℕ) (accepted : Accepted s) where
   pub pieces-are-the-listing : (t : Turn) → Last s t → opening (reading s .answer) ++ rowsLines s (t .run .rows) ++ closing (answerOf t) ≡ listing s
   unfolding listing
   pieces-are-the-listing t last =
-      let r : rowsLines s (t .run .rows) ≡ lines (replay s .replay .events) = ap (λ (a : Replayed). rowsLines s (a .rows)) last ∙ rows-joined in
-      rw (last, r, accepted)
+      let r : rowsLines s (t .run .rows) ≡ lines (replay s .replay .events) = ap (rowsLines s) (last .rows-are) ∙ rows-joined in
+      rw (last .answer-is, r, accepted)

@@ -63,6 +63,8 @@ pub record PrintedRow (s : List ℕ) (run : Run) (at : ℕ) (out : List ℕ) (r 
 
 -- ## All pieces
 
--- what a caller's loop over the rows ends with: the answer is that of the whole replay
-abbrev pub Last : List ℕ → Turn → Type 0
-Last s t = answerOf t ≡ answered (replay s)
+-- what a caller's loop over the rows ends with: number, rows and answer are those of the whole replay
+pub record Last (s : List ℕ) (t : Turn) : Type 0 where
+  pub number-is : t .number ≡ replay s .number
+  pub rows-are : t .run .rows ≡ replay s .replay .rows
+  pub answer-is : answerOf t ≡ answered (replay s)

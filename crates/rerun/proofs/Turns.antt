@@ -2,7 +2,7 @@
 use mathlib.Core.Path.{_≡_, refl, sym, ap, _∙_}
 use mathlib.Core.Bool.{Bool, true}
 use mathlib.Core.List.{List, _++_}
-use Prim.Native.Nat.{ℕ, _+_, _-_, _*_, _/_, _≤_, _<_}
+use Prim.Native.Nat.{ℕ, zero, suc, _+_, _-_, _*_, _/_, _≤_, _<_}
 use native.Mathlib.Nat.{mul-suc, mul-zero, mul-le-mul}
 use native.Mathlib.Numerals.{add-one}
 use native.Mathlib.Omega.{arith}
@@ -36,9 +36,9 @@ use Rattle.recording.specs.Steps.{rowPlace}
 use Rattle.exactness.proofs.Theorems.{first-row-after-the-opening, row-in-the-file}
 use Rattle.rerun.specs.declared.Run.{Run}
 use Rattle.rerun.specs.declared.Turn.{Turn}
-use Rattle.rerun.specs.Replay.{Replay, Outcome, whole, joined, refusedAt, started, replay, answered, firstRows, rowOf, rowRun}
+use Rattle.rerun.specs.Replay.{Replay, Outcome, whole, joined, refusedAt, started, replay, counts, refusal, answered, firstRows, rowOf, rowRun}
 use Rattle.rerun.specs.Turn.{Begun, Totals, totalsAt, totalsOf, totalsIn, Going, Begins, Fits, RowDone, runAfter, SmallSums, rowsInto, roomOf, RowsReady, RowsDone, answerOf}
-use Rattle.rerun.proofs.Files.{no-rows, all-the-rows, whole-so-far, counted, numberAt, next-number, next-runs, stops-there, told, settings-right, most-effects, row-right, few-rows, sound, sound-next, scans-next, records-next}
+use Rattle.rerun.proofs.Files.{refusal-number, refused-replay, no-rows, all-the-rows, whole-so-far, counted, numberAt, next-number, next-runs, stops-there, told, settings-right, most-effects, row-right, few-rows, sound, sound-next, scans-next, records-next}
 use Rattle.rerun.proofs.Filling.{all-kept}
 
 -- ## The beginning: what the reader answers
@@ -82,19 +82,25 @@ module _ {s : List ℕ} {run : Run} {array : List ℕ} (g : Going s run array) w
   pub place-is : run .place ≡ rowPlace s (run .rows)
   place-is = ap (λ (u : Totals). u .place) (g .totals) ∙ ap (λ (n : ℕ). rowPlace s n) rows-so-far
 
-  -- the answer with a number, and the place that belongs to it
-  answered-by : (n k place : ℕ) → granted n 0 (λ m. run .place) ≡ place
-      → answerOf (record { number = n; records = k; run = run }) ≡ answered (refusedAt place (soFar s run) n)
-  answered-by n k place e =
-      λ j. record {
-        number = n;
-        place = e j;
+  -- the answer with a number, at the run's place
+  answered-by : (n k : ℕ) → answerOf (record { number = n; records = k; run = run }) ≡ answered (refusedAt (run .place) (soFar s run) n)
+  answered-by n k =
+      λ j. granted n
+      (record {
+        number = 0;
+        place = 0;
         records = g .totals j .records;
         rows = g .totals j .rows;
         scans = g .totals j .board .«scans_done»;
         live = g .totals j .live;
         exercised = g .totals j .exercised;
-      }
+      })
+      (refusal (run .place))
+
+-- an answer without a refusal has no place
+placed : (n place : ℕ) (r : Replay) → answered (refusedAt place r n) ≡ answered (refusedAt (granted n 0 (λ m. place)) r n)
+placed zero place r = refl
+placed (suc n) place r = refl
 
 module _ {s : List ℕ} {run : Run} {array : List ℕ} (g : Going s run array) where
   abbrev answer : Answer
@@ -113,7 +119,7 @@ module _ {s : List ℕ} {run : Run} {array : List ℕ} (g : Going s run array) w
 
   -- and the run is the answer
   pub ends-answered : (k : ℕ) → run .rows ≡ rowCount answer → answerOf (record { number = 0; records = k; run = run }) ≡ answered (replay s)
-  ends-answered k e = answered-by g 0 k 0 refl ∙ ap answered (sym (ends e))
+  ends-answered k e = answered-by g 0 k ∙ ap answered (sym (ends e))
 
   -- ## One row more
 
@@ -160,11 +166,13 @@ module _ {s : List ℕ} {run : Run} {array : List ℕ} (g : Going s run array) w
             let place : rowPlace s (run .rows) ≡ r .run .place = ap (rowPlace s) (sym unchanged) ∙ sym (place-is (d .going)) in
             stops-there s (run .rows) more (g .none-refused) (g .accepted) refuses ∙ (λ j. refusedAt (place j) so-far (nine j))
 
+        pub stops-number : r .number ≡ 9
+        stops-number = d .number-is ∙ number-next ∙ nine
+
         pub stops-answered : answerOf r ≡ answered (replay s)
         stops-answered =
-            let place = granted-refused 0 (λ m. r .run .place) (r .number) h in
-            answered-by (d .going) (r .number) (r .records) (r .run .place) place
-            ∙ (λ j. answered (refusedAt (r .run .place) (firstRows s (unchanged j) .replay) ((d .number-is ∙ number-next ∙ nine) j)))
+            answered-by (d .going) (r .number) (r .records)
+            ∙ (λ j. answered (refusedAt (r .run .place) (firstRows s (unchanged j) .replay) (stops-number j)))
             ∙ ap answered (sym stops)
 
     -- ## What the code reads and computes of it
@@ -331,13 +339,23 @@ module _ {s : List ℕ} {run : Run} {until : ℕ} {keep : Bool} {buf : List ℕ}
       let place : granted (r .number) 0 (λ m. r .run .place) ≡ granted (o .number) 0 (λ n. rowPlace s (o .replay .rows)) =
       λ j. granted (d .number-is j) 0 (λ n. (place-is (d .going) ∙ ap (rowPlace s) (d .rows-are)) j)
       in
-      answered-by (d .going) (r .number) (r .records) _ place
+      answered-by (d .going) (r .number) (r .records)
+      ∙ placed (r .number) (r .run .place) (soFar s (r .run))
+      ∙ ap (λ (p : ℕ). answered (refusedAt p (soFar s (r .run)) (r .number))) place
       ∙ (λ j. answered (record { number = d .number-is j; place = granted (o .number) 0 (λ n. rowPlace s (o .replay .rows)); replay = firstRows s (d .rows-are j) .replay }))
       ∙ ap answered (sym (told s until l))
 
   module _ (all : until ≡ rowCount (reading s .answer)) where
     all-rows : firstRows s until ≡ replay s
     all-rows = ap (firstRows s) all ∙ sym (all-the-rows s (d .going .accepted))
+
+    -- its records are those of the whole file
+    pub counted-all : r .run .records ≡ length (replay s .replay .events)
+    counted-all =
+        records-so-far (d .going)
+        ∙ ap (λ (n : ℕ). length (firstRows s n .replay .events)) (d .rows-are)
+        ∙ sym (ap (λ (o : Outcome). length (o .replay .events)) (told s until (omega (arith, all))))
+        ∙ ap (λ (o : Outcome). length (o .replay .events)) all-rows
 
     -- the answer is that of the whole file
     pub answered-all : answerOf r ≡ answered (replay s)
@@ -351,3 +369,9 @@ module _ {s : List ℕ} {run : Run} {until : ℕ} {keep : Bool} {buf : List ℕ}
         ∙ (λ j. rowsInto s (kept j) (none j) (n j) buf)
         ∙ all-kept s buf until (omega (arith, all))
         ∙ ap (λ (o : Outcome). sets buf 0 (bytes (o .replay .events))) all-rows
+
+-- ## A file that the reader refuses
+
+pub refused-answer : (s : List ℕ) (n p : ℕ) → reading s .answer ≡ A.Refused n p → refusal p n ≡ answered (replay s)
+refused-answer s n p e =
+    sym (granted-refused (counts started) (refusal p) n (refusal-number s n p e)) ∙ ap answered (sym (refused-replay s n p e))

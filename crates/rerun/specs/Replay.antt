@@ -70,19 +70,27 @@ replayRows s rows = rowsFrom (reading s .settings) (rowWidth (reading s .answer)
 unfoldable pub replay : List ℕ → Outcome
 replay s = granted (number (reading s .answer)) (replayRows s (rowsOf s)) (refusedAt (place (reading s .answer)) started)
 
--- the answer to a whole file: what its replay comes to, without the events. On 9 the rows before it stand beside the number: ours,
--- docs/DECISIONS.md
-abbrev pub answered : Outcome → Replayed
-answered o =
+-- ## The answer to a whole file
+
+-- what all rows have given, in numbers
+abbrev pub counts : Replay → Replayed
+counts r =
     record {
-      number = o .number;
-      place = o .place;
-      records = length (o .replay .events);
-      rows = o .replay .rows;
-      scans = o .replay .state .«scans_done»;
-      live = o .replay .live;
-      exercised = o .replay .exercised;
+      number = 0;
+      place = 0;
+      records = length (r .events);
+      rows = r .rows;
+      scans = r .state .«scans_done»;
+      live = r .live;
+      exercised = r .exercised;
     }
+
+-- a refusal returns its number, a place, and zeros; what the rows before 9 have given is in the listing alone
+abbrev pub refusal : (place number : ℕ) → Replayed
+refusal place number = record { number = number; place = place; records = 0; rows = 0; scans = 0; live = 0; exercised = 0 }
+
+abbrev pub answered : Outcome → Replayed
+answered o = granted (o .number) (counts (o .replay)) (refusal (o .place))
 
 -- ## Row by row
 

@@ -23,7 +23,7 @@ use Rattle.rerun.specs.declared.Run.{Run}
 use Rattle.rerun.specs.declared.Turn.{Turn}
 use Rattle.rerun.specs.declared.Replayed.{Replayed}
 use Rattle.rerun.specs.declared.Stop.{Stop}
-use Rattle.rerun.specs.Replay.{Replay, Outcome, started, firstRows, rowRun}
+use Rattle.rerun.specs.Replay.{Replay, Outcome, started, refusal, firstRows, rowRun}
 
 -- ## What is carried
 
@@ -171,18 +171,22 @@ pub record RowsDone (s : List ℕ) (run : Run) (until : ℕ) (keep : Bool) (buf 
 
 -- ## The answer
 
+-- of rows that all ran
+abbrev pub countsIn : Run → Replayed
+countsIn run =
+    record {
+      number = 0;
+      place = 0;
+      records = run .records;
+      rows = run .rows;
+      scans = run .mark .«scans_done»;
+      live = run .live;
+      exercised = run .exercised;
+    }
+
 -- of a replay that ended so
 abbrev pub answerOf : Turn → Replayed
-answerOf t =
-    record {
-      number = t .number;
-      place = granted (t .number) 0 (λ n. t .run .place);
-      records = t .run .records;
-      rows = t .run .rows;
-      scans = t .run .mark .«scans_done»;
-      live = t .run .live;
-      exercised = t .run .exercised;
-    }
+answerOf t = granted (t .number) (countsIn (t .run)) (refusal (t .run .place))
 
 -- where a replay stops: its number and place alone
 abbrev pub stopOf : Outcome → Stop

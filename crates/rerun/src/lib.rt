@@ -9,9 +9,8 @@ ghost use lib.ListN.{length, replicate};
 ghost use Rattle.cells.specs.Array.{arrayLength};
 ghost use Rattle.recording.specs.declared.Answer.the-variants.{Accepted};
 ghost use Rattle.recording.specs.Reader.{reading};
-ghost use Rattle.settings.specs.Refusals.{granted};
-ghost use Rattle.rerun.specs.Replay.{started, refusedAt, replay as wholeReplay, answered};
-ghost use Rattle.rerun.specs.Turn.{Begins, RowReady, RowDone, RowsReady, RowsDone, SmallSums, placeOf, runAfter, answerOf, stopOf};
+ghost use Rattle.rerun.specs.Replay.{refusal, replay as wholeReplay, answered};
+ghost use Rattle.rerun.specs.Turn.{Begins, RowReady, RowDone, RowsReady, RowsDone, SmallSums, placeOf, runAfter, countsIn, answerOf, stopOf};
 use block::State;
 use cells::Plan;
 use engine::Mark;
@@ -42,7 +41,7 @@ pub struct Turn {
     pub run: Run,
 }
 
-// What a whole file comes to: 0 and 0, or the refusal's number and place; and what the rows before it have given.
+// What a whole file comes to: 0, 0 and what its rows have given; or the refusal's number and place, and zeros.
 pub struct Replayed {
     pub number: u8,
     pub place: usize,
@@ -193,33 +192,9 @@ pub fn stop_of(s: &[u8], rows: u16, first: usize, width: usize) -> Stop
 
 // ---- a whole file
 
-// The place of a refusal: that of the row after the run, or 0 where nothing was refused.
-fn place_at(number: u8, place: usize) -> usize
-    ensures { λ r. ⌜ r ≡ granted number 0 (λ n. place) ⌝ }
-{
-    if number == 0 { 0 } else { place }
-}
-
-// The answer of a replay that ended so.
-pub fn answer_of(turn: Turn) -> Replayed
-    ensures { λ r. ⌜ r ≡ answerOf turn ⌝ }
-{
-    let run = turn.run;
-    let mark = run.mark;
-    Replayed {
-        number: turn.number,
-        place: place_at(turn.number, run.place),
-        records: run.records,
-        rows: run.rows,
-        scans: mark.scans_done,
-        live: run.live,
-        exercised: run.exercised,
-    }
-}
-
-// A file that the reader refused: nothing has run.
-fn not_run(number: u8, place: usize) -> Replayed
-    ensures { λ r. ⌜ r ≡ answered (refusedAt place started number) ⌝ }
+// A refusal: its number, its place and zeros.
+pub fn refused(number: u8, place: usize) -> Replayed
+    ensures { λ r. ⌜ r ≡ refusal place number ⌝ }
 {
     Replayed {
         number: number,
@@ -230,6 +205,33 @@ fn not_run(number: u8, place: usize) -> Replayed
         live: 0,
         exercised: 0,
     }
+}
+
+// What the rows of a run have given.
+fn counts_of(run: Run) -> Replayed
+    ensures { λ r. ⌜ r ≡ countsIn run ⌝ }
+{
+    let mark = run.mark;
+    Replayed {
+        number: 0,
+        place: 0,
+        records: run.records,
+        rows: run.rows,
+        scans: mark.scans_done,
+        live: run.live,
+        exercised: run.exercised,
+    }
+}
+
+// The answer of a replay that ended so: what its rows have given, or the refusal at the row after them.
+pub fn answer_of(turn: Turn) -> Replayed
+    ensures { λ r. ⌜ r ≡ answerOf turn ⌝ }
+{
+    let run = turn.run;
+    if turn.number == 0 {
+        return counts_of(run);
+    }
+    refused(turn.number, run.place)
 }
 
 // A file that the reader accepted.
@@ -244,7 +246,7 @@ fn replay_accepted(s: &[u8], st: Settings, rows: u16, first: usize, width: usize
     answer_of(end)
 }
 
-// Replays a whole recording: where it stopped, and what it gave. Its records go nowhere.
+// Replays a whole recording: what it gave, or its refusal. Its records go nowhere.
 pub fn replay(s: &[u8]) -> Replayed
     ensures { λ r. ⌜ r ≡ answered (wholeReplay (now (s .entry))) ⌝ }
 {
@@ -253,6 +255,6 @@ pub fn replay(s: &[u8]) -> Replayed
     let st = reading.settings;
     match answer {
         Answer::Accepted { rows, first, width } => replay_accepted(s, st, rows, first, width),
-        Answer::Refused { number, place } => not_run(number, place),
+        Answer::Refused { number, place } => refused(number, place),
     }
 }

@@ -9,14 +9,14 @@ use Rattle.effects.specs.Records.{recordLength, encode, bytes}
 use Rattle.recording.specs.declared.Answer.{Answer}
 use Rattle.recording.specs.declared.Answer.the-variants as A
 use Rattle.recording.specs.Answers.{number}
-use Rattle.rerun.specs.Replay.{replay, answered}
+use Rattle.rerun.specs.Replay.{replay, counts}
 use Rattle.worked.specs.Recorded.{session, sessionEvents}
 use Rattle.worked.proofs.Recorded.{the-session-is-read, the-session}
 use Rattle.embed.specs.Crossing.{checkBytes, totalsBytes, numbers, fitted, checked, checkNumber, checkInto, crossing, replayNumber, recordsInto, totalsInto}
 use Rattle.worked.specs.Crossed.{sessionRecords, sessionTotals, sessionAnswer}
 use Rattle.embed.proofs.Stores.{fits}
 use Rattle.embed.proofs.Answers.{crosses}
-use Rattle.embed.proofs.Theorems.{check-with-room, nothing-refused, no-place-for-ten}
+use Rattle.embed.proofs.Theorems.{check-with-room, nothing-refused}
 
 records-spelled : bytes sessionEvents ≡ sessionRecords
 unfolding encode flatMap
@@ -40,11 +40,10 @@ module _ (records totals : List ℕ) (room : recordLength * 5 ≤ length records
   records-are : bytes (replay session .replay .events) ≡ sessionRecords
   records-are = ap bytes (the-session .1) ∙ records-spelled
 
-  totals-are : numbers (crossing (answered (replay session))) ≡ sessionTotals
+  totals-are : numbers (crossing (counts (replay session .replay))) ≡ sessionTotals
   totals-are =
       let o = the-session in
-      let place = no-place-for-ten session (o .0) in
-      (λ j. numbers (length (o .1 j) ∷ o .2 j ∷ o .3 j ∷ o .4 j ∷ o .5 j ∷ o .0 j ∷ place j ∷ [])) ∙ totals-spelled
+      (λ j. numbers (length (o .1 j) ∷ o .2 j ∷ o .3 j ∷ o .4 j ∷ o .5 j ∷ 0 ∷ 0 ∷ [])) ∙ totals-spelled
 
   pub the-session-crosses : (replayNumber session (length records) (length totals) ≡ 0)
       × (recordsInto session (length totals) records ≡ sets records 0 sessionRecords)
@@ -53,7 +52,7 @@ module _ (records totals : List ℕ) (room : recordLength * 5 ≤ length records
       let few : recordLength * length (replay session .replay .events) ≤ length records = omega (arith, room, ap length (the-session .1)) in
       let none = nothing-refused session (length records) (length totals) (the-session .0) few totals-room in
       let all =
-      crosses session records totals (answered (replay session)) (sets records 0 sessionRecords) (fitted (numbers (crossing (answered (replay session)))) totals) none refl
+      crosses session records totals (counts (replay session .replay)) (sets records 0 sessionRecords) (fitted (numbers (crossing (counts (replay session .replay)))) totals) none refl
       (ap (sets records 0) (sym records-are)) refl
       in (
         none,

@@ -15,7 +15,7 @@ use Rattle.recording.specs.Reader.{reading}
 use Rattle.rerun.specs.declared.Replayed.{Replayed}
 use Rattle.rerun.specs.Replay.{replay}
 use Rattle.rerun.proofs.Files.{most-effects, few-rows}
-use Rattle.rerun.proofs.Turns.{answered-all}
+use Rattle.rerun.proofs.Turns.{counted-all}
 use Rattle.embed.specs.Crossing.{mostEffectBytes}
 use Rattle.embed.proofs.Theorems.{most-due}
 use Rattle.embed.proofs.records_number.Statement.{statement}
@@ -59,7 +59,7 @@ start-of k = let tested = k .before .before .before .before in tested .before .b
 
 -- the records that were counted are those that are due
 counted : (k : tie.After-go) → k .go .result .run .records ≡ length (replay (now (start-of k .args .s)) .replay .events)
-counted k = ap (λ (r : Replayed). r .records) (answered-all (k .go .ensures) (start-of k .pre .0 .many))
+counted k = counted-all (k .go .ensures) (start-of k .pre .0 .many)
 
 returns-2 : tie.Need-returns-2
 returns-2 c =

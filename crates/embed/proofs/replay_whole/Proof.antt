@@ -8,8 +8,8 @@ use lib.ListN.{length}
 use borrow.Author.Needs.{needs}
 use Rattle.effects.specs.Records.{recordLength}
 use Rattle.settings.specs.Refusals.{roomNumber}
-use Rattle.settings.proofs.Refusals.{unless-refused, limit-kept, limit-passed}
-use Rattle.rerun.specs.Replay.{Outcome, replay, firstRows}
+use Rattle.settings.proofs.Refusals.{granted-none, unless-refused, limit-kept, limit-passed}
+use Rattle.rerun.specs.Replay.{Outcome, replay, counts, refusal, firstRows}
 use Rattle.rerun.proofs.Files.{all-the-rows}
 use Rattle.rerun.proofs.Turns.{answered-all, kept-all}
 use Rattle.embed.proofs.Theorems.{ten-for-the-records, nothing-refused, no-place-for-ten}
@@ -74,7 +74,7 @@ returns-3 c =
     let p = start-of k .pre in
     let s = now (a .s) in
     let none = nothing-refused s (length (now (a .records))) (length (now (a .totals))) (p .2) (fit k (tested .if2 .left)) (k .before .before .if1 .left) in
-    let answer = c .before .before .before .answer-of .ensures ∙ answered-all (gone .go .ensures) (p .0 .many) in
+    let answer = c .before .before .before .answer-of .ensures ∙ answered-all (gone .go .ensures) (p .0 .many) ∙ granted-none (counts (replay s .replay)) (refusal (replay s .place)) (replay s .number) (p .2) in
     crosses s (now (a .records)) (now (a .totals)) _ _ _ none answer (kept-all (gone .go .ensures) (p .0 .many) refl (p .1)) (c .before .before .put-totals .ensures)
 
 pub replay-whole-spec : {M : Type 1} → statement M

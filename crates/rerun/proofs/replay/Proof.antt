@@ -3,8 +3,7 @@ use mathlib.Core.Path.{sym, ap, _∙_}
 use borrow.Author.Needs.{needs}
 use denote.Ref.{now}
 use Rattle.recording.specs.declared.Reading.{Reading}
-use Rattle.rerun.specs.Replay.{answered}
-use Rattle.rerun.proofs.Files.{refused-replay}
+use Rattle.rerun.proofs.Turns.{refused-answer}
 use Rattle.rerun.proofs.replay.Statement.{statement}
 use Rattle.rerun.proofs.replay.Tie as tie
 
@@ -15,9 +14,10 @@ replay-accepted-requires c κs =
 
 returns-2 : tie.Need-returns-2
 returns-2 c =
-    let read = c .before .before .before .before .before .read .ensures in
-    c .not-run .ensures
-    ∙ sym (ap answered (refused-replay (now (c .before .before .before .before .before .before .before .args .s)) _ _ (sym (ap (λ (x : Reading). x .answer) read) ∙ c .before .before .answer2 .given .1)))
+    let k = c .before .before .before .before .before in
+    let s = now (k .before .before .args .s) in
+    let is = sym (ap (λ (x : Reading). x .answer) (k .read .ensures)) ∙ c .before .before .answer2 .given .1 in
+    c .refused .ensures ∙ refused-answer s _ _ is
 
 pub replay-spec : {M : Type 1} → statement M
 replay-spec =
