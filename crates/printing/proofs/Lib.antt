@@ -1,3 +1,4 @@
+pub mod Parts
+pub mod Fronts
 pub mod Turn
-pub mod Ended
 pub mod Theorems

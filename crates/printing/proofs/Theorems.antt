@@ -1,25 +1,27 @@
--- The buffers of a listing, joined, and the closing behind them are the listing. Document 01, "One session, whole".
-use mathlib.Core.Path.{_≡_, ap, _∙_}
-use mathlib.Core.Bool.{false}
-use mathlib.Core.List.{List, _++_, append-nil}
-use Prim.Native.Nat.{ℕ}
-use lib.ListN.{take}
-use Rattle.recording.specs.Reader.{reading}
-use Rattle.rerun.specs.declared.Run.{Run}
-use Rattle.rerun.specs.Turn.{answerOf}
-use Rattle.listing.specs.declared.Printed.{Printed}
-use Rattle.listing.specs.Listing.{closing, listing}
-use Rattle.listing.specs.Printed.{opening}
-use Rattle.listing.proofs.Theorems.{pieces-are-the-listing}
-use Rattle.printing.specs.Filled.{soFar, Filled}
+-- What is promised of printing: the parts that are handed over, joined, are the listing. Document 01, "One session, whole".
+use mathlib.Core.Path.{_≡_, refl, sym, ap, ap₂, _∙_}
+use mathlib.Core.List.{List, [], _∷_, _++_, flatMap}
+use Prim.Native.Nat.{ℕ, _+_}
+use lib.ListN.{length, take, drop, length-append}
+use lib.Seq.{take-add, take-all, drop-drop}
+use native.Mathlib.Omega.{arith}
+use Rattle.listing.specs.Listing.{listing}
+use Rattle.printing.specs.Sent.{NextParts}
 
--- before the first row the listing so far is the opening
-pub opening-so-far : (s : List ℕ) → soFar s 0 ≡ opening (reading s .answer)
-opening-so-far s = append-nil (opening (reading s .answer))
+abbrev pub joined : List (List ℕ) → List ℕ
+joined parts = flatMap (λ (part : List ℕ). part) parts
 
--- with the last buffer, what was given before it and the closing it is the whole
-pub last-buffer-ends-the-listing : {s : List ℕ} {run : Run} {at : ℕ} {out : List ℕ} {r : Printed} {array′ out′ : List ℕ} → Filled s run at out r array′ out′ → r .full ≡ false
-    → (given : List ℕ) → given ++ take at out ≡ soFar s (run .rows) → given ++ take (r .at) out′ ++ closing (answerOf (r .turn)) ≡ listing s
-last-buffer-ends-the-listing {s} {r = r} f h given e =
-    ap (λ (l : List ℕ). l ++ closing (answerOf (r .turn))) (f .text given e)
-    ∙ pieces-are-the-listing s (f .going .accepted) (r .turn) (f .last h)
+-- parts that follow one another are the bytes of the listing from where they start
+stretch : (s : List ℕ) (gone : ℕ) (parts : List (List ℕ)) → NextParts s gone parts → joined parts ≡ take (length (joined parts)) (drop gone (listing s))
+unfolding flatMap
+stretch s gone [] n = refl
+stretch s gone (part ∷ parts) n =
+    let rest = drop gone (listing s) in
+    ap₂ (λ (a b : List ℕ). a ++ b) (n .0 .same)
+    (stretch s (gone + length part) parts (n .1) ∙ ap (take (length (joined parts))) (sym (drop-drop (length part) gone (listing s))))
+    ∙ sym (take-add (length part) (length (joined parts)) rest)
+    ∙ ap (λ (k : ℕ). take k rest) (sym (length-append part (joined parts)))
+
+-- from the first byte on, and as long as it, they are the listing
+pub parts-are-the-listing : (s : List ℕ) (parts : List (List ℕ)) → NextParts s 0 parts → length (joined parts) ≡ length (listing s) → joined parts ≡ listing s
+parts-are-the-listing s parts n e = stretch s 0 parts n ∙ take-all (length (joined parts)) (listing s) (omega (arith, e))

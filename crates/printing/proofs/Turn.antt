@@ -2,12 +2,12 @@
 use mathlib.Core.Path.{_≡_, refl, sym, ap, _∙_}
 use mathlib.Core.Bool.{Bool, true, false, cond, true≢false}
 use mathlib.Core.List.{List, _++_, append-assoc, append-nil}
-use Prim.Native.Nat.{ℕ, _+_, _-_, _≤_, _<_}
+use Prim.Native.Nat.{ℕ, _+_, _-_, _*_, _^_, _≤_, _<_}
 use native.Mathlib.Numerals.{add-one}
 use native.Mathlib.Omega.{arith}
 use borrow.Author.Tests.{leb-false}
-use lib.ListN.{length, take, drop, length-append}
-use lib.Seq.{sets, sets-eq, length-sets, take-at, length-take-le}
+use lib.ListN.{length, take}
+use lib.Seq.{length-sets, length-take-le}
 use Rattle.recording.specs.Answers.{rowCount}
 use Rattle.recording.specs.Reader.{reading}
 use Rattle.rerun.specs.declared.Run.{Run}
@@ -17,13 +17,13 @@ use Rattle.text.specs.Room.{mostPiece}
 use Rattle.listing.specs.Printed.{opening, rowLines, rowsLines, PrintedRow, Last}
 use Rattle.text.proofs.Puts.{Put}
 use Rattle.listing.proofs.Loop as loop
+use Rattle.printing.specs.declared.sending.Sent.{Sent}
 use Rattle.printing.specs.Filled.{soFar, Filled}
-
--- a piece put at a place goes on with what stands before it
-front-grows : (out text : List ℕ) (at : ℕ) → at + length text ≤ length out → take (at + length text) (sets out at text) ≡ take at out ++ text
-front-grows out text at h =
-    let l : length (take at out ++ text) ≡ at + length text = length-append (take at out) text ∙ ap (λ (n : ℕ). n + length text) (length-take-le at out (omega (arith, h))) in
-    ap (take (at + length text)) (sets-eq text out at h) ∙ take-at (take at out ++ text) (drop (at + length text) out) (at + length text) l
+use Rattle.printing.specs.Waiting.{mostBuffer, Buffer, mostGone, Waiting}
+use Rattle.listing.specs.Listing.{listing}
+use Rattle.rerun.proofs.Files.{few-rows}
+use Rattle.printing.proofs.Fronts.{after, so-far-is-a-front}
+use Rattle.printing.proofs.Parts.{front-grows}
 
 -- ## The loop
 
@@ -147,17 +147,20 @@ module _ {s : List ℕ} {start : Run} {from : ℕ} {out₀ : List ℕ} {run : Ru
 
 -- ## Buffer after buffer
 
--- what the loop over buffers of a size has: that buffer which was filled last
-pub record Poured (s : List ℕ) (size : ℕ) (p : Printed) (array out : List ℕ) : Type 0 where
-  pub going : Going s (p .turn .run) array
-  pub long : length out ≡ size
-  pub roomy : mostPiece ≤ size
-  pub within : p .at ≤ size
-  pub last : p .full ≡ false → Last s (p .turn)
-
 -- a number that falls with each: the rows that are left, and one more while the buffer is full
 abbrev pub left : List ℕ → Printed → ℕ
 left s p = rowCount (reading s .answer) - p .turn .run .rows + cond (p .full) 1 0
+
+-- what the loop over buffers of n bytes has: the buffer that was filled last waits
+pub record Poured (n : ℕ) (s : List ℕ) (sent : Sent) (p : Printed) (array out : List ℕ) : Type 0 where
+  pub going : Going s (p .turn .run) array
+  pub buffer : Buffer n
+  pub long : length out ≡ n
+  pub within : p .at ≤ length out
+  pub waits : Waiting s sent (take (p .at) out) (soFar s (p .turn .run .rows))
+  -- no more buffers have gone than rows are behind, so what has gone can be counted
+  pub small : sent .gone + mostBuffer * left s p ≤ mostBuffer * (rowCount (reading s .answer) + 1)
+  pub last : p .full ≡ false → Last s (p .turn)
 
 pub falls : {s : List ℕ} (p : Printed) {out : List ℕ} {r : Printed} {array′ out′ : List ℕ} → p .full ≡ true → mostPiece ≤ length out
     → Filled s (p .turn .run) 0 out r array′ out′ → left s r < left s p
@@ -166,3 +169,30 @@ falls {s} p {out} {r} h room f = rw h (go (r .full) refl)
     go : (b : Bool) → r .full ≡ b → rowCount (reading s .answer) - r .turn .run .rows + cond b 1 0 < rowCount (reading s .answer) - p .turn .run .rows + 1
     go true e = omega (arith, f .moved e (omega (arith, room)), f .more e)
     go false e = omega (arith, f .kept)
+
+-- nothing has gone
+pub at-first : (s : List ℕ) (p : Printed) {gone : ℕ} → gone ≡ 0 → gone + mostBuffer * left s p ≤ mostBuffer * (rowCount (reading s .answer) + 1)
+at-first s p {gone} e = go (p .full)
+  where
+    go : (b : Bool) → gone + mostBuffer * (rowCount (reading s .answer) - p .turn .run .rows + cond b 1 0) ≤ mostBuffer * (rowCount (reading s .answer) + 1)
+    go true = omega (arith, e)
+    go false = omega (arith, e)
+
+module _ {n : ℕ} {s : List ℕ} {sent : Sent} {p : Printed} {array out : List ℕ} (i : Poured n s sent p array out) where
+  pub rest-follows : soFar s (p .turn .run .rows) ++ after s (i .going .accepted) (p .turn .run .rows) ≡ listing s
+  rest-follows = so-far-is-a-front s (i .going .accepted) (p .turn .run .rows) (i .going .counted)
+
+  pub waiting-length : length (take (p .at) out) ≡ p .at
+  waiting-length = length-take-le (p .at) out (i .within)
+
+  -- what has gone, with what waits
+  pub counted : sent .gone + p .at < mostGone
+  counted = omega (arith, i .small, i .within, i .long, i .buffer .small, few-rows s (i .going .accepted))
+
+  pub counts : sent .gone + length (take (p .at) out) < 2 ^ 64
+  counts = omega (arith, counted, waiting-length)
+
+  -- and once the next buffer is filled
+  pub later : p .full ≡ true → {gone : ℕ} → gone ≡ sent .gone + length (take (p .at) out) → {q : Printed} {array′ out′ : List ℕ} → Filled s (p .turn .run) 0 out q array′ out′
+      → gone + mostBuffer * left s q ≤ mostBuffer * (rowCount (reading s .answer) + 1)
+  later full e f = omega (arith, i .small, i .within, i .long, i .buffer .small, e, waiting-length, falls p full (omega (arith, i .long, i .buffer .roomy)) f)

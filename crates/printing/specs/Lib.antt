@@ -1,2 +1,4 @@
 pub mod Filled
+pub mod Sent
 pub mod Status
+pub mod Waiting

@@ -3,13 +3,18 @@
 use Prim.Native.Nat.{ℕ}
 use mathlib.Core.Path.{_≡_}
 use mathlib.Core.Bool.{Bool, true, cond}
-use mathlib.Core.Logic.{_⊎_}
+use mathlib.Core.List.{List}
+use lib.ListN.{length}
 use Rattle.settings.specs.Refusals.{granted}
+use Rattle.rerun.specs.Replay.{replay}
+use Rattle.listing.specs.Listing.{listing}
+use Rattle.printing.specs.declared.Ending.{Ending}
 
 -- by whether all was written, and the refusal's number or 0
 abbrev pub status : Bool → (number : ℕ) → ℕ
 status good number = cond good (granted number 0 (λ n. 1)) 2
 
--- how a replay with that number may end: as its number says, or by 2
-abbrev pub Told : (number r : ℕ) → Type 0
-Told number r = (r ≡ 2) ⊎ (r ≡ status true number)
+-- how printing a file's listing may end: by 2 where a write failed; else all of the listing has gone, and the replay's number says how
+pub record Told (s : List ℕ) (r : Ending) : Type 0 where
+  pub by-number : r .status ≡ status (r .sent .good) (replay s .number)
+  pub all-gone : r .sent .good ≡ true → r .sent .gone ≡ length (listing s)

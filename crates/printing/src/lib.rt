@@ -1,14 +1,19 @@
-// A listing on standard output: its text is `listing`'s, collected in one lent buffer and written when no piece fits any more
+// A listing on standard output: its text is `listing`'s, collected in one lent buffer and handed over when no piece fits any more
 // and at the end. Both programs that print listings do it here. It rests on `listing` and what that rests on, and on the kit's `io` and
-// `libc`. When a buffer is written, and how large it is, may change without moving a contract; the answers 0, 1 and 2 may not.
+// `libc`. When a part is handed over may change without moving a contract; the parts joined, and the answers 0, 1 and 2, may not.
+mod sending;
+
+pub use sending::Sent;
 ghost use mathlib.Core.Path.{_≡_};
-ghost use Prim.Native.Nat.{_+_, _≤_};
-ghost use lib.ListN.{length};
+ghost use Prim.Native.Nat.{_+_, _≤_, _<_};
+ghost use lib.ListN.{length, take};
 ghost use Rattle.text.specs.Room.{mostPiece};
 ghost use Rattle.rerun.specs.Turn.{Going};
-ghost use Rattle.printing.specs.Filled.{Filled};
 ghost use Rattle.rerun.specs.Replay.{replay};
+ghost use Rattle.listing.specs.Listing.{listing as listingOf};
+ghost use Rattle.printing.specs.Filled.{soFar, Filled};
 ghost use Rattle.printing.specs.Status.{status as statusOf, Told};
+ghost use Rattle.printing.specs.Waiting.{Buffer, mostGone, Waiting, Closes};
 use listing::Printed;
 use recording::Answer;
 use rerun::Run;
@@ -63,77 +68,96 @@ fn status(good: bool, number: u8) -> u8
     0
 }
 
-fn flush(out: &[u8], at: usize) -> bool
-    requires { ⌜ at ≤ length (now out) ⌝ }
+// How printing ended: 0 replayed, 1 refused, 2 the output took no more; and what has gone.
+pub struct Ending {
+    pub status: u8,
+    pub sent: Sent,
+}
+
+fn ending_of(sent: Sent, number: u8) -> Ending
+    ensures { λ r. ⌜ (r .status ≡ statusOf (sent .good) number) × (r .sent ≡ sent) ⌝ }
 {
-    io::write_all(1, &out[0..at])
+    let good = sending::written(sent);
+    Ending {
+        status: status(good, number),
+        sent: sent,
+    }
 }
 
-// Whether all was written so far, and a place from which any piece fits.
-struct Room {
-    good: bool,
-    at: usize,
+// Writes what waits at the front of the buffer, which is the rest of the listing.
+fn write_rest(s: &[u8], sent: Sent, out: &[u8], at: usize, number: u8) -> Ending
+    requires { ⌜ Waiting (now s) sent (take at (now out)) (listingOf (now s)) × (replay (now s) .number ≡ number) ⌝ }
+    requires { ⌜ (at ≤ length (now out)) × Buffer (length (now out)) × (sent .gone < mostGone) ⌝ }
+    ensures { λ r. ⌜ Told (now (s .entry)) r ⌝ }
+{
+    ending_of(sending::flush(s, sent, &out[..at]), number)
 }
 
-// The given place, or the front of the buffer once what stands there is written.
-fn make_room(out: &[u8], at: usize) -> Room
-    requires { ⌜ (at ≤ length (now out)) × (mostPiece ≤ length (now out)) ⌝ }
-    ensures { λ r. ⌜ r .at + mostPiece ≤ length (now (out .entry)) ⌝ }
+// Puts the closing at a place from which any piece fits, and writes the rest of the listing.
+fn write_closing(s: &[u8], sent: Sent, turn: Turn, out: &mut [u8], at: usize) -> Ending
+    requires { ⌜ Closes (now s) sent turn (take at (now out)) ⌝ }
+    requires { ⌜ (at + mostPiece ≤ length (now out)) × Buffer (length (now out)) × (sent .gone < mostGone) ⌝ }
+    ensures { λ r. ⌜ Told (now (s .entry)) r ⌝ }
+{
+    let end = rerun::answer_of(turn);
+    let w = listing::closing(end, out, at);
+    write_rest(s, sent, out, w.at, turn.number)
+}
+
+// The same from any place: where the closing may not fit, what waits is written first.
+fn print_closing(s: &[u8], sent: Sent, turn: Turn, out: &mut [u8], at: usize) -> Ending
+    requires { ⌜ Closes (now s) sent turn (take at (now out)) ⌝ }
+    requires { ⌜ (at ≤ length (now out)) × Buffer (length (now out)) × (sent .gone + at < mostGone) ⌝ }
+    ensures { λ r. ⌜ Told (now (s .entry)) r ⌝ }
 {
     if listing::has_room(out.len(), at) {
-        return Room { good: true, at: at };
+        return write_closing(s, sent, turn, out, at);
     }
-    let good = flush(out, at);
-    Room { good: good, at: 0 }
+    let next = sending::flush(s, sent, &out[..at]);
+    if !sending::written(next) {
+        return ending_of(next, 0);
+    }
+    write_closing(s, next, turn, out, 0)
 }
 
-fn print_closing(p: Printed, out: &mut [u8]) -> u8
-    requires { ⌜ (p .at ≤ length (now out)) × (mostPiece ≤ length (now out)) ⌝ }
-    ensures { λ r. ⌜ Told (p .turn .number) r ⌝ }
+// The listing of a file that the reader accepted, whose opening waits.
+fn print_rows(s: &[u8], run: Run, board: &mut [u32; 64], out: &mut [u8], from: usize) -> Ending
+    requires { ⌜ Going (now s) run (now board) × (take from (now out) ≡ soFar (now s) (run .rows)) ⌝ }
+    requires { ⌜ (from ≤ length (now out)) × Buffer (length (now out)) ⌝ }
+    ensures { λ r. ⌜ Told (now (s .entry)) r ⌝ }
 {
-    let turn = p.turn;
-    let room = make_room(out, p.at);
-    if !room.good {
-        return status(false, turn.number);
-    }
-    let end = rerun::answer_of(turn);
-    let w = listing::closing(end, out, room.at);
-    status(flush(out, w.at), turn.number)
-}
-
-// The rest of the listing of a file that the reader accepted, after its opening.
-fn print_rows(s: &[u8], run: Run, board: &mut [u32; 64], out: &mut [u8], at: usize) -> u8
-    requires { ⌜ Going (now s) run (now board) × (at ≤ length (now out)) × (mostPiece ≤ length (now out)) ⌝ }
-    ensures { λ r. ⌜ Told (replay (now (s .entry)) .number) r ⌝ }
-{
-    let mut p = fill(s, run, board, out, at);
+    let mut sent = sending::nothing();
+    let mut p = fill(s, run, board, out, from);
     while p.full {
         let turn = p.turn;
-        if !flush(out, p.at) {
-            return status(false, turn.number);
+        let at = p.at;
+        sent = sending::flush(s, sent, &out[..at]);
+        if !sending::written(sent) {
+            return ending_of(sent, 0);
         }
         let next = turn.run;
         p = fill(s, next, board, out, 0);
     }
-    print_closing(p, out)
+    let turn = p.turn;
+    print_closing(s, sent, turn, out, p.at)
 }
 
-// Prints the listing of a recording by way of the lent buffer, and answers how it ended: 0 replayed, 1 refused, 2 the output
-// took no more.
-pub fn print(s: &[u8], out: &mut [u8]) -> u8
-    requires { ⌜ mostPiece ≤ length (now out) ⌝ }
-    ensures { λ r. ⌜ Told (replay (now (s .entry)) .number) r ⌝ }
+// Prints the listing of a recording by way of the lent buffer, and answers how it ended.
+pub fn print(s: &[u8], out: &mut [u8]) -> Ending
+    requires { ⌜ Buffer (length (now out)) ⌝ }
+    ensures { λ r. ⌜ Told (now (s .entry)) r ⌝ }
 {
     let reading = recording::read(s);
     let opened = listing::opening(reading, out, 0);
+    let at = opened.at;
     let st = reading.settings;
     let answer = reading.answer;
     match answer {
         Answer::Accepted { rows, first, width } => {
             let mut board = [0u32; 64];
             let run = rerun::begin(st, rows, first, width, &mut board);
-            print_rows(s, run, &mut board, out, opened.at)
+            print_rows(s, run, &mut board, out, at)
         }
-        Answer::Refused { number, place: _ } => status(flush(out, opened.at), number),
+        Answer::Refused { number, place: _ } => write_rest(s, sending::nothing(), out, at, number),
     }
 }

@@ -1,8 +1,11 @@
 // Replays the recording on standard input and prints its listing on standard output. Document 01, "One session, whole".
 // docs/DECISIONS.md says what happens where input or output fails, and how the program tells how it ended. It rests on `printing` and
 // what that rests on, and on the kit's `os`, `io` and `libc`. All but what it prints, and the digit that it tells, may change.
-ghost use Prim.Native.Nat.{_≤_};
+ghost use mathlib.Core.Path.{_≡_};
+ghost use Prim.Native.Nat.{_+_, _≤_};
 ghost use lib.ListN.{length};
+ghost use Rattle.recording.specs.Encode.{mostLength};
+ghost use Rattle.printing.specs.Waiting.{Buffer};
 
 // Whether the input could be read, and how many bytes it has, up to the room for them.
 struct Input {
@@ -34,8 +37,10 @@ fn read_input(file: &mut [u8]) -> Input
 }
 
 // How it ended: 0 replayed, 1 refused, 2 the input can't be read or the output took no more, which standard error then says.
+// `file` has one byte more than the longest recording: what follows in the input changes no answer (`long-as-front`,
+// exactness/proofs/Theorems), and with a byte less an input that is one byte too long would pass for a recording.
 fn replay(file: &mut [u8], out: &mut [u8]) -> u8
-    requires { ⌜ 1568 ≤ length (now out) ⌝ }
+    requires { ⌜ (length (now file) ≡ mostLength + 1) × Buffer (length (now out)) ⌝ }
 {
     let input = read_input(file);
     if !input.good {
@@ -43,7 +48,8 @@ fn replay(file: &mut [u8], out: &mut [u8]) -> u8
         return 2;
     }
     let size = input.size;
-    let status = printing::print(&file[0..size], out);
+    let ending = printing::print(&file[0..size], out);
+    let status = ending.status;
     if status == 2 {
         os::fail(b"replay: standard output");
     }
@@ -59,7 +65,6 @@ fn tell(status: u8) -> bool {
     io::print_decimal(3, status as u64)
 }
 
-// One byte more than the largest recording: what follows changes no answer.
 fn main() {
     let mut file = [0u8; 49259];
     let mut out = io::large_buffer();

@@ -1,11 +1,12 @@
 // Answers a stream of recordings on standard input: for each its listing, and an empty line. second/README.md lays the stream
 // out. It is a test program over `printing` and `streams`: all but the stream may change.
 
-// Prints the listing of a recording and an empty line; false if nothing can be written.
+// Prints the listing of a recording and an empty line; false if nothing can be written. The buffer is small, so that listings of a few
+// thousand bytes go by way of several: a stream has some that end about the end of one, two and three buffers.
 fn answer(s: &[u8]) -> bool {
-    let mut out = io::large_buffer();
-    let status = printing::print(s, &mut out);
-    if status == 2 {
+    let mut out = [0u8; 4096];
+    let ending = printing::print(s, &mut out);
+    if ending.status == 2 {
         return false;
     }
     io::write_all(1, b"\n")
