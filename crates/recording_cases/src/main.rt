@@ -1,6 +1,6 @@
-// Answers a stream of recordings on standard input: for each the reader's answer, its rows, and the bytes that the writer
-// gives for what was read. second/README.md lays both streams out. It is a test program over `recording`, `writing`, `cases` and
-// `streams`: all but the streams may change.
+// Answers a stream of recordings on standard input: for each the reader's answer, its rows, the bytes that the writer gives for
+// what a walk finds, and what a whole replay answers. second/README.md lays both streams out. It is a test program over
+// `recording`, `walk`, `writing`, `rerun`, `cases` and `streams`: all but the streams may change.
 ghost use mathlib.Core.Path.{_≡_};
 ghost use Prim.Native.Nat.{_+_, _≤_};
 ghost use lib.ListN.{length};
@@ -79,36 +79,31 @@ fn print_head(
 
 // ---- a row: its place, its hold and its words, 28 bytes
 
-// The first five words, from `at`.
-fn put_first_words(out: &mut [u8], at: usize, w: Words)
-    requires { ⌜ (length (now out) ≡ 28) × (at + 10 ≤ 28) ⌝ }
+// Ten words, from `at`.
+fn put_words(out: &mut [u8], at: usize, words: [u16; 10])
+    requires { ⌜ (length (now out) ≡ 28) × (at + 20 ≤ 28) ⌝ }
     ensures { λ _. ⌜ length (now (out .exit)) ≡ 28 ⌝ }
 {
-    bits::put16(out, at, w.values);
-    bits::put16(out, at + 2, w.bad);
-    bits::put16(out, at + 4, w.mask);
-    bits::put16(out, at + 6, w.require_reset);
-    bits::put16(out, at + 8, w.reset_permit);
+    let mut i: usize = 0;
+    while i < 10 {
+        bits::put16(out, at + 2 * i, words[i]);
+        i += 1;
+    }
 }
 
-// And the last five.
-fn put_last_words(out: &mut [u8], at: usize, w: Words)
-    requires { ⌜ (length (now out) ≡ 28) × (at + 10 ≤ 28) ⌝ }
-    ensures { λ _. ⌜ length (now (out .exit)) ≡ 28 ⌝ }
-{
-    bits::put16(out, at, w.start_permit);
-    bits::put16(out, at + 2, w.reset);
-    bits::put16(out, at + 4, w.force_permit);
-    bits::put16(out, at + 6, w.force_trip);
-    bits::put16(out, at + 8, w.force_normal);
-}
-
-fn put_words(out: &mut [u8], w: Words)
-    requires { ⌜ length (now out) ≡ 28 ⌝ }
-    ensures { λ _. ⌜ length (now (out .exit)) ≡ 28 ⌝ }
-{
-    put_first_words(out, 8, w);
-    put_last_words(out, 18, w);
+fn listed(w: Words) -> [u16; 10] {
+    [
+        w.values,
+        w.bad,
+        w.mask,
+        w.require_reset,
+        w.reset_permit,
+        w.start_permit,
+        w.reset,
+        w.force_permit,
+        w.force_trip,
+        w.force_normal,
+    ]
 }
 
 fn put_row(out: &mut [u8], at: usize, row: Row)
@@ -117,12 +112,12 @@ fn put_row(out: &mut [u8], at: usize, row: Row)
 {
     bits::put32(out, 0, (at % 4294967296) as u32);
     bits::put32(out, 4, row.hold);
-    put_words(out, row.words);
+    put_words(out, 8, listed(row.words));
 }
 
 // Prints the row at a place, and answers the place after it.
-fn print_row(s: &[u8], at: usize, width: usize) -> usize {
-    let step = recording::row_in(s, at, width);
+fn print_row(s: &[u8], at: usize) -> usize {
+    let step = recording::row_step(s, at);
     let Step::Row(row, next) = step else {
         return at;
     };
@@ -133,11 +128,11 @@ fn print_row(s: &[u8], at: usize, width: usize) -> usize {
     next
 }
 
-fn print_rows(s: &[u8], first: usize, width: usize, rows: u16) {
+fn print_rows(s: &[u8], first: usize, rows: u16) {
     let mut at = first;
     let mut left = rows;
     while 0 < left {
-        at = print_row(s, at, width);
+        at = print_row(s, at);
         left -= 1;
     }
 }
@@ -168,10 +163,21 @@ fn print_written_row(st: Settings, row: Row) -> bool {
     print_piece(w, &out)
 }
 
-// Prints the row at a place as it is written, and answers the place after it. The row is found as a stranger would, by
-// any place of any bytes.
-fn print_row_back(st: Settings, s: &[u8], at: usize) -> usize {
-    let step = recording::row_step(s, at);
+// The rows that are found by a walk. It reads the file at each step, so that later rows are found by their place.
+const WALKED: u16 = 32;
+
+// Row i, which stands at `at`.
+fn row_of(s: &[u8], i: u16, at: usize) -> Step {
+    if i < WALKED {
+        walk::nth(s, i)
+    } else {
+        recording::row_step(s, at)
+    }
+}
+
+// Prints row i as it is written, and answers the place after it; where there is none, nothing.
+fn print_row_back(st: Settings, s: &[u8], i: u16, at: usize) -> usize {
+    let step = row_of(s, i, at);
     let Step::Row(row, next) = step else {
         return at;
     };
@@ -179,13 +185,45 @@ fn print_row_back(st: Settings, s: &[u8], at: usize) -> usize {
     next
 }
 
-fn print_rows_back(st: Settings, s: &[u8], first: usize, rows: u16) {
+// Prints all rows, and after them none.
+fn print_rows_back(st: Settings, s: &[u8], first: usize, rows: u16) -> usize {
     let mut at = first;
-    let mut left = rows;
-    while 0 < left {
-        at = print_row_back(st, s, at);
-        left -= 1;
+    let mut i = 0;
+    while i < rows {
+        at = print_row_back(st, s, i, at);
+        i += 1;
     }
+    print_row_back(st, s, rows, at)
+}
+
+// ---- a whole replay: seven numbers of 4 bytes
+
+fn put_replayed(out: &mut [u8], numbers: [u32; 7])
+    requires { ⌜ length (now out) ≡ 28 ⌝ }
+    ensures { λ _. ⌜ length (now (out .exit)) ≡ 28 ⌝ }
+{
+    let mut i: usize = 0;
+    while i < 7 {
+        bits::put32(out, 4 * i, numbers[i]);
+        i += 1;
+    }
+}
+
+fn print_replay(s: &[u8]) -> bool {
+    let r = rerun::replay(s);
+    let numbers = [
+        r.number as u32,
+        (r.place % 4294967296) as u32,
+        r.records,
+        r.rows,
+        r.scans,
+        r.live,
+        r.exercised,
+    ];
+    let mut out = [0u8; 28];
+    put_replayed(&mut out, numbers);
+    print_hex(&out);
+    print_end()
 }
 
 // ---- one recording
@@ -198,13 +236,15 @@ fn answer(s: &[u8]) -> bool {
     match a {
         Answer::Accepted { rows, first, width } => {
             print_head(0, 0, st, rows, first, width);
-            print_rows(s, first, width, rows);
+            print_rows(s, first, rows);
             print_opening(st, rows);
             print_rows_back(st, s, first, rows);
             print_end()
         }
         Answer::Refused { number, place } => print_head(number, place, st, 0, 0, 0),
     }
+    ;
+    print_replay(s)
 }
 
 // At most a million recordings. A stream has none above 49,262 bytes.
