@@ -2,7 +2,7 @@
 
 use crate::block::{held, scan, Answer, Phase, Row, Slot, State, Words};
 use crate::recording::{read, row_of, write_opening, write_row, Recording, Refusal, ROW_BYTES};
-use crate::replay::replay;
+use crate::replay::{replay, Listing};
 use crate::settings::{Effect, Settings, SLOTS};
 
 /// The largest room of a scan or held case.
@@ -319,18 +319,20 @@ pub fn written_back(recording: &Recording) -> Vec<u8> {
     bytes
 }
 
-pub fn answer_file(file: &[u8]) -> String {
+const ACCEPTED: Refusal = Refusal {
+    number: 0,
+    place: 0,
+};
+
+/// The reader's and the writer's part of a recording's answer.
+fn read_lines(file: &[u8]) -> String {
     let recording = match read(file) {
         Ok(recording) => recording,
         Err(refusal) => return heading(refusal, &Settings::default(), 0, 0, 0),
     };
-    let accepted = Refusal {
-        number: 0,
-        place: 0,
-    };
     let width = ROW_BYTES as u32;
     let mut text = heading(
-        accepted,
+        ACCEPTED,
         &recording.settings,
         recording.rows.len() as u16,
         recording.first_row,
@@ -342,6 +344,30 @@ pub fn answer_file(file: &[u8]) -> String {
         place += width;
     }
     text + &hex(&written_back(&recording)) + "\n"
+}
+
+/// The last line of a recording's answer: the number and place of its replay from a fresh
+/// state, and what it comes to.
+fn totals_line(listing: &Listing) -> String {
+    let refusal = listing.refusal.unwrap_or(ACCEPTED);
+    let totals = &listing.totals;
+    let mut out = Vec::new();
+    for number in [
+        u32::from(refusal.number),
+        refusal.place,
+        totals.records,
+        totals.rows,
+        totals.scans,
+        totals.live,
+        totals.exercised,
+    ] {
+        out.extend_from_slice(&number.to_be_bytes());
+    }
+    hex(&out) + "\n"
+}
+
+pub fn answer_file(file: &[u8]) -> String {
+    read_lines(file) + &totals_line(&replay(file))
 }
 
 /// One piece's part of a writing answer.

@@ -1,16 +1,19 @@
 //! `second answer|make|show KIND ...` and `second replay`: see `USAGE`.
 
 use second::cases::{answer_next, Kind, Stream};
-use second::make::stream_of;
+use second::make::{filled_stream, stream_of};
+use second::make_filled::FILLED_BUFFERS;
 use second::replay::{replay, ENOUGH_BYTES};
 use second::show::show_next;
 use std::io::{self, BufWriter, Read, Write};
 use std::process::ExitCode;
+use std::str::FromStr;
 
 const USAGE: &str = "usage:
   second replay < recording > listing
   second answer scan|held|recording|writing|replay < cases > answers
   second make scan|held|recording|writing|replay SEED COUNT > cases
+  second fill BUFFER SEED COUNT > replay cases
   second show scan|held|recording|writing|replay < cases
 exit status: 0; 1 if the replayed recording was refused; 2 on bad usage, a bad stream, or
 failing input or output";
@@ -56,10 +59,24 @@ fn show(kind: Kind, out: &mut impl Write) -> Result<(), String> {
     Ok(())
 }
 
+/// The number that a word says.
+fn number<N: FromStr>(name: &str, word: &str) -> Result<N, String> {
+    word.parse().map_err(|_| format!("bad {name} {word}"))
+}
+
 fn make(kind: Kind, seed: &str, count: &str, out: &mut impl Write) -> Result<(), String> {
-    let seed = seed.parse().map_err(|_| format!("bad seed {seed}"))?;
-    let count = count.parse().map_err(|_| format!("bad count {count}"))?;
+    let (seed, count) = (number("seed", seed)?, number("count", count)?);
     written(out.write_all(&stream_of(kind, seed, count)))
+}
+
+/// Replay cases for a printing buffer of so many bytes.
+fn fill(buffer: &str, seed: &str, count: &str, out: &mut impl Write) -> Result<(), String> {
+    let bytes = number("buffer", buffer)?;
+    if !FILLED_BUFFERS.contains(&bytes) {
+        return Err(format!("no buffer of {bytes} bytes can be filled"));
+    }
+    let (seed, count) = (number("seed", seed)?, number("count", count)?);
+    written(out.write_all(&filled_stream(bytes, seed, count)))
 }
 
 fn kind_of(name: &str) -> Result<Kind, String> {
@@ -81,6 +98,7 @@ fn work(words: &[&str], out: &mut impl Write) -> Result<bool, String> {
         ["answer", kind] => answer(kind_of(kind)?, out)?,
         ["show", kind] => show(kind_of(kind)?, out)?,
         ["make", kind, seed, count] => make(kind_of(kind)?, seed, count, out)?,
+        ["fill", buffer, seed, count] => fill(buffer, seed, count, out)?,
         _ => return Err(USAGE.to_string()),
     }
     written(out.flush())?;

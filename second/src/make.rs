@@ -3,6 +3,7 @@
 
 use crate::cases::{put_file, put_run_case, put_writing_case, Kind};
 use crate::make_files::{file_cases, writing_cases};
+use crate::make_filled::{filled_file, random_ending};
 use crate::make_replays::replay_cases;
 use crate::make_runs::run_cases;
 
@@ -82,6 +83,18 @@ pub fn stream_of(kind: Kind, seed: u64, count: usize) -> Vec<u8> {
                 put_writing_case(&named.case, &mut out);
             }
         }
+    }
+    out
+}
+
+/// `count` replay cases whose listings end about the end of the first, the second or the
+/// third buffer of so many bytes.
+pub fn filled_stream(buffer: usize, seed: u64, count: usize) -> Vec<u8> {
+    let mut random = Random::new(seed);
+    let mut out = Vec::new();
+    for _ in 0..count {
+        let ending = random_ending(&mut random, buffer);
+        put_file(&filled_file(&mut random, buffer, &ending), &mut out);
     }
     out
 }

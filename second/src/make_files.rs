@@ -3,6 +3,7 @@
 use crate::block::{Row, Words, MAX_HOLD};
 use crate::cases::{WritingCase, MAX_PIECE_ROOM};
 use crate::make::{Named, Random};
+use crate::make_replays::totals_files;
 use crate::recording::{opening_bytes, row_bytes, MAX_BYTES, MAX_ROWS, ROW_BYTES};
 use crate::settings::{existing, Effect, Settings, MAX_DELAY, SEVERAL_FORCED};
 
@@ -353,6 +354,38 @@ fn fault_pair_files(files: &mut Files) {
     add(files, "6 in row 1, 4 in row 2", &[6, 4], file);
 }
 
+/// A wrong entry that is cut short is refused by 1, since an entry's bytes come before its
+/// fields. A wrong entry that is whole hides the cut after it.
+fn cut_entry_files(files: &mut Files) {
+    let mut file = plain_file(3, 2, 2);
+    file[CAUSES] = 0;
+    for length in CAUSES + 1..EFFECT_COUNT {
+        add(files, "wrong block cut", &[1], file[..length].to_vec());
+    }
+    let mut file = plain_file(3, 2, 2);
+    put16(&mut file, EFFECTS, 8);
+    let second = EFFECTS + EFFECT_BYTES;
+    for length in EFFECTS + 2..second {
+        add(files, "wrong effect cut", &[1], file[..length].to_vec());
+    }
+    for length in second..second + EFFECT_BYTES {
+        let file = file[..length].to_vec();
+        add(files, "wrong effect before a cut", &[3, 1], file);
+    }
+    // Of row 1: the hold, a word of causes, one of effects, and several forced.
+    for (place, value, kept) in [(2, 0, 4), (4, 8, 6), (16, 4, 18), (20, 3, 22)] {
+        let row = row_place(2, 0);
+        let mut file = plain_file(3, 2, 2);
+        put16(&mut file, row + place, value);
+        for length in [kept, ROW_BYTES - 1] {
+            add(files, "wrong row cut", &[1], file[..row + length].to_vec());
+        }
+        let number = if place == 20 { 6 } else { 4 };
+        let file = file[..row + ROW_BYTES].to_vec();
+        add(files, "wrong row before a cut", &[number, 1], file);
+    }
+}
+
 fn full_rows(random: &mut Random) -> Vec<u8> {
     let settings = plain_settings(16, 16);
     let rows: Vec<Row> = (0..MAX_ROWS)
@@ -441,6 +474,7 @@ pub fn named_files(random: &mut Random, with_large: bool) -> Files {
     block_files(&mut files);
     row_count_files(&mut files);
     fault_pair_files(&mut files);
+    cut_entry_files(&mut files);
     force_files(&mut files);
     row_files(&mut files);
     effect_files(&mut files);
@@ -454,6 +488,7 @@ pub fn named_files(random: &mut Random, with_large: bool) -> Files {
 pub fn file_cases(seed: u64, count: usize) -> Files {
     let mut random = Random::new(seed);
     let mut files = named_files(&mut random, count >= LARGE_FROM);
+    totals_files(&mut files);
     files.truncate(count);
     while files.len() < count {
         let mut file = random_file(&mut random);
@@ -548,6 +583,11 @@ fn writing_settings(pieces: &mut Pieces) {
     for effects in [0, 2, 4, 17, 255] {
         add("effects", 3, &|settings| settings.effects = effects);
     }
+    // With its slots zero too, nothing but the count is wrong.
+    add("no effect", 3, &|settings| {
+        settings.effects = 0;
+        settings.slots = [Effect::default(); 16];
+    });
     for slot in 0..16 {
         add("slot", 3, &|settings| settings.slots[slot].association = 8);
         add("slot", 3, &|settings| {

@@ -7,6 +7,7 @@ use crate::make_files::{
     add, bytes_of_hex, damage_file, file_of, named_files, plain_settings, put32, row_place, Files,
     SESSION,
 };
+use crate::make_filled::{filled_file, filled_files, random_ending, CASES_BUFFER};
 use crate::make_runs::{random_forces, random_hold, random_settings, random_words};
 use crate::recording::{MAX_BYTES, MAX_ROWS};
 use crate::replay::run_row;
@@ -221,6 +222,32 @@ fn long_files(files: &mut Files) {
     add(files, "7 after the row of a 9", &[7], file);
 }
 
+/// For the stream of recordings, whose answers have what a replay comes to: totals of several
+/// digits, and files that the reader accepts and a replay refuses by 9. What is planted is the
+/// reader's.
+pub fn totals_files(files: &mut Files) {
+    let settings = plain_settings(2, 2);
+    for rows in [11, 101] {
+        let file = file_of(&settings, &long_rows(&settings, rows, &[]));
+        add(files, "many scans", &[], file);
+    }
+    for last in [&[999_999, 1][..], &[999_999, 2, 7]] {
+        let file = file_of(&settings, &long_rows(&settings, 999, last));
+        add(files, "end of the scan numbers", &[], file);
+    }
+    let mut file = file_of(&settings, &long_rows(&settings, 999, &[MAX_HOLD, 1]));
+    file.push(0);
+    add(files, "7 after the row of a 9", &[7], file);
+    let mut settings = plain_settings(16, 16);
+    for slot in &mut settings.slots {
+        slot.delay = 150;
+    }
+    for rows in [3, 40, 250] {
+        let file = file_of(&settings, &turns(&settings, rows, 3));
+        add(files, "many records", &[], file);
+    }
+}
+
 /// The most records that a recording can give: an effect leaves Normal by Delayed in every
 /// other row and comes back in the next, 3 changes in two rows, 49,152 in all. So the
 /// sequence number of a replay never wraps.
@@ -250,6 +277,7 @@ fn named_replays(with_large: bool) -> Files {
     exercised_files(&mut files);
     refused_files(&mut files);
     long_files(&mut files);
+    filled_files(&mut files);
     if with_large {
         longest_listing(&mut files);
         longer_file(&mut files);
@@ -388,6 +416,10 @@ fn random_size(random: &mut Random) -> (u32, bool) {
 }
 
 fn random_replay(random: &mut Random) -> Vec<u8> {
+    if random.once_in(12) {
+        let ending = random_ending(random, CASES_BUFFER);
+        return filled_file(random, CASES_BUFFER, &ending);
+    }
     let mut settings = random_replay_settings(random);
     let (rows, long) = random_size(random);
     if rows > 200 {

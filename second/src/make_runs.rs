@@ -431,6 +431,8 @@ fn settings_limits(list: &mut List) {
         case.settings.effects = effects;
         list.add("effect count over full slots", &[3], case);
     }
+    // Zero slots and a fresh state, so that nothing but the count is wrong.
+    list.add("no effect", &[3], plain(3, 0));
 }
 
 fn effect_limits(list: &mut List) {

@@ -128,10 +128,22 @@ pub fn run_row(settings: &Settings, state: &State, row: &Row) -> RowRun {
     }
 }
 
-/// What a replay prints, and the refusal, if there is one.
+/// What a whole replay comes to.
+#[derive(Clone, Copy, Debug, Default, PartialEq, Eq)]
+pub struct Totals {
+    pub records: u32,
+    pub rows: u32,
+    pub scans: u32,
+    pub live: u32,
+    pub exercised: u32,
+}
+
+/// What a replay prints, what it comes to, and the refusal, if there is one.
 #[derive(Clone, Debug, PartialEq, Eq)]
 pub struct Listing {
     pub text: String,
+    /// Zeros in a refused replay.
+    pub totals: Totals,
     pub refusal: Option<Refusal>,
 }
 
@@ -142,6 +154,7 @@ fn refused(mut text: String, refusal: Refusal) -> Listing {
     text += &format!("refused {} at {}\n", refusal.number, refusal.place);
     Listing {
         text,
+        totals: Totals::default(),
         refusal: Some(refusal),
     }
 }
@@ -159,7 +172,7 @@ fn change_line(sequence: u16, change: &Change) -> String {
 }
 
 /// The lines of a row's changes; `sequence` is the number of the first.
-fn change_lines(sequence: u16, changes: &[Change]) -> String {
+pub fn change_lines(sequence: u16, changes: &[Change]) -> String {
     let mut sequence = sequence;
     let mut text = String::new();
     for change in changes {
@@ -178,7 +191,7 @@ pub fn replay(file: &[u8]) -> Listing {
     };
     let mut text = HEADER.to_string();
     let mut state = State::default();
-    let (mut live, mut exercised) = (0, 0);
+    let (mut records, mut live, mut exercised) = (0, 0, 0);
     let mut place = recording.first_row;
     for row in &recording.rows {
         if state.scans_done + row.hold > MAX_SCANS {
@@ -186,6 +199,7 @@ pub fn replay(file: &[u8]) -> Listing {
         }
         let run = run_row(&recording.settings, &state, row);
         text += &change_lines(state.next_sequence, &run.changes);
+        records += run.changes.len() as u32;
         live += run.live;
         exercised += run.exercised;
         state = run.state;
@@ -198,6 +212,13 @@ pub fn replay(file: &[u8]) -> Listing {
     );
     Listing {
         text,
+        totals: Totals {
+            records,
+            rows: recording.rows.len() as u32,
+            scans: state.scans_done,
+            live,
+            exercised,
+        },
         refusal: None,
     }
 }

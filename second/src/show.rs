@@ -133,6 +133,16 @@ fn show_file(file: &[u8]) -> String {
     text
 }
 
+/// The file, and what its replay comes to.
+fn show_recording(file: &[u8]) -> String {
+    let listing = replay(file);
+    let replayed = match listing.refusal {
+        Some(refusal) => format!("refused {} at {}", refusal.number, refusal.place),
+        None => format!("{:?}", listing.totals),
+    };
+    show_file(file) + &format!("  replay: {replayed}\n")
+}
+
 /// The file, and the listing that it gives.
 fn show_replay(file: &[u8]) -> String {
     let listing = replay(file);
@@ -160,7 +170,7 @@ fn show_writing(case: &WritingCase) -> String {
 pub fn show_next(kind: Kind, stream: &mut Stream) -> Result<String, String> {
     Ok(match kind {
         Kind::Scan | Kind::Held => show_run(kind, &stream.run_case(kind)?),
-        Kind::Recording => show_file(stream.file()?),
+        Kind::Recording => show_recording(stream.file()?),
         Kind::Writing => show_writing(&stream.writing_case()?),
         Kind::Replay => show_replay(stream.file()?),
     })

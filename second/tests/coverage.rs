@@ -7,6 +7,7 @@ use second::make::Named;
 use second::make_files::{file_cases, writing_cases};
 use second::make_runs::{run_cases, ORDER};
 use second::recording::read;
+use second::replay::{replay, Totals};
 use std::collections::{BTreeMap, BTreeSet};
 use std::sync::OnceLock;
 use Phase::*;
@@ -266,6 +267,34 @@ fn planted_recordings_are_answered() {
         let times = numbers.get(&number).copied().unwrap_or(0);
         assert!(times >= 10, "number {number}: {times}");
     }
+}
+
+/// The stored stream has what a replay adds to the reader: 9, and totals of every size.
+#[test]
+fn recordings_are_replayed_to_9_and_to_many_records() {
+    let mut refused = 0;
+    let (mut records, mut scans) = (BTreeSet::new(), BTreeSet::new());
+    for named in file_cases(1, 800) {
+        let listing = replay(&named.case);
+        match listing.refusal {
+            Some(refusal) if refusal.number == 9 => {
+                assert!(read(&named.case).is_ok());
+                assert_eq!(listing.totals, Totals::default());
+                refused += 1;
+            }
+            Some(refusal) => assert_eq!(read(&named.case), Err(refusal)),
+            None => {
+                records.insert(listing.totals.records.checked_ilog10());
+                scans.insert(listing.totals.scans.ilog10());
+            }
+        }
+    }
+    assert!(refused >= 1);
+    assert_eq!(
+        records,
+        BTreeSet::from([None, Some(0), Some(1), Some(2), Some(3)])
+    );
+    assert_eq!(scans, BTreeSet::from_iter(0..=9));
 }
 
 #[test]

@@ -108,7 +108,9 @@ fn recording_lines() {
         + &line(&format!("00000016 00000003 0003 {words}"))
         + &line(&format!("0000002e 00000005 0002 {words}"))
         + &line(SESSION).to_lowercase()
-        + &line(&refused);
+        + &line("00000000 00000000 00000005 00000002 00000008 00000003 00000005")
+        + &line(&refused)
+        + &line(&format!("00000001 00000000 {}", zeros(5 * 4)));
     assert_eq!(answer("recording", &cases), expected);
 }
 
@@ -178,6 +180,9 @@ fn bad_usage_fails() {
         &["make", "scan", "one", "1"],
         &["make", "scan", "1", "-1"],
         &["show"],
+        &["fill", "4096", "1"],
+        &["fill", "4095", "1", "1"],
+        &["fill", "65537", "1", "1"],
         &["help", "scan"],
         &["replay", "scan"],
     ] {
@@ -246,4 +251,7 @@ fn seeds_repeat_and_differ() {
         assert_eq!(one, made("1"));
         assert_ne!(one, made("2"));
     }
+    let filled = |seed| run(&["fill", "65536", seed, "6"], &[]).stdout;
+    assert_eq!(filled("1"), filled("1"));
+    assert_ne!(filled("1"), filled("2"));
 }

@@ -3,12 +3,13 @@
 
 use second::block::{run, Phase, Row, State, Words, RECORD_BYTES};
 use second::cases::{Kind, RunCase};
-use second::make::Named;
+use second::make::{Named, Random};
 use second::make_files::{bytes_of_hex, file_of, SESSION};
+use second::make_filled::{filled_file, random_ending};
 use second::make_replays::{replay_cases, LARGE_FROM};
 use second::make_runs::run_cases;
 use second::recording::read;
-use second::replay::{replay, run_row, Change, RowRun, HEADER};
+use second::replay::{replay, run_row, Change, Listing, RowRun, Totals, HEADER};
 use second::settings::{Effect, Settings};
 use std::collections::{BTreeMap, BTreeSet};
 use std::sync::OnceLock;
@@ -308,6 +309,32 @@ fn planted_recordings_are_replayed() {
     }
 }
 
+/// A line for each record between the header and the last line, which has the other totals.
+#[test]
+fn listings_and_totals_agree() {
+    let mut accepted = 0;
+    for named in cases() {
+        let Listing {
+            text,
+            totals,
+            refusal,
+        } = replay(&named.case);
+        if refusal.is_some() {
+            assert_eq!(totals, Totals::default());
+            continue;
+        }
+        accepted += 1;
+        let lines: Vec<&str> = text.lines().collect();
+        assert_eq!(lines.len(), totals.records as usize + 2);
+        let last = format!(
+            "rows {} scans {} live {} exercised {}",
+            totals.rows, totals.scans, totals.live, totals.exercised
+        );
+        assert_eq!(lines.last(), Some(&last.as_str()));
+    }
+    assert!(accepted >= 500, "{accepted} accepted");
+}
+
 /// The changes of state that the rules allow: to Tripped and to Normal from every other
 /// state (rules 1 to 3), and rules 4 to 9.
 const CHANGES: [(&str, &str); 17] = [
@@ -439,4 +466,142 @@ fn one_row(phase: Phase, timer: u32, bits: u16, hold: u32) -> ((Phase, u32), u32
     let run = run_row(&settings, &state, &Row { hold, words });
     let slot = run.state.slots[0];
     ((slot.phase, slot.timer), run.changes.len() as u32)
+}
+
+// ---- Listings that end about the end of a buffer ----
+
+/// How a listing goes through a buffer that is written before a piece (a row's lines, the
+/// last line) for which fewer than 1,568 bytes are left.
+struct Printed {
+    /// Bytes before the last line.
+    length: usize,
+    /// The fill at every write before the last line's own.
+    fills: Vec<usize>,
+    /// The fill before the last line, and before the last row.
+    before_last_line: usize,
+    before_last_row: usize,
+}
+
+impl Printed {
+    /// How often the buffer was written before the last row's lines, or the last line, came.
+    fn writes_by(&self, fill: usize, edge: usize) -> usize {
+        self.fills.len() - usize::from(fill > edge)
+    }
+}
+
+/// `None` for what the reader refuses.
+fn printed(file: &[u8], buffer: usize) -> Option<Printed> {
+    let edge = buffer - 1_568;
+    let recording = read(file).ok()?;
+    let text = replay(file).text;
+    let mut lines = text.split_inclusive('\n').map(str::len);
+    let mut state = State::default();
+    let mut printed = Printed {
+        length: lines.next()?,
+        fills: Vec::new(),
+        before_last_line: 0,
+        before_last_row: 0,
+    };
+    let mut fill = printed.length;
+    for row in &recording.rows {
+        if state.scans_done + row.hold > 1_000_000_000 {
+            break;
+        }
+        printed.before_last_row = fill;
+        let run = run_row(&recording.settings, &state, row);
+        let taken: usize = lines.by_ref().take(run.changes.len()).sum();
+        if fill > edge {
+            printed.fills.push(fill);
+            fill = 0;
+        }
+        fill += taken;
+        printed.length += taken;
+        state = run.state;
+    }
+    assert!(lines.next().is_some() && lines.next().is_none());
+    printed.before_last_line = fill;
+    if fill > edge {
+        printed.fills.push(fill);
+    }
+    Some(printed)
+}
+
+/// The stored stream, for the buffer of 4,096 bytes that its program has.
+#[test]
+fn stored_listings_end_about_the_end_of_a_buffer() {
+    let edge = 4_096 - 1_568;
+    let files = replay_cases(1, 500);
+    let all: Vec<Printed> = files
+        .iter()
+        .filter_map(|named| printed(&named.case, 4_096))
+        .collect();
+    for writes in 0..3 {
+        // the last line fits up to the edge; past it the buffer is written first
+        let ends: BTreeSet<usize> = all
+            .iter()
+            .filter(|one| one.writes_by(one.before_last_line, edge) == writes)
+            .map(|one| one.before_last_line)
+            .collect();
+        for fill in [edge - 1, edge, edge + 1] {
+            assert!(ends.contains(&fill), "{fill} after {writes} writes");
+        }
+        // and so does the last row, however many lines it has
+        let ends: BTreeSet<usize> = all
+            .iter()
+            .filter(|one| one.before_last_line != one.before_last_row)
+            .map(|one| one.before_last_row)
+            .collect();
+        for fill in [edge - 1, edge, edge + 1] {
+            assert!(ends.contains(&fill), "{fill} before the last row");
+        }
+    }
+    let steps: BTreeSet<usize> = all
+        .iter()
+        .flat_map(|one| &one.fills)
+        .map(|fill| (fill - edge) / 64)
+        .collect();
+    assert_eq!(steps, BTreeSet::from_iter(0..19));
+    let lengths: BTreeSet<usize> = all.iter().map(|one| one.length).collect();
+    for length in (edge - 64..4_096 + 64).step_by(48) {
+        assert!(lengths.contains(&length), "{length} bytes");
+    }
+    let nines: BTreeSet<bool> = files
+        .iter()
+        .filter(|named| named.planted.as_deref() == Some(&[9]))
+        .map(|named| printed(&named.case, 4_096).expect("read").before_last_line > edge)
+        .collect();
+    assert_eq!(nines, BTreeSet::from([false, true]));
+}
+
+/// The fresh ones, for the buffer of 65,536 bytes of the replay program.
+#[test]
+fn fresh_listings_end_about_the_end_of_a_buffer() {
+    let edge = 65_536 - 1_568;
+    let mut seen = BTreeSet::new();
+    let mut random = Random::new(3);
+    for _ in 0..60 {
+        let ending = random_ending(&mut random, 65_536);
+        let file = filled_file(&mut random, 65_536, &ending);
+        let one = printed(&file, 65_536).expect("read");
+        let fill = match ending.many {
+            Some(_) => one.before_last_row,
+            None => one.before_last_line,
+        };
+        assert_eq!(fill, ending.fill, "{ending:?}");
+        let last_row_writes = ending.many.is_some() && fill > edge;
+        let writes = ending.writes + usize::from(last_row_writes);
+        assert_eq!(one.writes_by(one.before_last_line, edge), writes);
+        seen.insert((ending.writes, ending.many, one.before_last_line > edge));
+    }
+    for writes in 0..3 {
+        for (many, first) in [
+            (None, false),
+            (None, true),
+            (Some(1), false),
+            (Some(1), true),
+            (Some(3), true),
+        ] {
+            assert!(seen.contains(&(writes, many, first)), "{seen:?}");
+        }
+    }
 }
