@@ -46,7 +46,7 @@ fn quiets(n: u32, board: &[u32; 64], plan: Plan, w: Asked, p: Planes) -> u32
     ensures { λ r. ⌜ r ≡ quietsBy n (plan .count) (plan .period) w p (timersIn (now (board .entry))) ⌝ }
 {
     if n == 0 {
-        return 0;
+        return n;
     }
     let due = cells::due_of(board, plan, p.delayed);
     let next = planes::planes_after(w, due, p);
