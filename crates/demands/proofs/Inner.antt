@@ -16,6 +16,9 @@ use Rattle.bits.proofs.put64.Reads as bits·put64
 use Rattle.bits.proofs.copy_front.Reads as bits·copy-front
 use Rattle.bits.proofs.put_text.Reads as bits·put-text
 use Rattle.bits.proofs.put_decimal.Reads as bits·put-decimal
+use Rattle.rules.proofs.state_of.Reads as rules·state-of
+use Rattle.rules.proofs.States.{code-injective}
+use Rattle.effects.proofs.Records.{one-event}
 use Rattle.effects.proofs.event_at.Reads as effects·event-at
 use Rattle.effects.proofs.put_record.Reads as effects·put-record
 use Rattle.layout.proofs.row_at.Reads as layout·row-at
@@ -26,6 +29,7 @@ use Rattle.layout.proofs.width_of.Reads as layout·width-of
 use Rattle.layout.proofs.number_of.Reads as layout·number-of
 use Rattle.layout.proofs.count_ok.Reads as layout·count-ok
 use Rattle.layout.proofs.entry_number.Reads as layout·entry-number
+use Rattle.exactness.proofs.each_is_a_byte.Reads as exactness·each-is-a-byte
 use Rattle.planes.proofs.planes_after.Reads as planes·planes-after
 use Rattle.planes.proofs.changed.Reads as planes·changed
 use Rattle.planes.proofs.code_at.Reads as planes·code-at
@@ -51,6 +55,7 @@ use Rattle.block.proofs.exercised_scans.Reads as block·exercised-scans
 use Rattle.block.proofs.run_right.Reads as block·run-right
 use Rattle.block.proofs.run_kept.Reads as block·run-kept
 use Rattle.rerun.proofs.stop_of.Reads as rerun·stop-of
+use Rattle.rerun.proofs.refused.Reads as rerun·refused
 use Rattle.rerun.proofs.answer_of.Reads as rerun·answer-of
 use Rattle.rerun.proofs.begin.Reads as rerun·begin
 use Rattle.rerun.proofs.row.Reads as rerun·row
@@ -112,8 +117,11 @@ bits-put-decimal κs = by-equations (bits·put-decimal.Learnt κs) (λ e. now (e
 
 -- ## Event records (`effects`)
 
+pub rules-state-of : (κs : Lfts 0) → Unique (rules·state-of.Learnt κs) none
+rules-state-of κs = λ a r q e f h k. (code-injective r q (h ∙ sym k), refl)
+
 pub effects-event-at : (κs : Lfts 1) → Unique (effects·event-at.Learnt κs) none
-effects-event-at κs = by-equation (effects·event-at.Learnt κs) _ (λ a r e h. h)
+effects-event-at κs = λ a r q e f h k. (one-event (now (a .0)) (a .1 .0) r q h k, refl)
 
 pub effects-put-record : (κs : Lfts 1) → Unique (effects·put-record.Learnt κs) (λ e. now (e .0))
 effects-put-record κs = by-equations (effects·put-record.Learnt κs) (λ e. now (e .0)) (λ a. tt) _ (λ a r e h. (refl, h))
@@ -143,6 +151,11 @@ layout-count-ok κs = by-equation (layout·count-ok.Learnt κs) _ (λ a r e h. h
 
 pub layout-entry-number : (κs : Lfts 1) → Unique (layout·entry-number.Learnt κs) none
 layout-entry-number κs = by-equation (layout·entry-number.Learnt κs) _ (λ a r e h. h)
+
+-- ## Laws of recordings (`exactness`)
+
+pub exactness-each-is-a-byte : (κs : Lfts 1) → Unique (exactness·each-is-a-byte.Learnt κs) none
+exactness-each-is-a-byte κs = by-equation (exactness·each-is-a-byte.Learnt κs) (λ a. tt) (λ a r e h. refl)
 
 -- ## The words of effects (`planes`)
 
@@ -279,6 +292,9 @@ rerun-go κs a r q e f h k =
 pub rerun-stop-of : (κs : Lfts 1) → Unique (rerun·stop-of.Learnt κs) none
 rerun-stop-of κs = by-equation (rerun·stop-of.Learnt κs) _ (λ a r e h. h)
 
+pub rerun-refused : (κs : Lfts 0) → Unique (rerun·refused.Learnt κs) none
+rerun-refused κs = by-equation (rerun·refused.Learnt κs) _ (λ a r e h. h)
+
 pub rerun-answer-of : (κs : Lfts 0) → Unique (rerun·answer-of.Learnt κs) none
 rerun-answer-of κs = by-equation (rerun·answer-of.Learnt κs) _ (λ a r e h. h)
 
@@ -297,8 +313,12 @@ listing-row κs a r q e f h k =
 pub text-put-header : (κs : Lfts 1) → Unique (text·put-header.Learnt κs) (λ e. now (e .0))
 text-put-header κs = by-equations (text·put-header.Learnt κs) (λ e. now (e .0)) _ _ (λ a r e h. h .0)
 
-pub text-put-lines : (κs : Lfts 2) → Unique (text·put-lines.Learnt κs) (λ e. now (e .0))
-text-put-lines κs = by-equations (text·put-lines.Learnt κs) (λ e. now (e .0)) _ _ (λ a r e h. h .0)
+pub text-put-lines : (κs : Lfts 2) → UniqueWhereAsked (text·put-lines.Asked κs) (text·put-lines.Learnt κs) (λ e. now (e .0))
+text-put-lines κs = λ a r q e f asked h k.
+    let g = asked .1 in
+    let x = h .0 (g .0) (g .1) (g .2) in
+    let y = k .0 (g .0) (g .1) (g .2) in
+    (x .0 ∙ sym (y .0), x .1 ∙ sym (y .1))
 
 pub text-put-last : (κs : Lfts 1) → Unique (text·put-last.Learnt κs) (λ e. now (e .0))
 text-put-last κs = by-equations (text·put-last.Learnt κs) (λ e. now (e .0)) _ _ (λ a r e h. h .0)

@@ -1,7 +1,7 @@
 pub mod Order
 pub mod Back
 pub mod Scans
-pub mod Demands
 pub mod Determined
 pub mod Unique
 pub mod Inner
+pub mod Demands

@@ -11,14 +11,17 @@ Unique {A} {R} {E} allows left = (a : A) (r q : R) (e f : E) → allows a r e �
 abbrev pub UniqueWhereAsked : {A R E B : Type 0} → (asked : A → Type 0) (allows : A → R → E → Type 0) (left : E → B) → Type 0
 UniqueWhereAsked {A} {R} {E} asked allows left = (a : A) (r q : R) (e f : E) → asked a → allows a r e → allows a q f → (r ≡ q) × (left e ≡ left f)
 
--- an entry point's contract: any input gets an answer, and no other
-pub record OneAnswer {A R E B : Type 0} (asked : A → Type 0) (allows : A → R → E → Type 0) (left : E → B) : Type 0 where
+-- an entry point's contract: any input gets an answer, this result, and this is left of what was lent
+pub record Gives {A R E B : Type 0} (asked : A → Type 0) (allows : A → R → E → Type 0) (result : A → R) (left : E → B) (leaves : A → B) : Type 0 where
   pub nothing-asked : (a : A) → asked a
-  pub unique : Unique allows left
+  pub says : (a : A) (r : R) (e : E) → allows a r e → (r ≡ result a) × (left e ≡ leaves a)
 
 -- nothing was lent to be written
 abbrev pub none : {E : Type 0} → E → Unit {0}
 none e = tt
+
+abbrev pub Returns : {A R E : Type 0} (asked : A → Type 0) (allows : A → R → E → Type 0) (result : A → R) → Type 0
+Returns asked allows result = Gives asked allows result none none
 
 -- two things were lent to be written
 abbrev pub both : {E B C : Type 0} → (E → B) → (E → C) → E → B × C

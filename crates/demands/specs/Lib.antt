@@ -1,3 +1,6 @@
+pub mod Contracts
+pub mod Answers
 pub mod Order
 pub mod Back
-pub mod Contracts
+pub mod Library
+pub mod Demands
