@@ -1,11 +1,13 @@
 -- What a stroke starts with, at a state: it shows the state, and holds what the settings give.
 use mathlib.Core.Path.{_≡_, refl, ap, sym, _∙_}
+use mathlib.Core.Bool.{true}
 use mathlib.Core.List.{List, _++_}
 use Prim.Native.Nat.{ℕ, _+_, _*_, _≤_}
 use native.Mathlib.Omega.{arith}
 use lib.ListN.{drop, getD, length, replicate}
 use lib.Seq.{sets, length-sets}
 use Rattle.bits.specs.Lists.{tabulate}
+use Rattle.bits.specs.Words.{wordOf}
 use Rattle.bits.proofs.Lists.{length-tabulate}
 use Rattle.rules.specs.declared.Slot.{Slot}
 use Rattle.rules.specs.Rules.{noSlot}
@@ -16,6 +18,8 @@ use Rattle.cells.specs.Array.{part, partLength, arrayLength, associationsAt, de
 use Rattle.planes.specs.Planes.{planesOf}
 use Rattle.boards.specs.Table.{Table, padded, tableOf, slotsOf}
 use Rattle.boards.specs.Board.{Board}
+use Rattle.boards.proofs.Step.{table, table-path}
+use Rattle.boards.proofs.Fresh.{trippedAlone, fresh-table}
 use Rattle.engine.specs.Marks.{boardAt}
 use Rattle.cells.specs.Loaded.{loadedInto}
 use Rattle.wiring.specs.Wiring.{wiredInto, planOf}
@@ -24,6 +28,7 @@ use Rattle.wiring.proofs.Wired.{wired-long, wired-past, wired-associations, wir
 use Rattle.settings.specs.declared.Row.{Row}
 use Rattle.settings.specs.declared.Settings.{Settings}
 use Rattle.block.specs.declared.State.{State}
+use Rattle.block.specs.State.{fresh}
 use Rattle.block.specs.Scan.{inputNumber}
 use Rattle.block.specs.Held.{run}
 use Rattle.block.specs.Run.{Loaded, reachedBy, keptState, LoadedAs, Runs}
@@ -74,10 +79,7 @@ module _ (n : ℕ) (xs : List Slot) (array : List ℕ) (few : n ≤ partLength) 
 
 -- ## At a state
 
-abbrev table : Planes → (timers firsts : List ℕ) → Table
-table p t f = record { planes = p; timers = t; firsts = f }
-
-module _ (st : Settings) (x : State) (few : st .count ≤ 16) where
+module _ (st : Settings) (few : st .count ≤ 16) where
   abbrev wired : List ℕ
   wired = wiredInto st none
 
@@ -93,11 +95,11 @@ module _ (st : Settings) (x : State) (few : st .count ≤ 16) where
   no-firsts = wired-past st none firstsAt (omega arith)
 
   -- the code's answer
-  pub loaded : {p : Planes} {array : List ℕ} → p ≡ planesOf (st .count) (λ i. getD (x .slots) i noSlot .state)
+  pub loaded : (x : State) {p : Planes} {array : List ℕ} → p ≡ planesOf (st .count) (λ i. getD (x .slots) i noSlot .state)
       → array ≡ loadedInto (st .count) (x .slots) wired
       → LoadedAs st x (record { mark = record { «scans_done» = x .«scans_done»; next = x .next; at = 0; live = 0; planes = p }; board = array })
   unfolding tableOf
-  loaded {p} {array} ep ea =
+  loaded x {p} {array} ep ea =
       let n = st .count in
       let et = ap timersIn ea ∙ loaded-timers n (x .slots) wired few long no-timers in
       let ef = ap firstsIn ea ∙ loaded-firsts n (x .slots) wired few long no-firsts in
@@ -106,6 +108,18 @@ module _ (st : Settings) (x : State) (few : st .count ≤ 16) where
         associations-are = ap associationsIn ea ∙ loaded-before n (x .slots) wired few long associationsAt (omega arith) ∙ wired-associations st none refl;
         delays-are = ap delaysIn ea ∙ loaded-before n (x .slots) wired few long delaysAt (omega arith) ∙ wired-delays st none refl;
         long = ap length ea ∙ loaded-long n (x .slots) wired few long;
+      }
+
+  -- and where no slots are put in, at a fresh state
+  pub loaded-fresh : {all : ℕ} {array : List ℕ} → all ≡ wordOf (λ i. true) (st .count) → array ≡ wired
+      → LoadedAs st fresh (record { mark = record { «scans_done» = 0; next = 0; at = 0; live = 0; planes = trippedAlone all }; board = array })
+  loaded-fresh {all} {array} e ea =
+      let is = table-path (ap trippedAlone e) (ap timersIn ea ∙ no-timers) (ap firstsIn ea ∙ no-firsts) ∙ sym (fresh-table (st .count) few) in
+      record {
+        board-is = λ i. record { «scans_done» = 0; next = 0; at = 0; live = 0; table = is i };
+        associations-are = ap associationsIn ea ∙ wired-associations st none refl;
+        delays-are = ap delaysIn ea ∙ wired-delays st none refl;
+        long = ap length ea ∙ long;
       }
 
 -- ## What it shows

@@ -3,11 +3,12 @@
 // It rests on `settings` for what is right and on `wiring` for the run. How a run is made (`run_right`, `run_kept` and all below
 // them) may change without moving a contract; the order of the numbers and what a state keeps may not.
 ghost use mathlib.Core.Path.{_≡_};
+ghost use mathlib.Core.Bool.{true};
 ghost use Prim.Native.Nat.{_*_, _≤_, _<_};
 ghost use lib.ListN.{length, replicate};
 ghost use lib.Seq.{sets};
 ghost use Rattle.bits.specs.Lists.{allFrom};
-ghost use Rattle.bits.specs.Words.{one};
+ghost use Rattle.bits.specs.Words.{one, wordOf};
 ghost use Rattle.effects.specs.Records.{recordLength, bytes};
 ghost use Rattle.rules.specs.Limits.{mostScans};
 ghost use Rattle.block.specs.State.{timerRight, firstRight, slotRight, slotUnused, slotOk, stateNumber, fresh as freshState};
@@ -19,6 +20,7 @@ ghost use Rattle.boards.specs.Table.{Narrow};
 ghost use Rattle.block.specs.Run.{LoadedAs, reachedBy, Runnable, RunsBy, scannedBy};
 use cells::Plan;
 use engine::Mark;
+use planes::Planes;
 use rules::EffectState;
 use rules::Slot;
 use settings::Effect;
@@ -205,6 +207,28 @@ pub fn load(board: &mut [u32; 64], st: Settings, x: State) -> Mark
         at: 0,
         live: 0,
         planes,
+    }
+}
+
+// And at a fresh state, from the word of all effects alone: each of them is Tripped, and the array has neither timers nor first-outs.
+pub fn load_fresh(board: &mut [u32; 64], st: Settings, all: u16) -> Mark
+    requires { ⌜ (st .count ≤ 16) × (now board ≡ replicate arrayLength 0) × (all ≡ wordOf (λ i. true) (st .count)) ⌝ }
+    ensures { λ r. ⌜ LoadedAs st freshState (record { mark = r; board = now (board .exit) }) ⌝ }
+{
+    wiring::wire(board, st);
+    Mark {
+        scans_done: 0,
+        next: 0,
+        at: 0,
+        live: 0,
+        planes: Planes {
+            tripped: all,
+            wait_reset: 0,
+            ready: 0,
+            wait_start: 0,
+            normal: 0,
+            delayed: 0,
+        },
     }
 }
 

@@ -1,5 +1,6 @@
 pub mod Bits
 pub mod Due
+pub mod Fresh
 pub mod Going
 pub mod Low
 pub mod Picked

@@ -11,7 +11,6 @@ ghost use Rattle.recording.specs.declared.Answer.the-variants.{Accepted};
 ghost use Rattle.recording.specs.Reader.{reading};
 ghost use Rattle.rerun.specs.Replay.{refusal, replay as wholeReplay, answered};
 ghost use Rattle.rerun.specs.Turn.{Begins, RowReady, RowDone, RowsReady, RowsDone, SmallSums, placeOf, runAfter, countsIn, answerOf, stopOf};
-use block::State;
 use cells::Plan;
 use engine::Mark;
 use recording::Answer;
@@ -65,8 +64,8 @@ pub fn begin(st: Settings, rows: u16, first: usize, width: usize, board: &mut [u
     requires { ⌜ (st .count ≤ 16) × (now board ≡ replicate arrayLength 0) ⌝ }
     ensures { λ r. ⌜ Begins st rows first width (record { run = r; board = now (board .exit) }) ⌝ }
 {
-    let mark = block::load(board, st, State::fresh());
     let plan = wiring::plan_of(st);
+    let mark = block::load_fresh(board, st, plan.all);
     Run {
         plan,
         mark,

@@ -11,7 +11,7 @@ returns : tie.Need-returns
 returns c =
     let w = c .before .before .before in
     let s = w .before .before .before in
-    loaded (s .args .st) (s .args .x) (s .pre .0) (c .load .ensures .0)
+    loaded (s .args .st) (s .pre .0) (s .args .x) (c .load .ensures .0)
     (c .load .ensures .1 ∙ ap (loadedInto (s .args .st .count) (s .args .x .slots)) (w .wire .ensures ∙ ap (wiredInto (s .args .st)) (s .pre .1)))
 
 pub load-spec : {M : Type 1} → statement M
