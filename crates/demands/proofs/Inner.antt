@@ -1,6 +1,8 @@
 -- The inner functions' contracts allow one answer only, where what they ask is met (`Unique` has the entry points, and says what
 -- `Learnt` is). Document 01, "What each contract has to exclude".
 use mathlib.Core.Path.{_≡_, refl, sym, ap, ap₂, _∙_}
+use mathlib.Core.List.{List}
+use Prim.Native.Nat.{ℕ}
 use contract.Lifetimes.{Lfts}
 use denote.Ref.{now}
 use Rattle.bits.proofs.bit.Reads as bits·bit
@@ -50,7 +52,13 @@ use Rattle.engine.proofs.stroke.Reads as engine·stroke
 use Rattle.wiring.proofs.wire.Reads as wiring·wire
 use Rattle.wiring.proofs.plan_of.Reads as wiring·plan-of
 use Rattle.wiring.proofs.stroke.Reads as wiring·stroke
+use Rattle.settings.specs.declared.Settings.{Settings}
+use Rattle.engine.specs.declared.Mark.{Mark}
+use Rattle.block.specs.declared.State.{State}
+use Rattle.block.specs.State.{fresh}
+use Rattle.block.specs.Run.{LoadedAs}
 use Rattle.block.proofs.load.Reads as block·load
+use Rattle.block.proofs.load_fresh.Reads as block·load-fresh
 use Rattle.block.proofs.exercised_scans.Reads as block·exercised-scans
 use Rattle.block.proofs.run_right.Reads as block·run-right
 use Rattle.block.proofs.run_kept.Reads as block·run-kept
@@ -240,12 +248,16 @@ wiring-stroke κs a r q e f asked h k =
 
 -- ## A held run without its checks (`block`)
 
+one-load : (st : Settings) (x : State) (r q : Mark) (b c : List ℕ) → LoadedAs st x (record { mark = r; board = b }) → LoadedAs st x (record { mark = q; board = c }) → (r ≡ q) × (b ≡ c)
+one-load st x r q b c h k =
+    let shown = h .board-is ∙ sym (k .board-is) in
+    (same-mark b c shown, same-array (h .long) (k .long) shown (h .associations-are ∙ sym (k .associations-are)) (h .delays-are ∙ sym (k .delays-are)))
+
 pub block-load : (κs : Lfts 1) → Unique (block·load.Learnt κs) (λ e. now (e .0))
-block-load κs a r q e f h k =
-    let shown = h .board-is ∙ sym (k .board-is) in (
-      same-mark (now (e .0)) (now (f .0)) shown,
-      same-array (h .long) (k .long) shown (h .associations-are ∙ sym (k .associations-are)) (h .delays-are ∙ sym (k .delays-are)),
-    )
+block-load κs a r q e f h k = one-load (a .1 .0) (a .1 .1 .0) r q (now (e .0)) (now (f .0)) h k
+
+pub block-load-fresh : (κs : Lfts 1) → Unique (block·load-fresh.Learnt κs) (λ e. now (e .0))
+block-load-fresh κs a r q e f h k = one-load (a .1 .0) fresh r q (now (e .0)) (now (f .0)) h k
 
 pub block-exercised-scans : (κs : Lfts 0) → Unique (block·exercised-scans.Learnt κs) none
 block-exercised-scans κs = by-equation (block·exercised-scans.Learnt κs) _ (λ a r e h. h)
