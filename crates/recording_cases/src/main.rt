@@ -230,6 +230,7 @@ fn print_replay(s: &[u8]) -> bool {
 
 // Prints what answers a recording; false if nothing can be written.
 fn answer(s: &[u8]) -> bool {
+    exactness::each_is_a_byte(s);
     let reading = recording::read(s);
     let st = reading.settings;
     let a = reading.answer;
