@@ -47,8 +47,9 @@ use Rattle.walk.proofs.Theorems as walk
 use Rattle.rerun.specs.declared.Replayed.{Replayed}
 use Rattle.rerun.specs.Replay.{Outcome, counts, refusal as noCounts, replay}
 use Rattle.rerun.proofs.Theorems as rerun
-use Rattle.embed.specs.Crossing.{numbers, fitted, checked, crossing, replayNumber, totalsOrRefusal}
-use Rattle.embed.proofs.Stores.{length-numbers, fits, stays}
+use Rattle.numbers.specs.Numbers.{numbers, fitted, crossing}
+use Rattle.embed.specs.Crossing.{checked, replayNumber, totalsOrRefusal}
+use Rattle.numbers.proofs.Stores.{length-numbers, fits, stays}
 use Rattle.embed.proofs.Theorems as embed
 use Rattle.demands.specs.Order.{InOrder, heldCases, scanCases}
 use Rattle.demands.specs.Library.{CheckInOrder, ReplayInOrder}

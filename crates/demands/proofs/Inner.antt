@@ -69,6 +69,9 @@ use Rattle.rerun.proofs.begin.Reads as rerun·begin
 use Rattle.rerun.proofs.row.Reads as rerun·row
 use Rattle.rerun.proofs.go.Reads as rerun·go
 use Rattle.listing.proofs.row.Reads as listing·row
+use Rattle.numbers.proofs.put_check.Reads as numbers·put-check
+use Rattle.numbers.proofs.put_totals.Reads as numbers·put-totals
+use Rattle.numbers.proofs.refuse.Reads as numbers·refuse
 use Rattle.text.proofs.put_header.Reads as text·put-header
 use Rattle.text.proofs.put_lines.Reads as text·put-lines
 use Rattle.text.proofs.put_last.Reads as text·put-last
@@ -319,6 +322,17 @@ listing-row κs a r q e f h k =
       same-printed (h .full-is ∙ sym (k .full-is)) (h .at-is ∙ sym (k .at-is)) turn,
       lent (going-array (h .going) (k .going) rows) (h .text ∙ sym (k .text)),
     )
+
+-- ## The numbers that cross (`numbers`)
+
+pub numbers-put-check : (κs : Lfts 1) → Unique (numbers·put-check.Learnt κs) (λ e. now (e .0))
+numbers-put-check κs = by-equations (numbers·put-check.Learnt κs) (λ e. now (e .0)) _ _ (λ a r e h. h)
+
+pub numbers-put-totals : (κs : Lfts 1) → Unique (numbers·put-totals.Learnt κs) (λ e. now (e .0))
+numbers-put-totals κs = by-equations (numbers·put-totals.Learnt κs) (λ e. now (e .0)) (λ a. tt) _ (λ a r e h. (refl, h))
+
+pub numbers-refuse : (κs : Lfts 1) → Unique (numbers·refuse.Learnt κs) (λ e. now (e .0))
+numbers-refuse κs = by-equations (numbers·refuse.Learnt κs) (λ e. now (e .0)) _ _ (λ a r e h. h)
 
 -- ## Lines of text (`text`)
 

@@ -1,12 +1,9 @@
 -- What crosses to a caller of the library, and when. The numbers 1 to 7, 9 and 10 are document 01's, "Refusal numbers", and
 -- 10 comes last. A refusal gives its number, its place and zeros, and no record. Records are as in "The rules of one scan".
 use Prim.Native.Nat.{ℕ, _*_}
-use mathlib.Core.Bool.{cond}
-use mathlib.Core.List.{List, [], _∷_, flatMap}
-use lib.Dec.{leb}
+use mathlib.Core.List.{List, [], _∷_}
 use lib.ListN.{length}
 use lib.Seq.{sets}
-use Rattle.bits.specs.Numbers.{digits}
 use Rattle.effects.specs.Records.{recordLength, bytes}
 use Rattle.settings.specs.Refusals.{orElse, granted, roomNumber}
 use Rattle.recording.specs.declared.Answer.{Answer}
@@ -14,24 +11,7 @@ use Rattle.recording.specs.Answers.{number, place, rowCount}
 use Rattle.recording.specs.Reader.{reading}
 use Rattle.rerun.specs.declared.Replayed.{Replayed}
 use Rattle.rerun.specs.Replay.{replay, counts, refusal}
-
--- every number that crosses is 8 bytes, big-endian
-abbrev pub numberBytes : ℕ
-numberBytes = 8
-
-abbrev pub numbers : List ℕ → List ℕ
-numbers vs = flatMap (digits numberBytes) vs
-
--- the answer to a check is three of them, and totals are seven
-abbrev pub checkBytes : ℕ
-checkBytes = numberBytes * 3
-
-abbrev pub totalsBytes : ℕ
-totalsBytes = numberBytes * 7
-
--- a piece at the front of the lent bytes, if it fits; else they stay as they were
-abbrev pub fitted : List ℕ → List ℕ → List ℕ
-fitted piece out = cond (leb (length piece) (length out)) (sets out 0 piece) out
+use Rattle.numbers.specs.Numbers.{checkBytes, totalsBytes, numbers, fitted, crossing}
 
 -- ## A check: what the reader answers
 
@@ -46,10 +26,6 @@ abbrev pub checkInto : List ℕ → List ℕ → List ℕ
 checkInto s out = fitted (numbers (checked (reading s .answer))) out
 
 -- ## A replay, from a fresh state
-
--- records, rows, scans, live, exercised, number, place
-abbrev pub crossing : Replayed → List ℕ
-crossing r = r .records ∷ r .rows ∷ r .scans ∷ r .live ∷ r .exercised ∷ r .number ∷ r .place ∷ []
 
 -- the most bytes of records that an effect has in a row: two records
 abbrev pub mostEffectBytes : ℕ

@@ -12,9 +12,10 @@ use Rattle.recording.specs.Answers.{number}
 use Rattle.rerun.specs.Replay.{replay, counts}
 use Rattle.worked.specs.Recorded.{session, sessionEvents}
 use Rattle.worked.proofs.Recorded.{the-session-is-read, the-session}
-use Rattle.embed.specs.Crossing.{checkBytes, totalsBytes, numbers, fitted, checked, checkNumber, checkInto, crossing, replayNumber, recordsInto, totalsInto}
+use Rattle.numbers.specs.Numbers.{checkBytes, totalsBytes, numbers, fitted, crossing}
+use Rattle.embed.specs.Crossing.{checked, checkNumber, checkInto, replayNumber, recordsInto, totalsInto}
 use Rattle.worked.specs.Crossed.{sessionRecords, sessionTotals, sessionAnswer}
-use Rattle.embed.proofs.Stores.{fits}
+use Rattle.numbers.proofs.Stores.{fits}
 use Rattle.embed.proofs.Answers.{crosses}
 use Rattle.embed.proofs.Theorems.{check-with-room, nothing-refused}
 

@@ -10,7 +10,8 @@ use Rattle.recording.specs.declared.Answer.{Answer}
 use Rattle.recording.specs.declared.Reading.{Reading}
 use Rattle.recording.specs.Answers.{number}
 use Rattle.recording.specs.Reader.{reading}
-use Rattle.embed.specs.Crossing.{checkBytes, numbers, fitted, checked}
+use Rattle.numbers.specs.Numbers.{checkBytes, numbers, fitted}
+use Rattle.embed.specs.Crossing.{checked}
 use Rattle.embed.proofs.pohandira_check.Statement.{statement}
 use Rattle.embed.proofs.pohandira_check.Tie as tie
 

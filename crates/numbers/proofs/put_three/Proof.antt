@@ -1,12 +1,12 @@
--- `embed::put_three` meets its contract: one number behind two.
+-- `numbers::put_three` meets its contract: one number behind two.
 use mathlib.Core.Path.{refl, ap, _∙_}
 use mathlib.Core.List.{[], _∷_}
 use denote.Ref.{now}
 use lib.Seq.{sets}
 use borrow.Author.Needs.{needs}
-use Rattle.embed.proofs.Stores.{one-number, numbers-then}
-use Rattle.embed.proofs.put_three.Statement.{statement}
-use Rattle.embed.proofs.put_three.Tie as tie
+use Rattle.numbers.proofs.Stores.{one-number, numbers-then}
+use Rattle.numbers.proofs.put_three.Statement.{statement}
+use Rattle.numbers.proofs.put_three.Tie as tie
 
 returns : tie.Need-returns
 returns c =

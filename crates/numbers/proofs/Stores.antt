@@ -8,7 +8,7 @@ use lib.Seq.{sets}
 use Rattle.bits.specs.Numbers.{digits}
 use Rattle.bits.proofs.Lists.{flatMap-append, length-flatMap}
 use Rattle.bits.proofs.Numbers.{sets-append, length-digits}
-use Rattle.embed.specs.Crossing.{numberBytes, numbers, fitted}
+use Rattle.numbers.specs.Numbers.{numberBytes, numbers, fitted}
 
 -- ## Numbers of 8 bytes
 

@@ -1,8 +1,8 @@
--- `embed::refuse` meets its contract: what is put is the refusal.
+-- `numbers::refuse` meets its contract: what is put is the refusal.
 use mathlib.Core.Path.{refl}
 use borrow.Author.Needs.{needs}
-use Rattle.embed.proofs.refuse.Statement.{statement}
-use Rattle.embed.proofs.refuse.Tie as tie
+use Rattle.numbers.proofs.refuse.Statement.{statement}
+use Rattle.numbers.proofs.refuse.Tie as tie
 
 returns : tie.Need-returns
 returns c = (refl, rw (c .before .before .before .refused .ensures) at (c .before .before .put-totals .ensures))

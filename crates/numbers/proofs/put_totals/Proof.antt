@@ -1,14 +1,14 @@
--- `embed::put_totals` meets its contract: seven numbers if they fit, else nothing.
+-- `numbers::put_totals` meets its contract: seven numbers if they fit, else nothing.
 use mathlib.Core.Path.{refl, _∙_}
 use mathlib.Core.List.{[], _∷_}
 use Prim.Native.Nat.{_*_}
 use native.Mathlib.Omega.{arith}
 use denote.Ref.{now}
 use borrow.Author.Needs.{needs}
-use Rattle.embed.specs.Crossing.{numberBytes, numbers, crossing}
-use Rattle.embed.proofs.Stores.{length-numbers, numbers-then, fits, stays}
-use Rattle.embed.proofs.put_totals.Statement.{statement}
-use Rattle.embed.proofs.put_totals.Tie as tie
+use Rattle.numbers.specs.Numbers.{numberBytes, numbers, crossing}
+use Rattle.numbers.proofs.Stores.{length-numbers, numbers-then, fits, stays}
+use Rattle.numbers.proofs.put_totals.Statement.{statement}
+use Rattle.numbers.proofs.put_totals.Tie as tie
 
 returns : tie.Need-returns
 returns c =

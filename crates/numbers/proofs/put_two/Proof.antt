@@ -1,12 +1,12 @@
--- `embed::put_two` meets its contract: one number behind another.
+-- `numbers::put_two` meets its contract: one number behind another.
 use mathlib.Core.Path.{refl, ap, _∙_}
 use mathlib.Core.List.{[], _∷_}
 use denote.Ref.{now}
 use lib.Seq.{sets}
 use borrow.Author.Needs.{needs}
-use Rattle.embed.proofs.Stores.{one-number, numbers-then}
-use Rattle.embed.proofs.put_two.Statement.{statement}
-use Rattle.embed.proofs.put_two.Tie as tie
+use Rattle.numbers.proofs.Stores.{one-number, numbers-then}
+use Rattle.numbers.proofs.put_two.Statement.{statement}
+use Rattle.numbers.proofs.put_two.Tie as tie
 
 returns : tie.Need-returns
 returns c =

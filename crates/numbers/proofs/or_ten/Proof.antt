@@ -1,8 +1,8 @@
--- `embed::or_ten` meets its contract.
+-- `numbers::or_ten` meets its contract.
 use mathlib.Core.Path.{refl}
 use Rattle.settings.proofs.Refusals.{or-else-first, or-else-next}
-use Rattle.embed.proofs.or_ten.Statement.{statement}
-use Rattle.embed.proofs.or_ten.Tie as tie
+use Rattle.numbers.proofs.or_ten.Statement.{statement}
+use Rattle.numbers.proofs.or_ten.Tie as tie
 
 returns : tie.Need-returns
 returns c = let n = c .before .args .number in or-else-first n 10 n refl (c .if1 .taken)

@@ -1,4 +1,4 @@
--- `embed::put_check` meets its contract: three numbers if they fit, else nothing and 10.
+-- `numbers::put_check` meets its contract: three numbers if they fit, else nothing and 10.
 use mathlib.Core.Path.{refl, sym, ap, _∙_}
 use mathlib.Core.List.{[], _∷_}
 use native.Mathlib.Omega.{arith}
@@ -7,10 +7,10 @@ use lib.ListN.{length}
 use borrow.Author.Needs.{needs}
 use Rattle.settings.specs.Refusals.{orElse}
 use Rattle.settings.proofs.Refusals.{room-enough, room-short, or-else-alone}
-use Rattle.embed.specs.Crossing.{checkBytes, numbers}
-use Rattle.embed.proofs.Stores.{length-numbers, fits, stays}
-use Rattle.embed.proofs.put_check.Statement.{statement}
-use Rattle.embed.proofs.put_check.Tie as tie
+use Rattle.numbers.specs.Numbers.{checkBytes, numbers}
+use Rattle.numbers.proofs.Stores.{length-numbers, fits, stays}
+use Rattle.numbers.proofs.put_check.Statement.{statement}
+use Rattle.numbers.proofs.put_check.Tie as tie
 
 returns : tie.Need-returns
 returns c =
