@@ -4,7 +4,8 @@
     examples/embedding/pohandira.py LIBRARY < RECORDING
 
 prints the listing of a recording (document 01, "One session, whole"). LIBRARY is a shared object that is made
-from the static library; README.md says how.
+from the static library; README.md says how. The exit status is 0; 1 if the recording is refused; 2 if the library or the
+recording could not be read or the listing could not be written.
 """
 
 import ctypes
@@ -79,20 +80,39 @@ class Library:
         return Replay([event(*fields) for fields in written], rows, scans, live, exercised)
 
 
+def listing(replay):
+    lines = ["seq scan effect from to first"]
+    lines += [" ".join(map(str, change)) for change in replay.events]
+    lines += [f"rows {replay.rows} scans {replay.scans} live {replay.live} exercised {replay.exercised}"]
+    return "\n".join(lines) + "\n"
+
+
+def answer(library, recording):
+    """What is printed, and the exit status."""
+    try:
+        return listing(library.replay(recording)), 0
+    except Refused as refused:
+        return f"{refused}\n", 1
+
+
 def main():
     if len(sys.argv) != 2:
         print("usage: pohandira.py LIBRARY < RECORDING", file=sys.stderr)
         return 2
+    at_work_on = sys.argv[1]
     try:
-        replay = Library(sys.argv[1]).replay(sys.stdin.buffer.read())
-    except Refused as refused:
-        print(refused)
-        return 1
-    print("seq scan effect from to first")
-    for change in replay.events:
-        print(*change)
-    print(f"rows {replay.rows} scans {replay.scans} live {replay.live} exercised {replay.exercised}")
-    return 0
+        library = Library(sys.argv[1])
+        at_work_on = "standard input"
+        with open(0, "rb", closefd=False) as given:
+            text, status = answer(library, given.read())
+        at_work_on = "standard output"
+        # print would only fill a buffer, which fails once more when Python ends.
+        with open(1, "w", closefd=False) as output:
+            output.write(text)
+    except OSError as error:
+        print(f"pohandira.py: {at_work_on}: {error.strerror or error}", file=sys.stderr)
+        return 2
+    return status
 
 
 if __name__ == "__main__":

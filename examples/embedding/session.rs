@@ -1,4 +1,5 @@
 //! Prints the listing of the recording on standard input (document 01, "One session, whole"), from Rust. README.md says how to link.
+//! The exit status is 0; 1 if the recording is refused; 2 if it could not be read or the listing could not be written.
 
 mod pohandira;
 
@@ -14,13 +15,33 @@ fn listing(replay: &pohandira::Replay) -> String {
     text + &format!("rows {rows} scans {scans} live {live} exercised {exercised}\n")
 }
 
-fn main() -> io::Result<ExitCode> {
+/// What failed, beside why.
+fn of(what: &str) -> impl Fn(io::Error) -> String + '_ {
+    move |error| format!("{what}: {error}")
+}
+
+/// Replays standard input; whether the recording was accepted.
+fn session() -> Result<bool, String> {
     let mut recording = Vec::new();
-    io::stdin().read_to_end(&mut recording)?;
-    let (text, code) = match pohandira::replay(&recording) {
-        Ok(replay) => (listing(&replay), ExitCode::SUCCESS),
-        Err(refused) => (format!("{refused}\n"), ExitCode::FAILURE),
+    io::stdin().read_to_end(&mut recording).map_err(of("standard input"))?;
+    let replayed = pohandira::replay(&recording);
+    let text = match &replayed {
+        Ok(replay) => listing(replay),
+        Err(refused) => format!("{refused}\n"),
     };
-    io::stdout().write_all(text.as_bytes())?;
-    Ok(code)
+    let mut output = io::stdout();
+    let written = output.write_all(text.as_bytes()).and_then(|()| output.flush());
+    written.map_err(of("standard output"))?;
+    Ok(replayed.is_ok())
+}
+
+fn main() -> ExitCode {
+    match session() {
+        Ok(true) => ExitCode::SUCCESS,
+        Ok(false) => ExitCode::from(1),
+        Err(message) => {
+            eprintln!("session: {message}");
+            ExitCode::from(2)
+        }
+    }
 }

@@ -9,4 +9,5 @@ int snprintf(char *to, size_t room, const char *format, ...);
 size_t fread(void *to, size_t size, size_t count, FILE *file);
 int fflush(FILE *file);
 int ferror(FILE *file);
+int fclose(FILE *file);
 #endif

@@ -5,4 +5,5 @@ void *memcpy(void *to, const void *from, size_t size);
 void *memset(void *place, int byte, size_t size);
 int memcmp(const void *left, const void *right, size_t size);
 int strcmp(const char *left, const char *right);
+char *strerror(int number);
 #endif
