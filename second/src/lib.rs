@@ -16,3 +16,4 @@ pub mod recording;
 pub mod replay;
 pub mod settings;
 pub mod show;
+pub mod show_file;

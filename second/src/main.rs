@@ -1,10 +1,13 @@
-//! `second answer|make|show KIND ...` and `second replay`: see `USAGE`.
+//! `second answer|make|show KIND ...`, `second replay` and `second show FILE`: see `USAGE`.
 
 use second::cases::{answer_next, Kind, Stream};
 use second::make::{filled_stream, stream_of};
 use second::make_filled::FILLED_BUFFERS;
 use second::replay::{replay, ENOUGH_BYTES};
 use second::show::show_next;
+use second::show_file::show_recording;
+use std::ffi::{OsStr, OsString};
+use std::fs::File;
 use std::io::{self, BufWriter, Read, Write};
 use std::process::ExitCode;
 use std::str::FromStr;
@@ -15,22 +18,34 @@ const USAGE: &str = "usage:
   second make scan|held|recording|writing|replay SEED COUNT > cases
   second fill BUFFER SEED COUNT > replay cases
   second show scan|held|recording|writing|replay < cases
-exit status: 0; 1 if the replayed recording was refused; 2 on bad usage, a bad stream, or
-failing input or output";
+  second show FILE > a recording in words; - is standard input, ./scan a file of that name
+exit status: 0; 1 if the recording that is replayed or shown is refused; 2 on bad usage, a bad
+stream, or failing input or output";
 
-/// At most `most` bytes of standard input; a read that fails is no end of data.
-fn input_up_to(most: usize) -> Result<Vec<u8>, String> {
+/// At most `most` bytes; a read that fails is no end of data.
+fn read_up_to(most: usize, from: impl Read) -> io::Result<Vec<u8>> {
     let mut bytes = Vec::new();
-    io::stdin()
-        .lock()
-        .take(most as u64)
-        .read_to_end(&mut bytes)
-        .map_err(|error| format!("reading standard input: {error}"))?;
+    from.take(most as u64).read_to_end(&mut bytes)?;
     Ok(bytes)
+}
+
+/// At most `most` bytes of standard input.
+fn input_up_to(most: usize) -> Result<Vec<u8>, String> {
+    read_up_to(most, io::stdin().lock()).map_err(|error| format!("reading standard input: {error}"))
 }
 
 fn input() -> Result<Vec<u8>, String> {
     input_up_to(usize::MAX)
+}
+
+/// What is needed of the recording in a file; `-` is standard input.
+fn recording_in(file: &OsStr) -> Result<Vec<u8>, String> {
+    if file == "-" {
+        return input_up_to(ENOUGH_BYTES);
+    }
+    File::open(file)
+        .and_then(|opened| read_up_to(ENOUGH_BYTES, opened))
+        .map_err(|error| format!("{}: {error}", file.to_string_lossy()))
 }
 
 fn written(result: io::Result<()>) -> Result<(), String> {
@@ -90,13 +105,30 @@ fn replay_input(out: &mut impl Write) -> Result<bool, String> {
     Ok(listing.refusal.is_none())
 }
 
+/// Shows a recording; whether it is accepted.
+fn show_recording_in(file: &OsStr, out: &mut impl Write) -> Result<bool, String> {
+    let shown = show_recording(&recording_in(file)?);
+    written(out.write_all(shown.text.as_bytes()))?;
+    Ok(!shown.refused)
+}
+
+/// Cases of a kind on standard input, or the recording in a file; false if that is refused.
+fn show_kind_or_file(word: &OsStr, out: &mut impl Write) -> Result<bool, String> {
+    match word.to_str().and_then(Kind::named) {
+        Some(kind) => show(kind, out).map(|()| true),
+        None => show_recording_in(word, out),
+    }
+}
+
 /// Does what the words say; false if a recording was refused.
-fn work(words: &[&str], out: &mut impl Write) -> Result<bool, String> {
+fn work(given: &[OsString], out: &mut impl Write) -> Result<bool, String> {
+    let words: Vec<_> = given.iter().map(|word| word.to_string_lossy()).collect();
+    let words: Vec<&str> = words.iter().map(|word| word.as_ref()).collect();
     let mut accepted = true;
-    match words {
+    match words[..] {
         ["replay"] => accepted = replay_input(out)?,
         ["answer", kind] => answer(kind_of(kind)?, out)?,
-        ["show", kind] => show(kind_of(kind)?, out)?,
+        ["show", _] => accepted = show_kind_or_file(&given[1], out)?,
         ["make", kind, seed, count] => make(kind_of(kind)?, seed, count, out)?,
         ["fill", buffer, seed, count] => fill(buffer, seed, count, out)?,
         _ => return Err(USAGE.to_string()),
@@ -106,11 +138,7 @@ fn work(words: &[&str], out: &mut impl Write) -> Result<bool, String> {
 }
 
 fn main() -> ExitCode {
-    let words: Vec<String> = std::env::args_os()
-        .skip(1)
-        .map(|word| word.to_string_lossy().into_owned())
-        .collect();
-    let words: Vec<&str> = words.iter().map(String::as_str).collect();
+    let words: Vec<OsString> = std::env::args_os().skip(1).collect();
     let mut out = BufWriter::new(io::stdout().lock());
     match work(&words, &mut out) {
         Ok(true) => ExitCode::SUCCESS,

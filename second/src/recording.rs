@@ -151,6 +151,40 @@ pub fn read(bytes: &[u8]) -> Result<Recording, Refusal> {
     })
 }
 
+/// What stands right in a file before its first refusal.
+pub struct Front {
+    /// If both sections of the settings are right.
+    pub settings: Option<Settings>,
+    /// The place of the first row's first byte, or 0 if no row is reached.
+    pub first_row: usize,
+    pub rows: Vec<Row>,
+}
+
+/// Reads a file as far as it is right, for a person to see what comes before a refusal.
+pub fn read_front(bytes: &[u8]) -> Front {
+    let mut reader = Reader { bytes, place: 0 };
+    let mut settings = Settings::default();
+    let mut front = Front {
+        settings: None,
+        first_row: 0,
+        rows: Vec::new(),
+    };
+    if reader.block(&mut settings).is_err() || reader.effects(&mut settings).is_err() {
+        return front;
+    }
+    front.settings = Some(settings);
+    if let Ok(count) = reader.count(1, MAX_ROWS, 4) {
+        front.first_row = reader.place;
+        while front.rows.len() < usize::from(count) {
+            let Ok(row) = reader.row(&settings) else {
+                break;
+            };
+            front.rows.push(row);
+        }
+    }
+    front
+}
+
 /// The bytes of the opening piece, with nothing checked.
 pub fn opening_bytes(settings: &Settings, row_count: u16) -> Vec<u8> {
     let mut bytes = vec![0, 1, settings.causes, settings.options];

@@ -163,6 +163,176 @@ fn endless_input_is_answered() {
     assert_eq!(output.stdout, b"refused 2 at 0\n");
 }
 
+// ---- A recording in words ----
+
+fn shown(file: &[u8]) -> (String, Option<i32>) {
+    let output = run(&["show", "-"], file);
+    assert!(output.stderr.is_empty());
+    let text = String::from_utf8(output.stdout).expect("text");
+    (text, output.status.code())
+}
+
+const SESSION_SHOWN: &str = "70 bytes\n\
+    2 causes, 2 effects, scan period 100 ms\n\
+    options: none\n\
+    effect 1: cause 1, no delay\n\
+    effect 2: causes 1 2, delay 250 ms\n\
+    2 rows, 8 scans; words that are not listed are 0\n\
+    row 1 at 22: hold 3 scans\n\
+    \x20 cause values  0003  normal 1 2\n\
+    \x20 reset permit  0003  effects 1 2\n\
+    \x20 start permit  0003  effects 1 2\n\
+    row 2 at 46: hold 5 scans\n\
+    \x20 cause values  0002  normal 2, tripped 1\n\
+    \x20 reset permit  0003  effects 1 2\n\
+    \x20 start permit  0003  effects 1 2\n";
+
+#[test]
+fn show_a_recording() {
+    let session = bytes_of_hex(SESSION);
+    assert_eq!(shown(&session), (SESSION_SHOWN.to_string(), Some(0)));
+    let path = std::env::temp_dir().join(format!("a recording {}.rec", std::process::id()));
+    std::fs::write(&path, &session).expect("a file");
+    let output = program(&["show"]).arg(&path).output();
+    std::fs::remove_file(&path).expect("the file");
+    let output = output.expect("the program ends");
+    assert_eq!(output.stdout, SESSION_SHOWN.as_bytes());
+    assert_eq!(output.status.code(), Some(0));
+}
+
+/// One cause, one effect, every option, and a row with every word and a hold of one scan.
+const EVERY_WORD: &str = "0001 0107 03e8 0001 0001 0036ee80 0001
+    00000001 0000 0001 0001 0001 0001 0001 0001 0001 0001 0000";
+
+const EVERY_WORD_SHOWN: &str = "1 cause, 1 effect, scan period 1000 ms\n\
+    options: trip if Bad, force permit not required, several effects may be forced\n\
+    effect 1: cause 1, delay 3600000 ms\n\
+    1 row, 1 scan; words that are not listed are 0\n\
+    row 1 at 16: hold 1 scan\n\
+    \x20 cause values  0000  tripped 1\n\
+    \x20 cause Bad     0001  cause 1\n\
+    \x20 cause mask    0001  cause 1\n\
+    \x20 require reset 0001  effect 1\n\
+    \x20 reset permit  0001  effect 1\n\
+    \x20 start permit  0001  effect 1\n\
+    \x20 reset         0001  effect 1\n\
+    \x20 force permit  0001  forces count\n\
+    \x20 force trip    0001  effect 1\n";
+
+#[test]
+fn show_every_word() {
+    let mut file = bytes_of_hex(EVERY_WORD);
+    let expected = format!("40 bytes\n{EVERY_WORD_SHOWN}");
+    assert_eq!(shown(&file), (expected, Some(0)));
+    let last = file.len() - 1;
+    file[last - 2] = 0;
+    file[last] = 1;
+    let expected = format!("40 bytes\n{EVERY_WORD_SHOWN}").replace("force trip  ", "force normal");
+    assert_eq!(shown(&file), (expected, Some(0)));
+}
+
+/// What is right is shown first, then the row or the bytes that are not.
+#[test]
+fn show_a_refused_recording() {
+    assert_eq!(
+        shown(&[]),
+        (
+            "0 bytes\nrefused 1 at 0: bytes end before a count or entry does\n".to_string(),
+            Some(1)
+        )
+    );
+    let mut file = bytes_of_hex(SESSION);
+    file.push(0xab);
+    let expected = SESSION_SHOWN.replace("70 bytes", "71 bytes")
+        + "bytes at 70: ab\nrefused 7 at 70: bytes left over\n";
+    assert_eq!(shown(&file), (expected, Some(1)));
+    let mut file = bytes_of_hex(EVERY_WORD);
+    file[19] = 0;
+    file[35] = 2;
+    let expected = format!("40 bytes\n{EVERY_WORD_SHOWN}")
+        .replace("1 row, 1 scan; words that are not listed are 0\n", "")
+        .replace("hold 1 scan", "hold 0 scans")
+        .replace("0001  forces count", "0002  neither 0 nor 1");
+    let refused = "refused 4 at 16: row count, hold or a row word wrong\n";
+    assert_eq!(shown(&file), (expected + refused, Some(1)));
+}
+
+#[test]
+fn show_refused_settings() {
+    let mut file = bytes_of_hex(SESSION);
+    file[2] = 17;
+    let expected = "70 bytes\n\
+        bytes at 2: 110000640002000100000000000300\
+        0000fa000200000003\n\
+        refused 2 at 2: block section wrong\n";
+    assert_eq!(shown(&file), (expected.to_string(), Some(1)));
+    let mut file = bytes_of_hex(SESSION);
+    file.truncate(22);
+    file[21] = 0;
+    let (text, status) = shown(&file);
+    assert!(text.starts_with("22 bytes\n2 causes, 2 effects"));
+    assert!(text.ends_with(
+        "delay 250 ms\nbytes at 20: 0000\n\
+         refused 4 at 20: row count, hold or a row word wrong\n"
+    ));
+    assert_eq!(status, Some(1));
+}
+
+/// 1,001 rows of 1,000,000 scans can be read, and not replayed.
+#[test]
+fn show_too_many_scans() {
+    let mut file = bytes_of_hex("0001 0100 0064 0001 0001 00000000 03e9");
+    for _ in 0..1_001 {
+        file.extend(bytes_of_hex("000f4240 0001"));
+        file.extend([0; 18]);
+    }
+    let (text, status) = shown(&file);
+    assert!(text.contains("\n1001 rows, 1001000000 scans;"));
+    assert!(text.ends_with(
+        "\nrow 1001 at 24016: hold 1000000 scans\n  cause values  0001  normal 1\n\
+         its replay is refused 9 at 24016: scans done plus hold above 1000000000\n"
+    ));
+    assert_eq!(status, Some(1));
+}
+
+#[test]
+fn show_endless_input() {
+    let zero = File::open("/dev/zero").expect("the device of zeros");
+    let output = program(&["show", "-"]).stdin(zero).output();
+    let output = output.expect("the program ends");
+    assert_eq!(output.status.code(), Some(1));
+    assert!(output
+        .stdout
+        .starts_with(b"more than 49258 bytes\nbytes at 0: 0000"));
+    assert!(output
+        .stdout
+        .ends_with(b"refused 2 at 0: block section wrong\n"));
+}
+
+/// The name of a kind is that kind, and no file.
+#[test]
+fn show_cases_of_a_kind() {
+    let made = run(&["make", "replay", "1", "2"], &[]).stdout;
+    let output = run(&["show", "replay"], &made);
+    assert_eq!(output.status.code(), Some(0));
+    assert!(output.stdout.starts_with(b"case 1\n  file: "));
+}
+
+#[test]
+fn a_file_that_cannot_be_shown_is_named() {
+    for (file, reason) in [
+        ("no such file.rec", "No such file or directory"),
+        (env!("CARGO_MANIFEST_DIR"), "Is a directory"),
+    ] {
+        let output = program(&["show", file]).output();
+        let output = output.expect("the program ends");
+        fails(&output);
+        assert!(output.stdout.is_empty());
+        let said = String::from_utf8(output.stderr).expect("text");
+        assert!(said.starts_with(&format!("second: {file}: {reason}")));
+    }
+}
+
 /// Exit status 2 and a message.
 fn fails(output: &Output) {
     assert_eq!(output.status.code(), Some(2));
