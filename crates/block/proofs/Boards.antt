@@ -26,7 +26,8 @@ use Rattle.settings.specs.Right.{settingsNumber}
 use Rattle.settings.specs.Signals.{noEffect}
 use Rattle.settings.proofs.Right.{count-few, association-lt}
 use Rattle.block.specs.declared.State.{State}
-use Rattle.block.specs.State.{timerRight, firstRight, slotRight, slotUnused, slotOk, stateNumber}
+use Rattle.slots.specs.Slots.{timerRight, firstRight, slotRight, slotUnused, slotOk}
+use Rattle.block.specs.State.{stateNumber}
 use Rattle.block.proofs.RightStates.{slots-right}
 
 -- an unused slot is that of no effect

@@ -29,7 +29,8 @@ use Rattle.settings.specs.Signals.{signals, signalsOf, noEffect}
 use Rattle.settings.proofs.Refusals.{unless-none}
 use Rattle.settings.proofs.Right.{association-lt}
 use Rattle.block.specs.declared.State.{State}
-use Rattle.block.specs.State.{timerRight, firstRight, slotRight, slotUnused, slotOk, stateOk, stateNumber, fresh}
+use Rattle.slots.specs.Slots.{timerRight, firstRight, slotRight, slotUnused, slotOk}
+use Rattle.block.specs.State.{stateOk, stateNumber, fresh}
 use Rattle.block.specs.Scan.{after}
 
 -- ## One effect

@@ -7,11 +7,10 @@ ghost use mathlib.Core.Bool.{true};
 ghost use Prim.Native.Nat.{_*_, _≤_, _<_};
 ghost use lib.ListN.{length, replicate};
 ghost use lib.Seq.{sets};
-ghost use Rattle.bits.specs.Lists.{allFrom};
 ghost use Rattle.bits.specs.Words.{one, wordOf};
 ghost use Rattle.effects.specs.Records.{recordLength, bytes};
 ghost use Rattle.rules.specs.Limits.{mostScans};
-ghost use Rattle.block.specs.State.{timerRight, firstRight, slotRight, slotUnused, slotOk, stateNumber, fresh as freshState};
+ghost use Rattle.block.specs.State.{stateNumber, fresh as freshState};
 ghost use Rattle.block.specs.Scan.{scansNumber, inputNumber, scanOf, scanInto};
 ghost use Rattle.block.specs.Held.{run, grantedHeld, refusedHeld, heldOf, heldInto};
 ghost use Rattle.cells.specs.Array.{arrayLength, firstsIn};
@@ -23,7 +22,6 @@ use engine::Mark;
 use planes::Planes;
 use rules::EffectState;
 use rules::Slot;
-use settings::Effect;
 use settings::Row;
 use settings::Settings;
 use settings::Words;
@@ -61,76 +59,12 @@ pub struct Held {
 
 // ---- what is right of a state: 8
 
-fn timer_right(delay: u32, x: Slot) -> bool
-    ensures { λ r. ⌜ r ≡ timerRight delay x ⌝ }
-{
-    let p = x.state;
-    if rules::same(p, EffectState::Delayed) {
-        (1 <= x.timer) & (x.timer <= delay)
-    } else {
-        x.timer == 0
-    }
-}
-
-fn first_right(association: u16, x: Slot) -> bool
-    ensures { λ r. ⌜ r ≡ firstRight association x ⌝ }
-{
-    let p = x.state;
-    if rules::same(p, EffectState::Normal) {
-        x.first_out == 0
-    } else {
-        x.first_out & association == x.first_out
-    }
-}
-
-// What is kept of an effect is right.
-fn slot_right(e: Effect, x: Slot) -> bool
-    ensures { λ r. ⌜ r ≡ slotRight e x ⌝ }
-{
-    timer_right(e.delay, x) & first_right(e.association, x)
-}
-
-// What is kept of no effect.
-fn slot_unused(x: Slot) -> bool
-    ensures { λ r. ⌜ r ≡ slotUnused x ⌝ }
-{
-    let p = x.state;
-    rules::same(p, EffectState::Tripped) & (x.timer == 0) & (x.first_out == 0)
-}
-
-// Slot i is right, or unused past the count.
-fn slot_ok(st: Settings, i: usize, x: Slot) -> bool
-    requires { ⌜ i < 16 ⌝ }
-    ensures { λ r. ⌜ r ≡ slotOk st i x ⌝ }
-{
-    if i < (st.count as usize) {
-        let e = st.effects[i];
-        slot_right(e, x)
-    } else {
-        slot_unused(x)
-    }
-}
-
-fn slots_ok(st: Settings, slots: [Slot; 16]) -> bool
-    ensures { λ r. ⌜ r ≡ allFrom (slotOk st) 0 slots ⌝ }
-{
-    let mut i = 0;
-    while i < 16 {
-        let x = slots[i];
-        if !slot_ok(st, i, x) {
-            return false;
-        }
-        i += 1;
-    }
-    true
-}
-
 // 0 for a state that is right, else 8.
 fn state_number(st: Settings, x: State) -> u8
     ensures { λ r. ⌜ r ≡ stateNumber st x ⌝ }
 {
     let slots = x.slots;
-    if (x.scans_done <= State::MOST_SCANS) & slots_ok(st, slots) {
+    if (x.scans_done <= State::MOST_SCANS) & slots::slots_ok(st, slots) {
         0
     } else {
         8

@@ -52,6 +52,7 @@ use Rattle.engine.proofs.stroke.Reads as engine·stroke
 use Rattle.wiring.proofs.wire.Reads as wiring·wire
 use Rattle.wiring.proofs.plan_of.Reads as wiring·plan-of
 use Rattle.wiring.proofs.stroke.Reads as wiring·stroke
+use Rattle.slots.proofs.slots_ok.Reads as slots·slots-ok
 use Rattle.settings.specs.declared.Settings.{Settings}
 use Rattle.engine.specs.declared.Mark.{Mark}
 use Rattle.block.specs.declared.State.{State}
@@ -248,6 +249,11 @@ wiring-stroke κs a r q e f asked h k =
       ap₂ struckBy mark shown,
       lent (same-wired (x .wired) (y .wired) board) (x .laid ∙ sym (y .laid)),
     )
+
+-- ## The slots of a state (`slots`)
+
+pub slots-slots-ok : (κs : Lfts 0) → Unique (slots·slots-ok.Learnt κs) none
+slots-slots-ok κs = by-equation (slots·slots-ok.Learnt κs) _ (λ a r e h. h)
 
 -- ## A held run without its checks (`block`)
 

@@ -1,7 +1,7 @@
--- `block::timer_right` meets its contract, from what its callees ensure and the tests on the way.
+-- `slots::timer_right` meets its contract, from what its callees ensure and the tests on the way.
 use borrow.Author.Needs.{needs}
-use Rattle.block.proofs.timer_right.Statement.{statement}
-use Rattle.block.proofs.timer_right.Tie as tie
+use Rattle.slots.proofs.timer_right.Statement.{statement}
+use Rattle.slots.proofs.timer_right.Tie as tie
 
 returns : tie.Need-returns
 returns c = rw (← c .before .before .before .same .ensures, c .before .before .if1 .taken)

@@ -1,7 +1,7 @@
--- `block::slot_right` meets its contract, from what its callees ensure and the tests on the way.
+-- `slots::slot_right` meets its contract, from what its callees ensure and the tests on the way.
 use borrow.Author.Needs.{needs}
-use Rattle.block.proofs.slot_right.Statement.{statement}
-use Rattle.block.proofs.slot_right.Tie as tie
+use Rattle.slots.proofs.slot_right.Statement.{statement}
+use Rattle.slots.proofs.slot_right.Tie as tie
 
 returns : tie.Need-returns
 returns c = cc

@@ -1,8 +1,8 @@
--- `block::slot_ok` meets its contract, from what its callees ensure and the tests on the way.
+-- `slots::slot_ok` meets its contract, from what its callees ensure and the tests on the way.
 use borrow.Author.Tests.{lt-ltb, le-ltb}
 use borrow.Author.Needs.{needs}
-use Rattle.block.proofs.slot_ok.Statement.{statement}
-use Rattle.block.proofs.slot_ok.Tie as tie
+use Rattle.slots.proofs.slot_ok.Statement.{statement}
+use Rattle.slots.proofs.slot_ok.Tie as tie
 
 returns : tie.Need-returns
 returns c = rw (lt-ltb _ _ (c .before .before .if1 .taken)) (c .slot-right .ensures)

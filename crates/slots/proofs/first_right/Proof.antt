@@ -1,7 +1,7 @@
--- `block::first_right` meets its contract, from what its callees ensure and the tests on the way.
+-- `slots::first_right` meets its contract, from what its callees ensure and the tests on the way.
 use borrow.Author.Needs.{needs}
-use Rattle.block.proofs.first_right.Statement.{statement}
-use Rattle.block.proofs.first_right.Tie as tie
+use Rattle.slots.proofs.first_right.Statement.{statement}
+use Rattle.slots.proofs.first_right.Tie as tie
 
 returns : tie.Need-returns
 returns c = rw (← c .before .before .same .ensures, c .before .if1 .taken)

@@ -1,4 +1,4 @@
--- `block::slots_ok` meets its contract. The loop's invariant: the slots before i passed.
+-- `slots::slots_ok` meets its contract. The loop's invariant: the slots before i passed.
 use mathlib.Core.Path.{_≡_}
 use Prim.Native.Nat.{_≤_, _-_}
 use native.Mathlib.Omega.{arith}
@@ -7,9 +7,9 @@ use borrow.Author.Needs.{needs}
 use Rattle.bits.specs.Lists.{allFrom}
 use Rattle.bits.proofs.Lists.{all-fails, all-goes-on, all-ends}
 use Rattle.rules.specs.Rules.{noSlot}
-use Rattle.block.specs.State.{slotOk}
-use Rattle.block.proofs.slots_ok.Statement.{statement}
-use Rattle.block.proofs.slots_ok.Tie as tie
+use Rattle.slots.specs.Slots.{slotOk}
+use Rattle.slots.proofs.slots_ok.Statement.{statement}
+use Rattle.slots.proofs.slots_ok.Tie as tie
 
 abbrev Inv-loop : tie.InvT-loop
 Inv-loop st slots i₀ i = (i ≤ 16) × (length slots ≡ 16) × (allFrom (slotOk st) i (drop i slots) ≡ allFrom (slotOk st) 0 slots)
