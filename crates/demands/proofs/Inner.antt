@@ -31,6 +31,9 @@ use Rattle.layout.proofs.width_of.Reads as layout·width-of
 use Rattle.layout.proofs.number_of.Reads as layout·number-of
 use Rattle.layout.proofs.count_ok.Reads as layout·count-ok
 use Rattle.layout.proofs.entry_number.Reads as layout·entry-number
+use Rattle.pieces.proofs.rows_section.Reads as pieces·rows-section
+use Rattle.pieces.proofs.put_opening.Reads as pieces·put-opening
+use Rattle.pieces.proofs.put_row.Reads as pieces·put-row
 use Rattle.exactness.proofs.each_is_a_byte.Reads as exactness·each-is-a-byte
 use Rattle.planes.proofs.planes_after.Reads as planes·planes-after
 use Rattle.planes.proofs.changed.Reads as planes·changed
@@ -163,6 +166,17 @@ layout-count-ok κs = by-equation (layout·count-ok.Learnt κs) _ (λ a r e h. h
 
 pub layout-entry-number : (κs : Lfts 1) → Unique (layout·entry-number.Learnt κs) none
 layout-entry-number κs = by-equation (layout·entry-number.Learnt κs) _ (λ a r e h. h)
+
+-- ## The pieces of a recording (`pieces`)
+
+pub pieces-rows-section : (κs : Lfts 0) → Unique (pieces·rows-section.Learnt κs) none
+pieces-rows-section κs = by-equation (pieces·rows-section.Learnt κs) _ (λ a r e h. h)
+
+pub pieces-put-opening : (κs : Lfts 1) → Unique (pieces·put-opening.Learnt κs) (λ e. now (e .0))
+pieces-put-opening κs = by-equations (pieces·put-opening.Learnt κs) (λ e. now (e .0)) (λ a. tt) _ (λ a r e h. (refl, h .0))
+
+pub pieces-put-row : (κs : Lfts 1) → Unique (pieces·put-row.Learnt κs) (λ e. now (e .0))
+pieces-put-row κs = by-equations (pieces·put-row.Learnt κs) (λ e. now (e .0)) (λ a. tt) _ (λ a r e h. (refl, h))
 
 -- ## Laws of recordings (`exactness`)
 

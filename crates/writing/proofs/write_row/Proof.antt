@@ -1,5 +1,5 @@
 -- `writing::write_row` meets its contract, from what its callees ensure and the tests on the way.
-use Rattle.writing.proofs.Opening.{row-length}
+use Rattle.pieces.proofs.Opening.{row-length}
 use Rattle.layout.specs.Entries.{putRow}
 use mathlib.Core.Path.{sym, _∙_}
 use Rattle.writing.proofs.Pieces.{piece-refused, piece-short, piece-fits}

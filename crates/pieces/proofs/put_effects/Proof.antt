@@ -1,4 +1,4 @@
--- `writing::put_effects` meets its contract. The loop's invariant: with the effects that are left the bytes would be whole.
+-- `pieces::put_effects` meets its contract. The loop's invariant: with the effects that are left the bytes would be whole.
 use borrow.Author.Needs.{needs}
 use native.Mathlib.Omega.{arith}
 use Prim.Native.Nat.{_+_, _*_, _≤_, _-_}
@@ -10,9 +10,9 @@ use lib.Seq.{sets, length-sets, length-take-le, getD-take}
 use Rattle.settings.specs.Signals.{noEffect}
 use Rattle.bits.proofs.Lists.{store-turn, store-ends}
 use Rattle.layout.specs.Entries.{putEffect}
-use Rattle.writing.proofs.Opening.{effect-length}
-use Rattle.writing.proofs.put_effects.Statement.{statement}
-use Rattle.writing.proofs.put_effects.Tie as tie
+use Rattle.pieces.proofs.Opening.{effect-length}
+use Rattle.pieces.proofs.put_effects.Statement.{statement}
+use Rattle.pieces.proofs.put_effects.Tie as tie
 
 abbrev Inv-loop : tie.InvT-loop
 Inv-loop s₀ at n effects i₀ s i =

@@ -1,8 +1,8 @@
--- `writing::effect_place` meets its contract: the table's width of an effect is 6.
+-- `pieces::effect_place` meets its contract: the table's width of an effect is 6.
 use native.Mathlib.Omega.{arith}
 use borrow.Author.Needs.{needs}
-use Rattle.writing.proofs.effect_place.Statement.{statement}
-use Rattle.writing.proofs.effect_place.Tie as tie
+use Rattle.pieces.proofs.effect_place.Statement.{statement}
+use Rattle.pieces.proofs.effect_place.Tie as tie
 
 mul-result : tie.Need-mul-result
 mul-result c = rw (c .width-of .ensures) (omega arith)

@@ -1,11 +1,11 @@
--- `writing::put_opening` meets its contract: its pieces, one after the other, at the places that the table gives.
+-- `pieces::put_opening` meets its contract: its pieces, one after the other, at the places that the table gives.
 use mathlib.Core.Path.{ap, _∙_}
 use Prim.Native.Nat.{ℕ, _+_}
 use denote.Ref.{now}
-use Rattle.writing.proofs.Opening.{opening-stored, opening-length}
+use Rattle.pieces.proofs.Opening.{opening-stored, opening-length}
 use borrow.Author.Needs.{needs}
-use Rattle.writing.proofs.put_opening.Statement.{statement}
-use Rattle.writing.proofs.put_opening.Tie as tie
+use Rattle.pieces.proofs.put_opening.Statement.{statement}
+use Rattle.pieces.proofs.put_opening.Tie as tie
 
 returns : tie.Need-returns
 returns c =

@@ -1,12 +1,12 @@
--- `writing::put_block` meets its contract: its stores, one after the other, at the places that the table gives.
+-- `pieces::put_block` meets its contract: its stores, one after the other, at the places that the table gives.
 use mathlib.Core.List.{_++_}
 use mathlib.Core.Path.{refl}
 use denote.Ref.{now}
 use Rattle.bits.specs.Numbers.{digits}
 use Rattle.bits.proofs.Numbers.{sets-then}
 use borrow.Author.Needs.{needs}
-use Rattle.writing.proofs.put_block.Statement.{statement}
-use Rattle.writing.proofs.put_block.Tie as tie
+use Rattle.pieces.proofs.put_block.Statement.{statement}
+use Rattle.pieces.proofs.put_block.Tie as tie
 
 returns : tie.Need-returns
 returns c =

@@ -1,12 +1,12 @@
--- `writing::put_effect` meets its contract, from what its callees ensure and the tests on the way.
+-- `pieces::put_effect` meets its contract, from what its callees ensure and the tests on the way.
 use borrow.Author.Needs.{needs}
 use mathlib.Core.Path.{refl}
 use denote.Ref.{now}
 use Rattle.bits.specs.Numbers.{digits}
 use Rattle.bits.proofs.Numbers.{sets-then}
 use Rattle.layout.specs.Entries.{putEffect}
-use Rattle.writing.proofs.put_effect.Statement.{statement}
-use Rattle.writing.proofs.put_effect.Tie as tie
+use Rattle.pieces.proofs.put_effect.Statement.{statement}
+use Rattle.pieces.proofs.put_effect.Tie as tie
 
 returns : tie.Need-returns
 unfolding putEffect

@@ -1,4 +1,4 @@
--- `writing::put_row` meets its contract, from what its callees ensure and the tests on the way.
+-- `pieces::put_row` meets its contract, from what its callees ensure and the tests on the way.
 use borrow.Author.Needs.{needs}
 use Prim.Native.Nat.{ℕ}
 use mathlib.Core.List.{List, [], _∷_, _++_}
@@ -8,8 +8,8 @@ use Rattle.bits.specs.Numbers.{digits}
 use Rattle.bits.specs.Layout.{pack}
 use Rattle.bits.proofs.Numbers.{sets-then}
 use Rattle.layout.specs.Entries.{putRow}
-use Rattle.writing.proofs.put_row.Statement.{statement}
-use Rattle.writing.proofs.put_row.Tie as tie
+use Rattle.pieces.proofs.put_row.Statement.{statement}
+use Rattle.pieces.proofs.put_row.Tie as tie
 
 returns : tie.Need-returns
 unfolding putRow
