@@ -22,9 +22,9 @@ use Rattle.boards.proofs.Step.{table, table-path}
 use Rattle.boards.proofs.Fresh.{trippedAlone, fresh-table}
 use Rattle.engine.specs.Marks.{boardAt}
 use Rattle.cells.specs.Loaded.{loadedInto}
-use Rattle.wiring.specs.Wiring.{wiredInto, planOf}
+use Rattle.plans.specs.Plans.{wiredInto, planOf}
 use Rattle.cells.proofs.Parts.{part-filled, part-before, part-after}
-use Rattle.wiring.proofs.Wired.{wired-long, wired-past, wired-associations, wired-delays}
+use Rattle.plans.proofs.Wired.{wired-long, wired-past, wired-associations, wired-delays}
 use Rattle.settings.specs.declared.Row.{Row}
 use Rattle.settings.specs.declared.Settings.{Settings}
 use Rattle.block.specs.declared.State.{State}

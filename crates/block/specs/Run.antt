@@ -17,7 +17,7 @@ use Rattle.engine.specs.Marks.{boardAt, begun}
 use Rattle.settings.specs.declared.Row.{Row}
 use Rattle.settings.specs.declared.Settings.{Settings}
 use Rattle.wiring.specs.declared.Struck.{Struck}
-use Rattle.wiring.specs.Wiring.{associationsOf, delaysOf, Wired}
+use Rattle.plans.specs.Plans.{associationsOf, delaysOf, Wired}
 use Rattle.block.specs.declared.State.{State}
 use Rattle.block.specs.declared.Scanned.{Scanned}
 use Rattle.block.specs.declared.Held.{Held}

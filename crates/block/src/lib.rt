@@ -133,7 +133,7 @@ pub fn load(board: &mut [u32; 64], st: Settings, x: State) -> Mark
     ensures { λ r. ⌜ LoadedAs st x (record { mark = r; board = now (board .exit) }) ⌝ }
 {
     let slots = x.slots;
-    wiring::wire(board, st);
+    plans::wire(board, st);
     let planes = cells::load(board, st.count as usize, slots);
     Mark {
         scans_done: x.scans_done,
@@ -149,7 +149,7 @@ pub fn load_fresh(board: &mut [u32; 64], st: Settings, all: u16) -> Mark
     requires { ⌜ (st .count ≤ 16) × (now board ≡ replicate arrayLength 0) × (all ≡ wordOf (λ i. true) (st .count)) ⌝ }
     ensures { λ r. ⌜ LoadedAs st freshState (record { mark = r; board = now (board .exit) }) ⌝ }
 {
-    wiring::wire(board, st);
+    plans::wire(board, st);
     Mark {
         scans_done: 0,
         next: 0,
@@ -196,7 +196,7 @@ pub fn run_right(buf: &mut [u8], st: Settings, row: Row, x: State) -> Held
 {
     let mut board = [0u32; 64];
     let from = load(&mut board, st, x);
-    let plan = wiring::plan_of(st);
+    let plan = plans::plan_of(st);
     let r = wiring::stroke(buf, &mut board, plan, row, from);
     let mark = r.mark;
     Held {

@@ -15,7 +15,8 @@ use Rattle.cells.specs.Array.{part, partLength, arrayLength, associationsAt, de
 use Rattle.engine.specs.Marks.{boardAt, begun}
 use Rattle.settings.specs.declared.Settings.{Settings}
 use Rattle.wiring.specs.declared.Struck.{Struck}
-use Rattle.wiring.specs.Wiring.{Wired, Stroked}
+use Rattle.plans.specs.Plans.{Wired}
+use Rattle.wiring.specs.Wiring.{Stroked}
 use Rattle.rerun.specs.declared.Run.{Run}
 use Rattle.rerun.specs.declared.Turn.{Turn}
 use Rattle.listing.specs.declared.Printed.{Printed}

@@ -52,8 +52,8 @@ use Rattle.cells.proofs.load.Reads as cells·load
 use Rattle.cells.proofs.slots_of.Reads as cells·slots-of
 use Rattle.engine.proofs.begin.Reads as engine·begin
 use Rattle.engine.proofs.stroke.Reads as engine·stroke
-use Rattle.wiring.proofs.wire.Reads as wiring·wire
-use Rattle.wiring.proofs.plan_of.Reads as wiring·plan-of
+use Rattle.plans.proofs.wire.Reads as plans·wire
+use Rattle.plans.proofs.plan_of.Reads as plans·plan-of
 use Rattle.wiring.proofs.stroke.Reads as wiring·stroke
 use Rattle.slots.proofs.slots_ok.Reads as slots·slots-ok
 use Rattle.settings.specs.declared.Settings.{Settings}
@@ -244,13 +244,15 @@ engine-stroke κs a r q e f h k =
           (h .laid ∙ sym (k .laid)),
     )
 
--- ## What the settings give to the words of effects (`wiring`)
+-- ## What the settings give to the words of effects (`plans`)
 
-pub wiring-wire : (κs : Lfts 1) → Unique (wiring·wire.Learnt κs) (λ e. now (e .0))
-wiring-wire κs = by-equations (wiring·wire.Learnt κs) (λ e. now (e .0)) (λ a. tt) _ (λ a r e h. (refl, h))
+pub plans-wire : (κs : Lfts 1) → Unique (plans·wire.Learnt κs) (λ e. now (e .0))
+plans-wire κs = by-equations (plans·wire.Learnt κs) (λ e. now (e .0)) (λ a. tt) _ (λ a r e h. (refl, h))
 
-pub wiring-plan-of : (κs : Lfts 0) → Unique (wiring·plan-of.Learnt κs) none
-wiring-plan-of κs = by-equation (wiring·plan-of.Learnt κs) _ (λ a r e h. h)
+pub plans-plan-of : (κs : Lfts 0) → Unique (plans·plan-of.Learnt κs) none
+plans-plan-of κs = by-equation (plans·plan-of.Learnt κs) _ (λ a r e h. h)
+
+-- ## What a row gives to them (`wiring`)
 
 -- (the contract speaks for any settings by which the row can run, and there are some)
 pub wiring-stroke : (κs : Lfts 2) → UniqueWhereAsked (wiring·stroke.Asked κs) (wiring·stroke.Learnt κs) (both (λ e. now (e .1 .0)) (λ e. now (e .0)))

@@ -14,7 +14,7 @@ use Rattle.settings.specs.declared.Settings.{Settings}
 use Rattle.rules.specs.Limits.{mostEffects, mostScans}
 use Rattle.settings.specs.Refusals.{granted}
 use Rattle.wiring.specs.declared.Struck.{Struck}
-use Rattle.wiring.specs.Wiring.{Wired}
+use Rattle.plans.specs.Plans.{Wired}
 use Rattle.block.specs.Run.{startOf}
 use Rattle.recording.specs.Answers.{number, rowCount, rowWidth}
 use Rattle.recording.specs.Reader.{reading}

@@ -64,7 +64,7 @@ pub fn begin(st: Settings, rows: u16, first: usize, width: usize, board: &mut [u
     requires { ⌜ (st .count ≤ 16) × (now board ≡ replicate arrayLength 0) ⌝ }
     ensures { λ r. ⌜ Begins st rows first width (record { run = r; board = now (board .exit) }) ⌝ }
 {
-    let plan = wiring::plan_of(st);
+    let plan = plans::plan_of(st);
     let mark = block::load_fresh(board, st, plan.all);
     Run {
         plan,

@@ -28,7 +28,8 @@ use Rattle.settings.specs.Right.{knownOf, wordsNumber}
 use Rattle.settings.specs.Signals.{signals}
 use Rattle.settings.proofs.Right.{row-words, count-few, period-some, period-most, hold-most}
 use Rattle.wiring.specs.declared.Struck.{Struck}
-use Rattle.wiring.specs.Wiring.{Stroked, strokedAt, planOf, taskOf, heldOf, Runs, Ran}
+use Rattle.plans.specs.Plans.{planOf}
+use Rattle.wiring.specs.Wiring.{Stroked, strokedAt, taskOf, heldOf, Runs, Ran}
 use Rattle.wiring.proofs.Signals.{signals-are, asked-right, effect-is, latent-is, exercised-is}
 
 abbrev stroked : Board → ℕ → ℕ → Bool → Stroked

@@ -1,4 +1,3 @@
-pub mod Wired
 pub mod Watched
 pub mod Signals
 pub mod Held

@@ -28,7 +28,8 @@ use Rattle.settings.specs.declared.Words.{Words}
 use Rattle.settings.specs.Right.{knownOf, settingsNumber, wordsNumber}
 use Rattle.settings.specs.Signals.{badTrip, forcesCount, signals, signalsOf}
 use Rattle.settings.proofs.Right.{count-few, association-lt, inside}
-use Rattle.wiring.specs.Wiring.{associationAt, delayAt, associationsOf, delaysOf, unionTo, planOf, trippedOf, askedBy}
+use Rattle.plans.specs.Plans.{associationAt, delayAt, associationsOf, delaysOf, unionTo, planOf}
+use Rattle.wiring.specs.Wiring.{trippedOf, askedBy}
 use Rattle.wiring.proofs.Watched.{in-union, and-watched}
 
 -- a bit of a word that counts, or does not

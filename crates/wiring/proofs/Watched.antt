@@ -7,7 +7,7 @@ use native.Mathlib.Nat.{eq-or-lt-of-le, le-of-suc-le-suc, not-suc-le-zero, lt-of
 use lib.Bits.{bitAnd, and-le-l}
 use Rattle.bits.specs.Words.{bitOf}
 use Rattle.bits.proofs.Words.{bit-and, bit-or, same-bits}
-use Rattle.wiring.specs.Wiring.{unionTo}
+use Rattle.plans.specs.Plans.{unionTo}
 
 or-first : (a b : Bool) → a ≡ true → (a || b) ≡ true
 or-first a b e = rw e

@@ -1,13 +1,11 @@
--- What the settings and a row give to the words of effects. No entry point's contract cites this page.
-use Prim.Native.Nat.{ℕ, zero, suc, _+_, _-_, _*_, _≤_}
+-- What a row gives to the words of effects. No entry point's contract cites this page.
+use Prim.Native.Nat.{ℕ, _+_, _-_, _*_, _≤_}
 use mathlib.Core.Path.{_≡_}
-use mathlib.Core.Bool.{Bool, true, cond}
+use mathlib.Core.Bool.{Bool, cond}
 use mathlib.Core.List.{List}
-use lib.Bits.{bitAnd, bitOr}
-use lib.Dec.{ltb}
-use lib.ListN.{getD, length}
+use lib.Bits.{bitAnd}
+use lib.ListN.{length}
 use lib.Seq.{sets}
-use Rattle.bits.specs.Lists.{tabulate}
 use Rattle.bits.specs.Words.{wordOf}
 use Rattle.effects.specs.Records.{recordLength, bytes}
 use Rattle.effects.specs.Scan.{effectWord, latentWord, anyExercised}
@@ -16,7 +14,7 @@ use Rattle.planes.specs.declared.Asked.{Asked}
 use Rattle.engine.specs.declared.Mark.{Mark}
 use Rattle.cells.specs.declared.Plan.{Plan}
 use Rattle.engine.specs.declared.Task.{Task}
-use Rattle.cells.specs.Array.{arrayLength, associationsAt, delaysAt, associationsIn, delaysIn}
+use Rattle.cells.specs.Array.{associationsIn}
 use Rattle.boards.specs.Table.{activeAt}
 use Rattle.boards.specs.Board.{Board, boardOf, runOf, Shown}
 use Rattle.engine.specs.Marks.{boardAt}
@@ -25,51 +23,9 @@ use Rattle.settings.specs.declared.Settings.{Settings}
 use Rattle.settings.specs.declared.Words.{Words}
 use Rattle.rules.specs.Limits.{mostScans}
 use Rattle.settings.specs.Right.{knownOf, settingsNumber, rowNumber}
-use Rattle.settings.specs.Signals.{noEffect, forcesCount, badTrip, signals}
+use Rattle.settings.specs.Signals.{forcesCount, badTrip, signals}
+use Rattle.plans.specs.Plans.{Wired}
 use Rattle.wiring.specs.declared.Struck.{Struck}
-
--- ## The settings
-
-abbrev pub associationAt : Settings → ℕ → ℕ
-associationAt st i = getD (st .effects) i noEffect .association
-
-abbrev pub delayAt : Settings → ℕ → ℕ
-delayAt st i = getD (st .effects) i noEffect .delay
-
--- those of all slots
-abbrev pub associationsOf : Settings → List ℕ
-associationsOf st = tabulate (associationAt st) 16
-
-abbrev pub delaysOf : Settings → List ℕ
-delaysOf st = tabulate (delayAt st) 16
-
--- the array with them
-unfoldable pub wiredInto : Settings → (array : List ℕ) → List ℕ
-wiredInto st array = sets (sets array associationsAt (associationsOf st)) delaysAt (delaysOf st)
-
--- the bits that are set in any of n words
-unfoldable pub unionTo : (ℕ → ℕ) → ℕ → ℕ
-unionTo f zero = 0
-unionTo f (suc n) = bitOr (unionTo f n) (f n)
-
--- what stays the same from row to row
-unfoldable pub planOf : Settings → Plan
-planOf st =
-    record {
-      count = st .count;
-      period = st .period;
-      options = st .options;
-      all = wordOf (λ i. true) (st .count);
-      «with_delay» = wordOf (λ i. ltb 0 (delayAt st i)) (st .count);
-      watched = unionTo (associationAt st) 16;
-    }
-
--- plan and array are those of the settings
-pub record Wired (st : Settings) (plan : Plan) (array : List ℕ) : Type 0 where
-  pub plan-is : plan ≡ planOf st
-  pub associations-are : associationsIn array ≡ associationsOf st
-  pub delays-are : delaysIn array ≡ delaysOf st
-  pub long : length array ≡ arrayLength
 
 -- ## A row
 

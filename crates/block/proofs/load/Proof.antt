@@ -2,7 +2,7 @@
 use mathlib.Core.Path.{ap, _∙_}
 use borrow.Author.Needs.{needs}
 use Rattle.cells.specs.Loaded.{loadedInto}
-use Rattle.wiring.specs.Wiring.{wiredInto}
+use Rattle.plans.specs.Plans.{wiredInto}
 use Rattle.block.proofs.Loads.{loaded}
 use Rattle.block.proofs.load.Statement.{statement}
 use Rattle.block.proofs.load.Tie as tie

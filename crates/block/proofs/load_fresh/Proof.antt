@@ -1,7 +1,7 @@
 -- `block::load_fresh` meets its contract: the array holds what the settings give, and no more.
 use mathlib.Core.Path.{ap, _∙_}
 use borrow.Author.Needs.{needs}
-use Rattle.wiring.specs.Wiring.{wiredInto}
+use Rattle.plans.specs.Plans.{wiredInto}
 use Rattle.block.proofs.Loads.{loaded-fresh}
 use Rattle.block.proofs.load_fresh.Statement.{statement}
 use Rattle.block.proofs.load_fresh.Tie as tie

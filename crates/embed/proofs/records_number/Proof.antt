@@ -8,7 +8,7 @@ use lib.ListN.{length}
 use borrow.Author.Needs.{needs}
 use Rattle.effects.specs.Records.{recordLength}
 use Rattle.cells.specs.declared.Plan.{Plan}
-use Rattle.wiring.specs.Wiring.{planOf}
+use Rattle.plans.specs.Plans.{planOf}
 use Rattle.rules.specs.Limits.{mostEffects}
 use Rattle.settings.proofs.Refusals.{room-enough, room-short}
 use Rattle.recording.specs.Reader.{reading}

@@ -2,7 +2,7 @@
 use mathlib.Core.Path.{refl, ap}
 use borrow.Author.Needs.{needs}
 use Rattle.cells.specs.declared.Plan.{Plan}
-use Rattle.wiring.specs.Wiring.{planOf}
+use Rattle.plans.specs.Plans.{planOf}
 use Rattle.rerun.proofs.begin.Statement.{statement}
 use Rattle.rerun.proofs.begin.Tie as tie
 

@@ -1,8 +1,8 @@
--- `wiring::plan_of` meets its contract, from what its callees ensure.
+-- `plans::plan_of` meets its contract, from what its callees ensure.
 use borrow.Author.Needs.{needs}
-use Rattle.wiring.specs.Wiring.{planOf}
-use Rattle.wiring.proofs.plan_of.Statement.{statement}
-use Rattle.wiring.proofs.plan_of.Tie as tie
+use Rattle.plans.specs.Plans.{planOf}
+use Rattle.plans.proofs.plan_of.Statement.{statement}
+use Rattle.plans.proofs.plan_of.Tie as tie
 
 returns : tie.Need-returns
 unfolding planOf

@@ -1,4 +1,4 @@
--- `wiring::put_associations` meets its contract. The loop's invariant: the first i of the part are filled.
+-- `plans::put_associations` meets its contract. The loop's invariant: the first i of the part are filled.
 use mathlib.Core.Path.{_≡_, refl}
 use Prim.Native.Nat.{_≤_, _-_}
 use native.Mathlib.Nat.{zero-add}
@@ -6,10 +6,10 @@ use native.Mathlib.Omega.{arith}
 use borrow.Author.Needs.{needs}
 use Rattle.bits.specs.Lists.{tabulate}
 use Rattle.cells.specs.Array.{associationsAt}
-use Rattle.wiring.specs.Wiring.{associationAt}
+use Rattle.plans.specs.Plans.{associationAt}
 use Rattle.cells.proofs.Filled.{upTo, more}
-use Rattle.wiring.proofs.put_associations.Statement.{statement}
-use Rattle.wiring.proofs.put_associations.Tie as tie
+use Rattle.plans.proofs.put_associations.Statement.{statement}
+use Rattle.plans.proofs.put_associations.Tie as tie
 
 abbrev Inv-loop : tie.InvT-loop
 Inv-loop board₀ st i₀ board i = (i ≤ 16) × (board ≡ upTo associationsAt (associationAt st) board₀ i)

@@ -1,8 +1,8 @@
--- `wiring::wire` meets its contract, from what its callees ensure.
+-- `plans::wire` meets its contract, from what its callees ensure.
 use borrow.Author.Needs.{needs}
-use Rattle.wiring.specs.Wiring.{wiredInto}
-use Rattle.wiring.proofs.wire.Statement.{statement}
-use Rattle.wiring.proofs.wire.Tie as tie
+use Rattle.plans.specs.Plans.{wiredInto}
+use Rattle.plans.proofs.wire.Statement.{statement}
+use Rattle.plans.proofs.wire.Tie as tie
 
 returns : tie.Need-returns
 unfolding wiredInto

@@ -1,12 +1,12 @@
--- `wiring::watched_word` meets its contract. The loop's invariant: the word is the union of the first i.
+-- `plans::watched_word` meets its contract. The loop's invariant: the word is the union of the first i.
 use mathlib.Core.Path.{_≡_, refl}
 use Prim.Native.Nat.{_≤_, _-_}
 use native.Mathlib.Numerals.{add-one}
 use native.Mathlib.Omega.{arith}
 use borrow.Author.Needs.{needs}
-use Rattle.wiring.specs.Wiring.{associationAt, unionTo}
-use Rattle.wiring.proofs.watched_word.Statement.{statement}
-use Rattle.wiring.proofs.watched_word.Tie as tie
+use Rattle.plans.specs.Plans.{associationAt, unionTo}
+use Rattle.plans.proofs.watched_word.Statement.{statement}
+use Rattle.plans.proofs.watched_word.Tie as tie
 
 abbrev Inv-loop : tie.InvT-loop
 Inv-loop st word₀ i₀ word i = (i ≤ 16) × (word ≡ unionTo (associationAt st) i)

@@ -1,4 +1,4 @@
--- `wiring::all_word` meets its contract. The loop's invariant: the word is that of the first i effects.
+-- `plans::all_word` meets its contract. The loop's invariant: the word is that of the first i effects.
 use mathlib.Core.Path.{_≡_, refl}
 use Prim.Native.Nat.{_≤_, _-_}
 use native.Mathlib.Omega.{arith}
@@ -6,8 +6,8 @@ use mathlib.Core.Bool.{true}
 use Rattle.bits.specs.Words.{wordOf}
 use Rattle.bits.proofs.Words.{wordOf-lt, wordOf-more}
 use borrow.Author.Needs.{needs}
-use Rattle.wiring.proofs.all_word.Statement.{statement}
-use Rattle.wiring.proofs.all_word.Tie as tie
+use Rattle.plans.proofs.all_word.Statement.{statement}
+use Rattle.plans.proofs.all_word.Tie as tie
 
 abbrev Inv-loop : tie.InvT-loop
 Inv-loop count word₀ i₀ word i = (i ≤ count) × (word ≡ wordOf (λ k. true) i)

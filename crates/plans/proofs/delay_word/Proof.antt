@@ -1,14 +1,14 @@
--- `wiring::delay_word` meets its contract. The loop's invariant: the word is that of the first i effects.
+-- `plans::delay_word` meets its contract. The loop's invariant: the word is that of the first i effects.
 use mathlib.Core.Path.{_≡_, refl}
 use Prim.Native.Nat.{_≤_, _-_}
 use native.Mathlib.Omega.{arith}
 use lib.Dec.{ltb}
-use Rattle.wiring.specs.Wiring.{delayAt}
+use Rattle.plans.specs.Plans.{delayAt}
 use Rattle.bits.specs.Words.{wordOf}
 use Rattle.bits.proofs.Words.{wordOf-lt, wordOf-more}
 use borrow.Author.Needs.{needs}
-use Rattle.wiring.proofs.delay_word.Statement.{statement}
-use Rattle.wiring.proofs.delay_word.Tie as tie
+use Rattle.plans.proofs.delay_word.Statement.{statement}
+use Rattle.plans.proofs.delay_word.Tie as tie
 
 abbrev Inv-loop : tie.InvT-loop
 Inv-loop count st word₀ i₀ word i = (i ≤ count) × (word ≡ wordOf (λ k. ltb 0 (delayAt st k)) i)

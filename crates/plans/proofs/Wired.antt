@@ -9,7 +9,7 @@ use Rattle.bits.specs.Lists.{tabulate}
 use Rattle.bits.proofs.Lists.{length-tabulate}
 use Rattle.cells.specs.Array.{part, partLength, arrayLength, associationsAt, delaysAt, associationsIn, delaysIn}
 use Rattle.settings.specs.declared.Settings.{Settings}
-use Rattle.wiring.specs.Wiring.{associationAt, delayAt, associationsOf, delaysOf, wiredInto}
+use Rattle.plans.specs.Plans.{associationAt, delayAt, associationsOf, delaysOf, wiredInto}
 use Rattle.cells.proofs.Parts.{length-part, part-filled, part-before, part-after}
 
 -- a part that is filled whole

@@ -1,14 +1,14 @@
--- `wiring::put_delays` meets its contract. The loop's invariant: the first i of the part are filled.
+-- `plans::put_delays` meets its contract. The loop's invariant: the first i of the part are filled.
 use mathlib.Core.Path.{_≡_, refl}
 use Prim.Native.Nat.{_≤_, _-_}
 use native.Mathlib.Omega.{arith}
 use borrow.Author.Needs.{needs}
 use Rattle.bits.specs.Lists.{tabulate}
 use Rattle.cells.specs.Array.{delaysAt}
-use Rattle.wiring.specs.Wiring.{delayAt}
+use Rattle.plans.specs.Plans.{delayAt}
 use Rattle.cells.proofs.Filled.{upTo, more}
-use Rattle.wiring.proofs.put_delays.Statement.{statement}
-use Rattle.wiring.proofs.put_delays.Tie as tie
+use Rattle.plans.proofs.put_delays.Statement.{statement}
+use Rattle.plans.proofs.put_delays.Tie as tie
 
 abbrev Inv-loop : tie.InvT-loop
 Inv-loop board₀ st i₀ board i = (i ≤ 16) × (board ≡ upTo delaysAt (delayAt st) board₀ i)
