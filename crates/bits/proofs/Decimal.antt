@@ -1,4 +1,4 @@
--- Laws of decimal text: what it is in terms of itself, how long it is, and that it is the number's own.
+-- Laws of decimal text: how it is made of its own front, how long it is, and that it belongs to one number only.
 use mathlib.Core.Path.{_≡_, refl, sym, ap, _∙_}
 use mathlib.Core.Bool.{Bool, true, false, cond}
 use mathlib.Core.List.{List, [], _∷_, _++_}
@@ -12,7 +12,7 @@ use Rattle.bits.specs.Decimal.{digit, atMost, decimal}
 
 -- ## One digit, or those of n / 10 and the last
 
--- any two numbers of digits that are enough give the same
+-- any two numbers of digits that are enough give the same text
 enough : (j k n : ℕ) → n < j → n < k → atMost j n ≡ atMost k n
 unfolding atMost
 enough zero k n h g = absurd (not-suc-le-zero h)
@@ -41,7 +41,7 @@ length-one n h = ap length (decimal-one n h)
 pub length-more : (n : ℕ) → 10 ≤ n → length (decimal n) ≡ length (decimal (n / 10)) + 1
 length-more n h = ap length (decimal-more n h) ∙ length-append (decimal (n / 10)) (digit (n % 10) ∷ [])
 
--- ## How long it is
+-- ## How long a decimal is
 
 -- k + 1 digits are enough below 10 ^ (k + 1)
 pub length-decimal : (k n : ℕ) → n < 10 ^ suc k → length (decimal n) ≤ suc k
@@ -83,9 +83,9 @@ digits-within (suc k) n h = go (ltb n 10) refl (digits-within k (n / 10))
 pub digits-only : (n : ℕ) → Digits (decimal n)
 digits-only n = digits-within (suc n) n (omega arith)
 
--- ## It is the number's own
+-- ## A decimal belongs to one number only
 
--- what digits spell, behind those that spell m
+-- the number that the digits spell, behind digits that spell m
 abbrev pub valueFrom : ℕ → List ℕ → ℕ
 valueFrom m [] = m
 valueFrom m (d ∷ ds) = valueFrom (m * 10 + (d - 48)) ds
@@ -104,7 +104,7 @@ value-within (suc k) n h = go (ltb n 10) refl (value-within k (n / 10))
         let large = ltb-false n 10 e in
         ap (valueFrom 0) (decimal-more n large) ∙ value-last 0 (decimal (n / 10)) (n % 10) ∙ omega (arith, r (omega arith))
 
--- reading it gives the number, so that two numbers never have one text
+-- reading a decimal gives the number, so no two numbers have the same text
 pub value-decimal : (n : ℕ) → valueFrom 0 (decimal n) ≡ n
 value-decimal n = value-within (suc n) n (omega arith)
 

@@ -13,7 +13,7 @@ use lib.Seq.{set-at, sets, drop-cons, getD-at, take-suc}
 use Rattle.bits.specs.Lists.{tabulate, allFrom}
 use Rattle.bits.proofs.Numbers.{sets-append}
 
--- ## Both tests
+-- ## Both tests, and neither
 
 pub and-left : (a b : Bool) → (a && b) ≡ true → a ≡ true
 and-left true b e = refl
@@ -26,7 +26,7 @@ and-right false b e = absurd (false≢true e)
 pub both : (a b : Bool) → a ≡ true → b ≡ true → (a && b) ≡ true
 both a b e f = rw (e, f)
 
--- neither test
+-- a disjunction that fails: both tests fail
 pub or-none : (a b : Bool) → (a || b) ≡ false → (a ≡ false) × (b ≡ false)
 or-none true b e = absurd (false≢true (sym e))
 or-none false b e = (refl, e)
@@ -93,7 +93,7 @@ module _ {A : Type 0} where
   pub all-ends : (t : ℕ → A → Bool) (i : ℕ) (xs : List A) → length xs ≤ i → allFrom t i (drop i xs) ≡ allFrom t 0 xs → true ≡ allFrom t 0 xs
   all-ends t i xs h inv = rw (← inv, drop-of-length-le xs h)
 
-  -- a list that passes, element by element
+  -- in a list that passes, each element passes
   pub all-at : (t : ℕ → A → Bool) (i : ℕ) (xs : List A) (d : A) → allFrom t i xs ≡ true → (j : ℕ) → j < length xs → t (i + j) (getD xs j d) ≡ true
   all-at t i [] d e j h = absurd (not-suc-le-zero h)
   all-at t i (x ∷ xs) d e zero h = rw add-zero (and-left (t i x) _ e)
@@ -101,7 +101,7 @@ module _ {A : Type 0} where
       let n : i + suc j ≡ i + 1 + j = omega arith in
       rw n (all-at t (i + 1) xs d (and-right (t i x) _ e) j (le-of-suc-le-suc h))
 
-  -- a list whose elements all pass
+  -- a list passes if each element passes
   pub all-pass : (t : ℕ → A → Bool) (i : ℕ) (xs : List A) (d : A) → ((j : ℕ) → j < length xs → t (i + j) (getD xs j d) ≡ true) → allFrom t i xs ≡ true
   all-pass t i [] d h = refl
   all-pass t i (x ∷ xs) d h =
@@ -140,19 +140,19 @@ module _ {A B : Type 0} (put : A → List B) where
   unfolding flatMap
   flatMap-snoc xs x = flatMap-append xs (x ∷ []) ∙ ap (λ (l : List B). flatMap put xs ++ l) (append-nil (put x))
 
-  -- after the last turn of a loop that stores them nothing is left
+  -- after the last turn of a loop that stores pieces, nothing is left to store
   pub store-ends : (s s′ : List B) (at i : ℕ) (xs : List A) → length xs ≤ i → sets s at (flatMap put (drop i xs)) ≡ s′ → s ≡ s′
   unfolding flatMap
   store-ends s s′ at i xs h e = rw (drop-of-length-le xs h) at e
 
-  -- pieces of one length
+  -- pieces that all have the same length
   module _ (w : ℕ) (wide : (a : A) → length (put a) ≡ w) where
     pub length-flatMap : (xs : List A) → length (flatMap put xs) ≡ w * length xs
     unfolding flatMap
     length-flatMap [] = rw mul-zero
     length-flatMap (x ∷ xs) = length-append (put x) (flatMap put xs) ∙ omega (arith, wide x, length-flatMap xs, mul-suc w (length xs))
 
-    -- one turn of such a loop: element i's piece is stored, and those of the rest are left
+    -- one turn of a loop that stores pieces: the piece of element i is stored, and those of the rest are left
     pub store-turn : (s : List B) (at i : ℕ) (xs : List A) (d : A) → i < length xs
         → sets (sets s (at + w * i) (put (getD xs i d))) (at + w * (i + 1)) (flatMap put (drop (i + 1) xs)) ≡ sets s (at + w * i) (flatMap put (drop i xs))
     unfolding flatMap

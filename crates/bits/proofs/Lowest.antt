@@ -26,7 +26,7 @@ pub record Lowest (k w n : ℕ) : Type 0 where
   pub under-it : (i : ℕ) → i < n → bitOf w i ≡ false
   pub cleared : (i : ℕ) → bitOf (bitAnd w (w - 1)) i ≡ (bitOf w i && not (eqb i n))
 
--- an odd word, and an even one
+-- the lowest set bit of an odd word is bit 0; that of an even word is one above that of its half
 odd : (k w : ℕ) → w % 2 ≡ 1 → Lowest (suc k) w 0
 odd k w e = record {
   inside = omega arith;

@@ -20,7 +20,7 @@ Fit [] (v ∷ vs) = ⊥
 Fit (w ∷ ws) [] = ⊥
 Fit (w ∷ ws) (v ∷ vs) = (v < 256 ^ w) × Fit ws vs
 
--- as many numbers as the layout has, and 0 where a width is none: what can be read back
+-- as many numbers as the layout has, and 0 where a width is 0: such numbers can be read back
 abbrev pub Spelled : List ℕ → List ℕ → Type 0
 Spelled [] [] = Unit {0}
 Spelled [] (v ∷ vs) = ⊥
@@ -33,7 +33,7 @@ pub sets-append : {A : Type 0} (l : List A) (i : ℕ) (a b : List A) → sets l 
 sets-append l i [] b = rw add-zero
 sets-append l i (x ∷ a) b = sets-append (set l i x) (suc i) a b ∙ rw (add-suc, suc-add)
 
--- one store more behind a run of them
+-- one store more after a run of stores is a longer run
 pub put-last : {A : Type 0} (l l′ : List A) (at n : ℕ) (vs : List A) (v : A) → l′ ≡ sets l at vs → n ≡ at + length vs
     → set l′ n v ≡ sets l at (vs ++ (v ∷ []))
 put-last l l′ at n vs v p e = rw (p, e) (sym (sets-append l at vs (v ∷ [])))
@@ -84,7 +84,7 @@ digits-parts (suc a) b v =
     (ap₂ (λ (x : ℕ) (l : List ℕ). x ∷ l) high
     (digits-parts a b (v % 256 ^ suc (a + b)) ∙ rw (w, digits-div (v / c % m) low, digits-mod (v / c % m) low)))
 
--- so a number is stored in two parts, one after the other
+-- a number is stored in two parts, one after the other
 pub sets-parts : (l l′ : List ℕ) (at a b v : ℕ) → l′ ≡ sets l at (digits (suc a) (v / 256 ^ b)) → sets l′ (at + suc a) (digits b (v % 256 ^ b)) ≡ sets l at (digits (suc (a + b)) v)
 sets-parts l l′ at a b v e =
     let upper = digits (suc a) (v / 256 ^ b) in
@@ -102,7 +102,7 @@ digits-num (suc w) s at b h =
     let rest : at + 1 + w ≤ length s = omega (arith, add-suc at w) in
     rw (digits-div (getD s at 0) lt, digits-mod (getD s at 0) lt, digits-num w s (at + 1) b rest, drop-cons s at 0 inside, add-one)
 
--- a number that is written is read back, however large: the first byte takes what is above the others. No bytes spell 0 only
+-- a number that is written is read back, however large: the first byte takes what is above the others. A width of 0 spells 0 only
 pub num-spelled : (w v : ℕ) (p q : List ℕ) (at : ℕ) → at ≡ length p → (w ≡ 0 → v ≡ 0) → numAt w (p ++ (digits w v ++ q)) at ≡ v
 num-spelled zero v p q at e z = sym (z refl)
 num-spelled (suc w) v p q at e z =
@@ -118,14 +118,14 @@ num-spelled (suc w) v p q at e z =
 pub num-digits : (w v : ℕ) (p q : List ℕ) (at : ℕ) → at ≡ length p → v < 256 ^ w → numAt w (p ++ (digits w v ++ q)) at ≡ v
 num-digits w v p q at e h = num-spelled w v p q at e (below-one w v h)
 
--- a number of bytes in two parts
+-- a number of v + w bytes is made of its first v bytes and its last w bytes
 pub num-parts : (v w : ℕ) (s : List ℕ) (at : ℕ) → numAt (v + w) s at ≡ numAt v s at * 256 ^ w + numAt w s (at + v)
 num-parts zero w s at = rw (zero-add, add-zero) (omega arith)
 num-parts (suc v) w s at =
     let next : at + 1 + v ≡ at + suc v = omega arith in
     rw (suc-add, num-parts v w s (at + 1), pow-add 256 v w, next, add-mul, mul-assoc, add-assoc)
 
--- a number of which the lowest byte comes first, turned, is that of which the highest does
+-- a number that is read the lowest byte first, and then turned, is the number that is read the highest byte first
 pub turned-low : (w : ℕ) (s : List ℕ) (at : ℕ) → Bytes s → turned w (lowAt w s at) ≡ numAt w s at
 turned-low zero s at b = refl
 turned-low (suc w) s at b =
@@ -140,7 +140,7 @@ low-lt (suc w) s at b = rw (pow-suc 256 w) (omega (arith, b at, low-lt w s (at +
 halves : (l h x : ℕ) → l < 2 ^ 32 → x ≡ l + h * 2 ^ 32 → (x % 2 ^ 32 ≡ l) × (x / 2 ^ 32 ≡ h)
 halves l h x lt e = (omega arith, omega arith)
 
--- eight bytes by halves, the lowest first, each half turned and the halves exchanged
+-- eight bytes that are read by halves, the lowest first, each half turned and the halves exchanged, are read the highest first
 pub turned-halves : (s : List ℕ) (at : ℕ) → Bytes s → (x r : ℕ) → x ≡ lowAt 4 s at + lowAt 4 s (at + 4) * 2 ^ 32
     → r ≡ turned 4 (x % 2 ^ 32) * 2 ^ 32 + turned 4 (x / 2 ^ 32) → r ≡ numAt 8 s at
 turned-halves s at b x r e f =

@@ -1,4 +1,4 @@
--- Laws of words of bits: each once, over the bit's number.
+-- Laws of words of bits: each is proved once, over the bit's number.
 use mathlib.Core.Path.{_≡_, refl, ap, ap₂, sym, _∙_}
 use mathlib.Core.Bool.{Bool, true, false, cond, not, _&&_, _||_, xor}
 use mathlib.Core.Logic.{⊎-elim}
@@ -24,7 +24,7 @@ pub wordOf-more : (t : ℕ → Bool) (n : ℕ) → wordOf t (n + 1) ≡ wordOf t
 unfolding wordOf
 wordOf-more t n = rw add-one
 
--- the code's `w | 1 << i`, where w has no bit at i or above
+-- the code's `w | 1 << i` adds 2 ^ i, where w has no bit at i or above
 pub set-bit : (w i : ℕ) → w < 2 ^ i → i < 16 → bitOr w ((1 * 2 ^ i) % 2 ^ 16) ≡ w + 2 ^ i
 set-bit w i h k = rw (shl-exact 1 i 16 (lit< tt) (omega arith), or-shifted-r 1 i w h) (omega arith)
 
@@ -67,7 +67,7 @@ one-wordOf t (suc n) i h = ⊎-elim last (λ k. earlier k (one-wordOf t n i k)) 
         let p : 2 ^ n ≡ 2 ^ (suc (n - suc i) + i) = ap (λ (m : ℕ). 2 ^ m) e in
         rw (step, p, below (wordOf t n) (one (t n)) (n - suc i) i) r
 
--- and as a test
+-- bit i of the word as a test
 pub bit-wordOf : (t : ℕ → Bool) (n i : ℕ) → i < n → bitOf (wordOf t n) i ≡ t i
 bit-wordOf t n i h = rw (one-wordOf t n i h, bit-is)
 
@@ -78,9 +78,9 @@ bit-past w n i h k = rw (div-eq-of-lt (lt-of-lt-of-le h (pow-mono k)))
 pub bit-none : (i : ℕ) → bitOf 0 i ≡ false
 bit-none i = bit-past 0 0 i (omega arith) (omega arith)
 
--- ## A word is that of its bits
+-- ## A word is the word of its bits
 
--- bits that agree below n give one word
+-- bits that agree below n give the same word
 pub wordOf-ext : (f g : ℕ → Bool) (n : ℕ) → ((i : ℕ) → i < n → f i ≡ g i) → wordOf f n ≡ wordOf g n
 unfolding wordOf
 wordOf-ext f g zero h = refl
@@ -103,7 +103,7 @@ low-bits w (suc n) =
 pub word-bits : (w n : ℕ) → w < 2 ^ n → wordOf (bitOf w) n ≡ w
 word-bits w n h = low-bits w n ∙ mod-eq-of-lt h
 
--- two words of the same bits are one
+-- two words of the same bits are equal
 pub same-bits : (v w n : ℕ) → v < 2 ^ n → w < 2 ^ n → ((i : ℕ) → i < n → bitOf v i ≡ bitOf w i) → v ≡ w
 same-bits v w n hv hw h = sym (word-bits v n hv) ∙ wordOf-ext (bitOf v) (bitOf w) n h ∙ word-bits w n hw
 
@@ -151,7 +151,7 @@ bit-or = bit-op bitOr _||_ or-shr or-mod or-digits
 pub bit-xor : (v w i : ℕ) → bitOf (bitXor v w) i ≡ xor (bitOf v i) (bitOf w i)
 bit-xor = bit-op bitXor xor xor-shr xor-mod xor-digits
 
--- the complement in n bits
+-- a word and its complement in n bits add up to all ones
 complement : (t : ℕ → Bool) (n : ℕ) → wordOf t n + wordOf (λ i. not (t i)) n ≡ 2 ^ n - 1
 unfolding wordOf
 complement t zero = omega arith
@@ -162,7 +162,7 @@ complement t (suc n) = go (t n) (complement t n)
     go true h = omega (arith, wordOf-lt t n)
     go false h = omega (arith, wordOf-lt t n)
 
--- a bit of the code's `!w`
+-- a bit of the code's `!w` is the opposite of that bit of w
 pub bit-not : (w i : ℕ) → w < 65536 → i < 16 → bitOf (65535 - w) i ≡ not (bitOf w i)
 bit-not w i h k =
     let e : 65535 - w ≡ wordOf (λ j. not (bitOf w j)) 16 = omega (arith, complement (bitOf w) 16, word-bits w 16 h) in
@@ -180,7 +180,7 @@ or-word f g n =
     same-bits _ _ n (or-lt n _ _ (wordOf-lt f n) (wordOf-lt g n)) (wordOf-lt _ n)
     (λ i k. bit-or (wordOf f n) (wordOf g n) i ∙ ap₂ _||_ (bit-wordOf f n i k) (bit-wordOf g n i k) ∙ sym (bit-wordOf (λ j. f j || g j) n i k))
 
--- the code's `v & !w`, of words of at most sixteen bits
+-- the code's `v & !w`, of words of at most sixteen bits, by their bits
 pub less-word : (f g : ℕ → Bool) (n : ℕ) → n ≤ 16 → bitAnd (wordOf f n) (65535 - wordOf g n) ≡ wordOf (λ i. f i && not (g i)) n
 less-word f g n h =
     let small : wordOf g n < 65536 = lt-of-lt-of-le (wordOf-lt g n) (pow-mono h) in
@@ -199,7 +199,7 @@ and-assoc a b c h =
     go true y z = refl
     go false y z = refl
 
--- what is left of a, less other bits twice, lies inside a
+-- the bits of a that m and v also have are bits of a
 pub less-inside : (a m v : ℕ) → a < 65536 → bitAnd (bitAnd (bitAnd a m) v) a ≡ bitAnd (bitAnd a m) v
 less-inside a m v h =
     let b : bitAnd (bitAnd a m) v < 2 ^ 16 = omega (arith, and-le-l (bitAnd a m) v, and-le-l a m) in

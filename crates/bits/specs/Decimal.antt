@@ -15,7 +15,7 @@ ascii (c then s) = code c ∷ ascii s
 abbrev pub digit : ℕ → ℕ
 digit d = code "0" + d
 
--- the digits of n, of which there are at most k: those of n / 10, and the last one behind them
+-- the digits of n, of which there are at most k: those of n / 10, and then the last digit
 unfoldable pub atMost : ℕ → ℕ → List ℕ
 atMost zero n = []
 atMost (suc k) n = cond (ltb n 10) (digit n ∷ []) (atMost k (n / 10) ++ (digit (n % 10) ∷ []))

@@ -14,7 +14,7 @@ module _ {A : Type 0} where
   listOf get w zero at = []
   listOf get w (suc n) at = get at ∷ listOf get w n (at + w)
 
-  -- every element passes the test, which sees its number too, from i on
+  -- every element passes the test, which also reads the element's index, counted from i
   abbrev pub allFrom : (ℕ → A → Bool) → ℕ → List A → Bool
   allFrom t i [] = true
   allFrom t i (x ∷ xs) = t i x && allFrom t (i + 1) xs

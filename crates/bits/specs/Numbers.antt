@@ -4,7 +4,7 @@ use Prim.Native.Nat.{ℕ, zero, suc, _+_, _*_, _/_, _%_, _^_, _<_}
 use mathlib.Core.List.{List, [], _∷_}
 use lib.ListN.{getD}
 
--- every element is a byte. Every slice of bytes has it: the contract of `exactness::each_is_a_byte` says so of whatever is lent
+-- every element is a byte. This holds of every slice of bytes: the contract of `exactness::each_is_a_byte` says so of whatever is lent
 abbrev pub Bytes : List ℕ → Type 0
 Bytes s = (i : ℕ) → getD s i 0 < 256
 

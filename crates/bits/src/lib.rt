@@ -1,6 +1,6 @@
-// What every other crate counts on: bits of a word, big-endian numbers in a slice of bytes, and text. It rests on the kit alone: what the
-// kit has, as copying bytes, is called there.
-// How a function comes to its answer may change without moving a contract; what the answer is stands in specs/, and the laws in
+// What every other crate counts on: bits of a word, big-endian numbers in a slice of bytes, and text. It rests on the kit alone, and calls
+// the kit where the kit has a function, as for copying bytes.
+// How a function computes its answer may change without moving a contract; what the answer is stands in specs/, and the laws in
 // proofs/ are cited by name.
 ghost use mathlib.Core.Path.{_≡_};
 ghost use mathlib.Core.Bool.{cond};
@@ -43,7 +43,7 @@ pub fn within(word: u16, n: u8) -> bool
     }
 }
 
-// How many bits of the word are set, counted bit by bit; with its bound, so that a caller need not show it.
+// How many bits of the word are set, counted bit by bit. The bound is in the contract, so that a caller need not show it.
 pub fn count_bits(word: u16) -> u32
     ensures { λ r. ⌜ (r ≡ ones word) × (r ≤ 16) ⌝ }
 {
@@ -65,7 +65,7 @@ pub fn pick16(b: bool, x: u16, y: u16) -> u16
     if b { x } else { y }
 }
 
-// The same of 32 bits.
+// The first if the test holds, else the second, of 32 bits.
 pub fn pick32(b: bool, x: u32, y: u32) -> u32
     ensures { λ r. ⌜ r ≡ cond b x y ⌝ }
 {
@@ -81,14 +81,14 @@ pub fn minus(a: u32, b: u32) -> u32
 
 // ---- big-endian numbers in a slice
 
-// A byte as 16 bits, with its bound, so that a caller need not show it.
+// A byte as 16 bits. The bound is in the contract, so that a caller need not show it.
 fn wide(x: u8) -> u16
     ensures { λ r. ⌜ (r ≡ x) × (r < 256) ⌝ }
 {
     x as u16
 }
 
-// A byte as 32 bits, in the same way.
+// A byte as 32 bits. The bound is in the contract, so that a caller need not show it.
 fn wide32(x: u8) -> u32
     ensures { λ r. ⌜ (r ≡ x) × (r < 256) ⌝ }
 {
@@ -145,7 +145,7 @@ fn turned32(x: u32) -> u32
     x % 256 * 16777216 + x / 256 % 256 * 65536 + x / 65536 % 256 * 256 + x / 16777216
 }
 
-// The eight bytes of a number in the other order: each half's, and the halves exchanged.
+// The eight bytes of a number in the other order: the bytes of each half are turned, and the halves are exchanged.
 fn turned64(x: u64) -> u64
     ensures { λ r. ⌜ r ≡ turned 4 (x % 2 ^ 32) * 2 ^ 32 + turned 4 (x / 2 ^ 32) ⌝ }
 {
@@ -153,7 +153,7 @@ fn turned64(x: u64) -> u64
         + (turned32((x / 4294967296) as u32) as u64)
 }
 
-// The 64 bits at `at`. The bytes are read the lowest first and then turned: of that the compiler makes one load.
+// The 64 bits at `at`. The bytes are read the lowest first and then turned: the compiler makes one load of that.
 pub fn get64(s: &[u8], at: usize) -> u64
     requires { ⌜ at + 8 ≤ length (now s) ⌝ }
     ensures { λ r. ⌜ r ≡ numAt 8 (now (s .entry)) at ⌝ }

@@ -9,7 +9,7 @@ use Rattle.rules.specs.declared.Slot.{Slot}
 use Rattle.rules.specs.Rules.{next}
 use Rattle.effects.specs.Scan.{steps}
 
--- effects do not read each other: the slot after of effect i is that of its own slot and its own signals
+-- effects do not read each other: the slot of effect i after the scan depends on its own slot and its own signals alone
 pub step-at : (ss : List Signals) (xs : List Slot) (i : ℕ) (d : Signals) (e : Slot) → i < length ss → i < length xs
     → getD (steps ss xs) i e ≡ next (getD ss i d) (getD xs i e)
 step-at [] xs i d e h k = absurd (not-suc-le-zero h)

@@ -32,7 +32,7 @@ pub length-only : (m : Bool) (e : Event) (rest : List Event) → length (only m 
 length-only true e rest = omega arith
 length-only false e rest = omega arith
 
--- the front of a buffer to which records were written is those records
+-- after a write of records to the front of a buffer, its front is these records
 pub front-bytes : (es : List Event) (l : List ℕ) → recordLength * length es ≤ length l → take (recordLength * length es) (sets l 0 (bytes es)) ≡ bytes es
 front-bytes es l h =
     rw (sets-eq (bytes es) l 0 (omega (arith, length-bytes es))) (take-at (bytes es) (drop (0 + length (bytes es)) l) (recordLength * length es) (length-bytes es))
@@ -79,27 +79,27 @@ made a b c p q f = record { seq = a; scan = b; effect = c; from = p; to = q; «f
 same-made : (a b c a′ b′ c′ : ℕ) (p q p′ q′ : EffectState) (f f′ : ℕ) → a ≡ a′ → b ≡ b′ → c ≡ c′ → p ≡ p′ → q ≡ q′ → f ≡ f′ → made a b c p q f ≡ made a′ b′ c′ p′ q′ f′
 same-made a b c a′ b′ c′ p q p′ q′ f f′ h₁ h₂ h₃ h₄ h₅ h₆ = rw (h₁, h₂, h₃, h₄, h₅, h₆)
 
--- an event is that of its fields
+-- two events whose fields are equal are equal
 pub same-event : (r e : Event) → r .seq ≡ e .seq → r .scan ≡ e .scan → r .effect ≡ e .effect → code (r .from) ≡ code (e .from)
     → code (r .to) ≡ code (e .to) → r .«first_out» ≡ e .«first_out» → r ≡ e
 same-event r e a b c p q f =
     same-made (r .seq) (r .scan) (r .effect) (e .seq) (e .scan) (e .effect) (r .from) (r .to) (e .from) (e .to) (r .«first_out») (e .«first_out») a b c (code-injective (r .from) (e .from) p) (code-injective (r .to) (e .to) q) f
 
--- an event with the fields of a record that stands at a place is the one whose record it is
+-- an event with the fields of the record at a place is the event of that record
 pub read-as : (s : List ℕ) (at : ℕ) (e r : Event) → StandsAt s at e → r .seq ≡ numAt 2 s at → r .scan ≡ numAt 4 s (at + 2) → r .effect ≡ numAt 1 s (at + 6)
     → code (r .from) ≡ numAt 1 s (at + 7) → code (r .to) ≡ numAt 1 s (at + 8) → r .«first_out» ≡ numAt 2 s (at + 10) → StandsAt s at r
 read-as s at e r h a b c p q f =
     let x = fields-of s at e h in
     rw (same-event r e (a ∙ x .seq) (b ∙ x .scan) (c ∙ x .effect) (p ∙ x .from) (q ∙ x .to) (f ∙ x .first-out)) h
 
--- at a place stands the record of one event at most
+-- at most one event has its record at a place
 pub one-event : (s : List ℕ) (at : ℕ) (r e : Event) → StandsAt s at r → StandsAt s at e → r ≡ e
 one-event s at r e h k =
     let x = fields-of s at r h in
     let y = fields-of s at e k in
     same-event r e (sym (x .seq) ∙ y .seq) (sym (x .scan) ∙ y .scan) (sym (x .effect) ∙ y .effect) (sym (x .from) ∙ y .from) (sym (x .to) ∙ y .to) (sym (x .first-out) ∙ y .first-out)
 
--- records that stand one after the other: the first, and the rest
+-- records that stand one after the other: the first record, and the rest
 module _ (s : List ℕ) (at : ℕ) (e : Event) (es : List Event) (h : StandFrom s at (e ∷ es)) where
   split-first : drop at s ≡ encode e ++ (bytes es ++ drop (recordLength * length (e ∷ es)) (drop at s))
   unfolding flatMap
@@ -117,7 +117,7 @@ module _ (s : List ℕ) (at : ℕ) (e : Event) (es : List Event) (h : StandFrom 
         ∙ take-at (bytes es) _ (recordLength * length es) (length-bytes es),
   )
 
--- and record i
+-- of records that stand one after the other, record i stands i records further on
 pub stand-nth : (s : List ℕ) (at : ℕ) (es : List Event) → StandFrom s at es → (i : ℕ) (d : Event) → i < length es → StandsAt s (at + recordLength * i) (getD es i d)
 stand-nth s at [] h i d l = absurd (omega arith)
 stand-nth s at (e ∷ es) h zero d l = rw add-zero (stand-first s at e es h)

@@ -17,11 +17,11 @@ recordLength = 12
 abbrev pub mostRecords : ℕ
 mostRecords = 2 * mostEffects
 
--- their bytes
+-- the most bytes that a row's records take
 abbrev pub mostRowBytes : ℕ
 mostRowBytes = recordLength * mostRecords
 
--- sequence (2), scan number (4), effect (1), state before (1), state after (1), zero (1), first-out after (2)
+-- the widths: sequence (2), scan number (4), effect (1), state before (1), state after (1), zero (1), first-out after (2)
 abbrev pub recordLayout : List ℕ
 recordLayout = 2 ∷ 4 ∷ 1 ∷ 1 ∷ 1 ∷ 1 ∷ 2 ∷ []
 
@@ -29,11 +29,11 @@ recordLayout = 2 ∷ 4 ∷ 1 ∷ 1 ∷ 1 ∷ 1 ∷ 2 ∷ []
 abbrev pub recordOf : (seq scan effect from to first : ℕ) → List ℕ
 recordOf q c i p r f = pack recordLayout (q ∷ c ∷ i ∷ p ∷ r ∷ 0 ∷ f ∷ [])
 
--- as the code gives them
+-- the bytes of a record that the code holds
 abbrev pub bytesOf : Record → List ℕ
 bytesOf r = recordOf (r .seq) (r .scan) (r .effect) (r .from) (r .to) (r .«first_out»)
 
--- and of an event
+-- the bytes of the record of an event
 unfoldable pub encode : Event → List ℕ
 encode e = recordOf (e .seq) (e .scan) (e .effect) (code (e .from)) (code (e .to)) (e .«first_out»)
 

@@ -1,5 +1,5 @@
--- One scan of all effects. Document 01, "The rules of one scan": effects do not read each other, so each list is gone
--- through effect by effect: the signals of the effects that exist, and the slots.
+-- One scan of all effects. Document 01, "The rules of one scan": effects do not read each other, so a definition recurs on two lists,
+-- effect by effect: the signals of the effects that exist, and the slots.
 use Prim.Native.Nat.{ℕ, suc, _+_, _%_}
 use mathlib.Core.Bool.{Bool, false, cond, _||_}
 use mathlib.Core.List.{List, [], _∷_, _++_}
@@ -10,7 +10,7 @@ use Rattle.rules.specs.declared.Slot.{Slot}
 use Rattle.rules.specs.Rules.{noSlot, noSignals, after, next, moved, isOn, isLatent, isExercised}
 use Rattle.effects.specs.declared.Event.{Event}
 
--- the slots after the scan; those past the effects are kept
+-- the slots after the scan; slots past the effects are kept
 abbrev pub steps : List Signals → List Slot → List Slot
 steps [] xs = xs
 steps (s ∷ ss) [] = []
@@ -28,7 +28,7 @@ anyMoved (s ∷ ss) (x ∷ xs) = moved s x || anyMoved ss xs
 abbrev pub wrapped : ℕ → ℕ
 wrapped q = (q + 1) % 65536
 
--- the sequence number after a scan: one on for each effect whose state changed
+-- the sequence number after a scan: one higher for each effect whose state changed
 abbrev pub seqAfter : ℕ → List Signals → List Slot → ℕ
 seqAfter q [] xs = q
 seqAfter q (s ∷ ss) [] = q
@@ -38,7 +38,7 @@ seqAfter q (s ∷ ss) (x ∷ xs) = seqAfter (cond (moved s x) (wrapped q) q) ss 
 abbrev pub event : ℕ → ℕ → ℕ → Signals → Slot → Event
 event q c i s x = record { seq = q; scan = c; effect = i; from = x .state; to = after s x; «first_out» = next s x .«first_out» }
 
--- an event, where there is one
+-- the list of the event alone if the test holds, else no event
 abbrev pub only : Bool → Event → List Event
 only b e = cond b (e ∷ []) []
 

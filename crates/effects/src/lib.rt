@@ -31,10 +31,10 @@ pub struct Record {
     pub first_out: u16,
 }
 
-// The bytes of a record.
+// The length of a record, in bytes.
 pub const RECORD_LENGTH: usize = 12;
 
-// The most bytes of a row's records: two records an effect.
+// The most bytes that a row's records take: two records an effect.
 pub const MOST_ROW_BYTES: usize = 384;
 
 // ---- the records
@@ -58,7 +58,7 @@ fn put_change(buf: &mut [u8], at: usize, from: u8, to: u8, first: u16)
     bits::put16(buf, at + 3, first);
 }
 
-// The record at a place.
+// Puts a record at a place.
 pub fn put_record(buf: &mut [u8], at: usize, r: Record)
     requires { ⌜ at + recordLength ≤ length (now buf) ⌝ }
     ensures { λ _. ⌜ now (buf .exit) ≡ sets (now (buf .entry)) at (bytesOf r) ⌝ }

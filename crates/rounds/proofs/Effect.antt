@@ -21,11 +21,11 @@ use Rattle.rules.proofs.States.{same-eq, same-refl}
 
 -- ## A slot that a step has left
 
--- the timer is 0 but in Delayed, and first-out is 0 in Normal
+-- the timer is 0 except in Delayed, and the first-out is 0 in Normal
 abbrev pub Settled : Slot → Type 0
 Settled x = (cond (same (x .state) Delayed) 0 (x .timer) ≡ 0) × (cond (same (x .state) Normal) (x .«first_out») 0 ≡ 0)
 
--- whatever state is entered
+-- a slot is settled whatever state it enters
 settled-enter : (s : Signals) (x : Slot) (q : EffectState) → Settled (enter s x q)
 settled-enter s x Tripped = (refl, refl)
 settled-enter s x WaitReset = (refl, refl)
@@ -34,7 +34,7 @@ settled-enter s x WaitStart = (refl, refl)
 settled-enter s x Normal = (refl, refl)
 settled-enter s x Delayed = (refl, refl)
 
--- so a slot is settled after any scan
+-- a slot is settled after any scan
 pub settled-next : (s : Signals) (x : Slot) → Settled (next s x)
 settled-next s x = settled-enter s x (after s x)
 
@@ -55,7 +55,7 @@ rests k s WaitStart t f h = slot-path WaitStart (omega arith) refl
 rests k s Normal t f h = slot-path Normal (omega arith) (omega arith)
 rests k s Delayed t f h = slot-path Delayed (omega arith) refl
 
--- what is left to count from is not 0 only where the test holds
+-- k is below `cond (not b) 0 m` only where b holds and k is below m
 lt-cond : (b : Bool) (m k : ℕ) → k < cond (not b) 0 m → (b ≡ true) × (k < m)
 lt-cond true m k h = (refl, h)
 lt-cond false m k h = absurd (omega arith)
@@ -66,7 +66,7 @@ runs-on n k t p h w =
     let v : suc k * p ≤ t - 1 = le-div-iff-mul-le h .0 (omega arith) in
     omega (arith, v)
 
--- and the state as it is: the rules read nothing of the timer but whether it is due
+-- scans below those that `quiet` counts leave the state as it is: the rules read nothing of the timer but whether it is due
 stays : (n k : ℕ) (s : Signals) (p : EffectState) (t f : ℕ) → 0 < s .period → k < quiet n s (slot p t f) → after s (advance k s (slot p t f)) ≡ p
 stays n k s Tripped t f h w = same-eq _ Tripped (lt-cond _ n k w .0)
 stays n k s WaitReset t f h w = same-eq _ WaitReset (lt-cond _ n k w .0)
@@ -79,30 +79,30 @@ stays n k s Delayed t f h w =
     ap (λ (d : Bool). rule (asks s) d Delayed) (lt-leb (t - k * s .period) (s .period) v ∙ sym (lt-leb t (s .period) (omega arith)))
     ∙ same-eq _ Delayed (u .0)
 
--- the law of a skip: one scan more
+-- the law of a skip: one scan more is a longer skip
 pub more : (n k : ℕ) (s : Signals) (x : Slot) → 0 < s .period → Settled x → k < quiet n s x → next s (advance k s x) ≡ advance (suc k) s x
 more n k s x h g w =
     ap (enter s (advance k s x)) (stays n k s (x .state) (x .timer) (x .«first_out») h w) ∙ rests k s (x .state) (x .timer) (x .«first_out») g
 
--- such a scan is not live
+-- a scan below those that `quiet` counts is not live
 pub unmoved : (n k : ℕ) (s : Signals) (x : Slot) → 0 < s .period → k < quiet n s x → moved s (advance k s x) ≡ false
 unmoved n k s x h w = rw (stays n k s (x .state) (x .timer) (x .«first_out») h w) (ap not (same-refl (x .state)))
 
--- no scans change nothing
+-- a skip of no scans changes nothing
 pub none : (s : Signals) (x : Slot) → advance 0 s x ≡ x
 none s x = slot-path (x .state) (omega arith) refl
 
--- each way of `quiet` is at most n
+-- each case of `quiet` is at most n
 quiet-cond : (b d : Bool) (n m : ℕ) → cond b 0 (cond d (min n m) n) ≤ n
 quiet-cond true d n m = omega arith
 quiet-cond false true n m = omega arith
 quiet-cond false false n m = omega arith
 
--- `quiet` stays below its cap
+-- `quiet` is at most its cap
 pub within : (n : ℕ) (s : Signals) (x : Slot) → quiet n s x ≤ n
 within n s x = quiet-cond (moved s x) (same (x .state) Delayed) n ((x .timer - 1) / s .period)
 
--- ## The scan after those that `quiet` counts moves
+-- ## The scan after those that `quiet` counts moves the effect
 
 -- a timer that is due moves a Delayed effect, whatever else is asked
 due-test : Asks → Bool → EffectState → Bool
@@ -112,12 +112,12 @@ due-all : every due-test ≡ true
 unfolding both allStates every due-test
 due-all = refl
 
--- so it moves for any answers
+-- an effect in Delayed whose timer is due moves, for any answers
 due-moves : (a : Asks) → not (same (rule a true Delayed) Delayed) ≡ true
 unfolding due-test
 due-moves a = every-at due-test due-all a true Delayed
 
--- without a timer `quiet` is below n only where the effect moves at once
+-- where no timer runs, `quiet` is below n only if the effect moves at once
 cond-lt : (b : Bool) (n : ℕ) → cond b 0 n < n → b ≡ true
 cond-lt true n h = refl
 cond-lt false n h = absurd (omega arith)
@@ -129,7 +129,7 @@ runs-out n t p h w =
     let u : t - 1 < suc ((t - 1) / p) * p = div-lt-iff-lt-mul h .0 (omega arith) in
     rw e (omega arith)
 
--- by state: at once, or when the timer is due
+-- state by state: the effect moves at once, or when its timer is due
 wakes-at : (n : ℕ) (s : Signals) (p : EffectState) (t f : ℕ) → 0 < s .period → quiet n s (slot p t f) < n
     → moved s (advance (quiet n s (slot p t f)) s (slot p t f)) ≡ true
 wakes-at n s Tripped t f h w = cond-lt _ n w
@@ -153,13 +153,13 @@ wakes-at n s Delayed t f h w = go (moved s x) refl
         subst (λ (j : ℕ). moved s (advance j s x) ≡ true) (sym q)
         (ap (λ (d : Bool). not (same (rule (asks s) d Delayed) Delayed)) (le-leb (t - m * s .period) (s .period) v) ∙ due-moves (asks s))
 
--- the law of the scan after a skip: it moves
+-- the law of the scan after a skip: it moves the effect
 pub wakes : (n : ℕ) (s : Signals) (x : Slot) → 0 < s .period → quiet n s x < n → moved s (advance (quiet n s x) s x) ≡ true
 wakes n s x h w = wakes-at n s (x .state) (x .timer) (x .«first_out») h w
 
 -- ## Each effect moves at most twice
 
--- the same answers without the reset
+-- what is asked, without the reset
 abbrev unreset : Asks → Asks
 unreset a =
     record {
@@ -174,15 +174,15 @@ unreset a =
       delayed = a .delayed;
     }
 
--- the state that p comes to in scans without reset, at once or when its timer has run out
+-- the state that follows p in scans without reset, at once or when its timer has run out
 abbrev goes : Asks → EffectState → EffectState
 goes a p = rule (unreset a) true p
 
--- how many moves are left, in scans without reset
+-- how many moves are left to the effect, in scans without reset
 pub rank : Asks → EffectState → ℕ
 rank a p = one (not (same (goes a p) p)) + one (not (same (goes a (goes a p)) (goes a p)))
 
--- a move and those left after it are at most two
+-- a move and the moves left after it are at most two
 two-test : Asks → Bool → EffectState → Bool
 two-test a d p = leb (one (not (same (rule a d p) p)) + rank a (rule a d p)) 2
 
@@ -190,7 +190,7 @@ two-all : every two-test ≡ true
 unfolding both allStates every two-test rank
 two-all = refl
 
--- without reset, a move and those left after it are at most those left before
+-- without reset, a move and the moves left after it are at most the moves left before it
 falls-test : Asks → Bool → EffectState → Bool
 falls-test a d p = leb (one (not (same (rule (unreset a) d p) p)) + rank a (rule (unreset a) d p)) (rank a p)
 
@@ -198,22 +198,22 @@ falls-all : every falls-test ≡ true
 unfolding both allStates every falls-test rank
 falls-all = refl
 
--- the first scan, with the reset as given: its move and those left are at most two
+-- in the first scan, with the reset as given, the move and the moves left after it are at most two
 pub two : (s : Signals) (x : Slot) → one (moved s x) + rank (asks s) (after s x) ≤ 2
 unfolding two-test
 two s x = leb-true _ _ (every-at two-test two-all (asks s) (leb (x .timer) (s .period)) (x .state))
 
--- the scans after it: each move takes one
+-- in the scans after the first, each move takes one of the moves left
 pub falls : (s : Signals) (x : Slot) → one (moved (clear s) x) + rank (asks s) (after (clear s) x) ≤ rank (asks s) (x .state)
 unfolding falls-test
 falls s x = leb-true _ _ (every-at falls-test falls-all (asks s) (leb (x .timer) (s .period)) (x .state))
 
--- the reset does not matter to the moves left
+-- the reset does not matter to the count of moves left
 pub rank-clear : (s : Signals) (p : EffectState) → rank (asks (clear s)) p ≡ rank (asks s) p
 unfolding rank
 rank-clear s p = refl
 
--- the moves in scans without reset are at most those left
+-- the moves in scans without reset are at most the moves left
 moves-left : (s : Signals) (n : ℕ) (x : Slot) → moves (clear s) n x ≤ rank (asks s) (x .state)
 moves-left s zero x = omega arith
 moves-left s (suc n) x = omega (arith, falls s x, moves-left s n (next (clear s) x))

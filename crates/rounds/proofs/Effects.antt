@@ -1,4 +1,4 @@
--- All effects: what holds of one holds of the lists, by recursion on both, signals and slots.
+-- All effects: what holds of one effect holds of the lists, by recursion on both signals and slots.
 use mathlib.Core.Path.{_≡_, refl, ap, ap₂, sym, subst}
 use mathlib.Core.Bool.{Bool, true, false, cond, _||_}
 use mathlib.Core.List.{List, [], _∷_, _++_, map}
@@ -36,12 +36,12 @@ timed-tabulate f (suc n) h = timed-append (tabulate f n) (f n ∷ []) (timed-tab
 
 -- ## The resets cleared
 
--- clearing them again changes nothing
+-- clearing the resets again changes nothing
 pub clear-clear : (ss : List Signals) → map clear (map clear ss) ≡ map clear ss
 clear-clear [] = refl
 clear-clear (s ∷ ss) = ap (_∷_ (clear s)) (clear-clear ss)
 
--- the periods stay
+-- clearing the resets keeps the periods
 pub timed-clear : (ss : List Signals) → Timed ss → Timed (map clear ss)
 timed-clear [] h = tt
 timed-clear (s ∷ ss) h = (h .0, h .1, timed-clear ss (h .2))
@@ -54,13 +54,13 @@ Settled [] xs = Unit {0}
 Settled (s ∷ ss) [] = Unit {0}
 Settled (s ∷ ss) (x ∷ xs) = each.Settled x × Settled ss xs
 
--- so it is after any scan, from any slots
+-- after any scan, from any slots, the slot of every effect is settled
 pub settled-steps : (ss : List Signals) (xs : List Slot) → Settled ss (steps ss xs)
 settled-steps [] xs = tt
 settled-steps (s ∷ ss) [] = tt
 settled-steps (s ∷ ss) (x ∷ xs) = (each.settled-next s x, settled-steps ss xs)
 
--- the signals do not matter to it
+-- whether slots are settled does not depend on the signals
 pub settled-clear : (ss : List Signals) (xs : List Slot) → Settled ss xs → Settled (map clear ss) xs
 settled-clear [] xs g = tt
 settled-clear (s ∷ ss) [] g = tt
@@ -68,13 +68,13 @@ settled-clear (s ∷ ss) (x ∷ xs) g = (g .0, settled-clear ss xs (g .1))
 
 -- ## Scans that are not live
 
--- `quiets` stays below its cap
+-- `quiets` is at most its cap
 pub quiets-le : (n : ℕ) (ss : List Signals) (xs : List Slot) → quiets n ss xs ≤ n
 quiets-le n [] xs = omega arith
 quiets-le n (s ∷ ss) [] = omega arith
 quiets-le n (s ∷ ss) (x ∷ xs) = le-trans (quiets-le (quiet n s x) ss xs) (each.within n s x)
 
--- no scans change nothing
+-- a skip of no scans changes nothing
 pub advances-none : (ss : List Signals) (xs : List Slot) → advances 0 ss xs ≡ xs
 advances-none [] xs = refl
 advances-none (s ∷ ss) [] = refl
@@ -90,7 +90,7 @@ steps-more n k (s ∷ ss) (x ∷ xs) h g w =
     (each.more n k s x (h .0) (g .0) (lt-of-lt-of-le w (quiets-le (quiet n s x) ss xs)))
     (steps-more (quiet n s x) k ss xs (h .2) (g .1) w)
 
--- and is not live
+-- below those that `quiets` counts, a scan is not live
 pub still : (n k : ℕ) (ss : List Signals) (xs : List Slot) → Timed ss → k < quiets n ss xs → anyMoved ss (advances k ss xs) ≡ false
 still n k [] xs h w = refl
 still n k (s ∷ ss) [] h w = refl
@@ -107,7 +107,7 @@ no-events q c i (s ∷ ss) (x ∷ xs) e =
     let h = or-none (moved s x) (anyMoved ss xs) e in
     rw (h .0) (no-events q c (suc i) ss xs (h .1))
 
--- and takes no sequence number
+-- a scan that is not live takes no sequence number
 pub same-seq : (q : ℕ) (ss : List Signals) (xs : List Slot) → anyMoved ss xs ≡ false → seqAfter q ss xs ≡ q
 same-seq q [] xs e = refl
 same-seq q (s ∷ ss) [] e = refl
@@ -115,7 +115,7 @@ same-seq q (s ∷ ss) (x ∷ xs) e =
     let h = or-none (moved s x) (anyMoved ss xs) e in
     rw (h .0) (same-seq q ss xs (h .1))
 
--- where the second holds
+-- a disjunction holds if its second test does
 or-right : (a b : Bool) → b ≡ true → (a || b) ≡ true
 or-right true b e = refl
 or-right false b e = e
@@ -141,14 +141,14 @@ ranks [] xs = 0
 ranks (s ∷ ss) [] = 0
 ranks (s ∷ ss) (x ∷ xs) = each.rank (asks s) (x .state) + ranks ss xs
 
--- the reset does not matter to it
+-- the reset does not matter to the count of moves left
 pub ranks-clear : (ss : List Signals) (xs : List Slot) → ranks (map clear ss) xs ≡ ranks ss xs
 unfolding ranks
 ranks-clear [] xs = refl
 ranks-clear (s ∷ ss) [] = refl
 ranks-clear (s ∷ ss) (x ∷ xs) = ap₂ _+_ (each.rank-clear s (x .state)) (ranks-clear ss xs)
 
--- nor do the timers
+-- the timers do not matter to the count of moves left
 pub ranks-advances : (k : ℕ) (ss cs : List Signals) (xs : List Slot) → ranks ss (advances k cs xs) ≡ ranks ss xs
 unfolding ranks
 ranks-advances k [] cs xs = refl
@@ -176,7 +176,7 @@ events-two q c i (s ∷ ss) (x ∷ xs) =
     let r = cond (moved s x) (wrapped q) q in
     omega (arith, length-only (moved s x) (event q c i s x) (eventsFrom r c (suc i) ss xs), each.two s x, events-two r c (suc i) ss xs)
 
--- the count of a disjunction
+-- a disjunction counts at most as much as its two tests
 one-or : (a b : Bool) → one (a || b) ≤ one a + one b
 one-or true b = omega arith
 one-or false b = omega arith

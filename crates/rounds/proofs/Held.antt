@@ -1,4 +1,4 @@
--- A held run: rounds give what the scans give one by one, and it has at most two events an effect.
+-- A held run: rounds give what the scans give one by one, and the run has at most two events an effect.
 -- The scans after the first are steps of one kind, so the generic theorem of Rounds applies: the skip is a law of the
 -- lists of effects, and the rank is the moves left to them.
 use mathlib.Core.Path.{_≡_, refl, ap, sym, _∙_}
@@ -30,7 +30,7 @@ pub length-slots : (ss : List Signals) (n : ℕ) (r : Run) → length ((held ss 
 length-slots ss zero r = refl
 length-slots ss (suc n) r = length-slots (map clear ss) n (scan ss r) ∙ length-steps ss (r .slots)
 
--- it only appends events: those that a run gives which starts there
+-- a held run only appends events: those of a run that starts at the same point and has no events yet
 pub appends : (ss : List Signals) (n : ℕ) (r : Run)
     → (held ss n r) .events ≡ r .events ++ (held ss n (start (r .«scans_done») (r .next) (r .slots))) .events
 appends ss zero r = sym (append-nil (r .events))
@@ -41,7 +41,7 @@ appends ss (suc n) r =
     ∙ append-assoc (r .events) (due ss r) es
     ∙ ap (λ (l : List Event). r .events ++ l) (sym (appends (map clear ss) n (scan ss (start (r .«scans_done») (r .next) (r .slots)))))
 
--- so their number never falls
+-- the number of events never falls in a held run
 pub grows : (ss : List Signals) (n : ℕ) (r : Run) → length (r .events) ≤ length ((held ss n r) .events)
 grows ss n r =
     let es = (held ss n (start (r .«scans_done») (r .next) (r .slots))) .events in
@@ -54,7 +54,7 @@ run-path : {d d′ q q′ l l′ : ℕ} {xs xs′ : List Slot} {es es′ : List 
     → _≡_ {A = Run} (record { «scans_done» = d; next = q; slots = xs; events = es; live = l }) (record { «scans_done» = d′; next = q′; slots = xs′; events = es′; live = l′ })
 run-path a b c d e = λ i. record { «scans_done» = a i; next = b i; slots = c i; events = d i; live = e i }
 
--- no scans change nothing
+-- a skip of no scans changes nothing
 skip-none : (cs : List Signals) (r : Run) → skip 0 cs r ≡ r
 skip-none cs r = run-path (add-zero (r .«scans_done»)) refl (advances-none cs (r .slots)) refl refl
 
@@ -94,22 +94,22 @@ held-iterate : (n : ℕ) (ss : List Signals) (r : Run) → held (map clear ss) n
 held-iterate zero ss r = refl
 held-iterate (suc n) ss r = rw clear-clear (held-iterate n ss (scan (map clear ss) r))
 
--- and rounds without reset are the generic rounds
+-- rounds without reset are the generic rounds
 rounds-rounds : (f n : ℕ) (ss : List Signals) (r : Run)
     → byRounds f (map clear ss) n r ≡ rounds (scan (map clear ss)) (λ k r. skip k (map clear ss) r) (λ n r. quiets n (map clear ss) (r .slots)) f n r
 rounds-rounds zero n ss r = refl
 rounds-rounds (suc f) zero ss r = refl
 rounds-rounds (suc f) (suc n) ss r = rw clear-clear (rounds-rounds f _ ss _)
 
--- what the first scan leaves is settled, whatever the reset
+-- the slots after the first scan are settled, whatever the reset
 settled-first : (ss : List Signals) (xs : List Slot) → Settled (map clear ss) (steps ss xs)
 settled-first ss xs = settled-clear ss (steps ss xs) (settled-steps ss xs)
 
--- and has at most two moves left an effect
+-- after the first scan at most two moves are left an effect
 pub ranks-first : (ss : List Signals) (xs : List Slot) → ranks ss (steps ss xs) ≤ 2 * length ss
 ranks-first ss xs = omega (arith, events-two 0 0 0 ss xs)
 
--- the central theorem: as many rounds as twice the effects and one give what the scans give one by one
+-- the central theorem: 2 n + 1 rounds, of n effects, give what the scans give one by one
 pub one-stroke : (ss : List Signals) (n : ℕ) (r : Run) → Timed ss → byRounds (2 * length ss + 1) ss n r ≡ held ss n r
 one-stroke ss n r h = rw add-one (go n)
   where
@@ -124,7 +124,7 @@ one-stroke ss n r h = rw add-one (go n)
 
 -- ## At most two events an effect, and no more live scans than events
 
--- without reset, the events and the moves left are together no more than before
+-- without reset, the events and the moves left are together at most those before
 due-falls : (n : ℕ) (ss : List Signals) (r : Run)
     → length ((iterate (scan (map clear ss)) n r) .events) + ranks ss ((iterate (scan (map clear ss)) n r) .slots) ≤ length (r .events) + ranks ss (r .slots)
 due-falls zero ss r = omega arith
@@ -144,7 +144,7 @@ live-due ss zero r = omega arith
 live-due ss (suc n) r =
     omega (arith, live-due (map clear ss) n (scan ss r), live-recorded (r .next) (r .«scans_done» + 1) 1 ss (r .slots), length-append (r .events) (due ss r))
 
--- so its live scans are at most twice the effects
+-- the live scans of a held run are at most twice the effects
 pub live-at-most : (ss : List Signals) (n : ℕ) (r : Run) → (held ss n r) .live ≤ r .live + 2 * length ss
 live-at-most ss n r = omega (arith, live-due ss n r, due-at-most ss n r)
 

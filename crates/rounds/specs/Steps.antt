@@ -10,7 +10,7 @@ use Rattle.rules.specs.Rules.{next, moved}
 use Rattle.effects.specs.declared.Event.{Event}
 use Rattle.effects.specs.Scan.{steps, anyMoved, seqAfter, eventsFrom}
 
--- a run: the scans done, the next sequence number and the slots, and what it has given so far, its events and its live scans
+-- a run: the scans done, the next sequence number, the slots, and what it has given so far: its events and its live scans
 pub record Run : Type 0 where
   pub «scans_done» : ℕ
   pub next : ℕ
@@ -54,7 +54,7 @@ abbrev pub held : List Signals → ℕ → Run → Run
 held ss zero r = r
 held ss (suc n) r = held (map clear ss) n (scan ss r)
 
--- how many of n scans, the reset in the first only, change the state of one effect
+-- how many of n scans change the state of one effect, where the reset counts in the first scan only
 abbrev pub moves : Signals → ℕ → Slot → ℕ
 moves s zero x = 0
 moves s (suc n) x = one (moved s x) + moves (clear s) n (next s x)

@@ -11,23 +11,23 @@ use Rattle.rounds.specs.Steps.{Run, scan, clear}
 
 -- ## One effect
 
--- how many of the next n scans, all of these signals, leave the state as it is
+-- how many of the next n scans, all with these signals, leave the state as it is
 abbrev pub quiet : ℕ → Signals → Slot → ℕ
 quiet n s x = cond (moved s x) 0 (cond (same (x .state) Delayed) (min n ((x .timer - 1) / s .period)) n)
 
--- the effect after k such scans
+-- the effect after k scans with these signals that leave its state as it is
 abbrev pub advance : ℕ → Signals → Slot → Slot
 advance k s x = record { state = x .state; timer = x .timer - k * s .period; «first_out» = x .«first_out» }
 
 -- ## All effects
 
--- how many of the next n scans, all of these signals, are not live
+-- how many of the next n scans, all with these signals, are not live
 abbrev pub quiets : ℕ → List Signals → List Slot → ℕ
 quiets n [] xs = n
 quiets n (s ∷ ss) [] = n
 quiets n (s ∷ ss) (x ∷ xs) = quiets (quiet n s x) ss xs
 
--- the slots after k such scans
+-- the slots after k scans with these signals that are not live
 abbrev pub advances : ℕ → List Signals → List Slot → List Slot
 advances k [] xs = xs
 advances k (s ∷ ss) [] = []
@@ -35,7 +35,7 @@ advances k (s ∷ ss) (x ∷ xs) = advance k s x ∷ advances k ss xs
 
 -- ## A run
 
--- the run after k such scans: they give no event and are not live
+-- the run after k scans that are not live: they give no event
 abbrev pub skip : ℕ → List Signals → Run → Run
 skip k ss r =
     record {

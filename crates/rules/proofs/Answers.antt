@@ -1,4 +1,4 @@
--- A test that holds at every answer to what the rules ask and every state holds of any: it is computed at all of them.
+-- A test that holds at every answer to what the rules ask, and at every state, holds of any: it is computed at all of them.
 use mathlib.Core.Path.{_≡_}
 use mathlib.Core.Bool.{Bool, true, false, _&&_}
 use Rattle.bits.proofs.Lists.{and-left, and-right}
@@ -36,7 +36,7 @@ states-at f e WaitStart = and-left (f WaitStart) _ (and-right (f Ready) _ (and-r
 states-at f e Normal = and-left (f Normal) _ (and-right (f WaitStart) _ (and-right (f Ready) _ (and-right (f WaitReset) _ (and-right (f Tripped) _ e))))
 states-at f e Delayed = and-right (f Normal) _ (and-right (f WaitStart) _ (and-right (f Ready) _ (and-right (f WaitReset) _ (and-right (f Tripped) _ e))))
 
--- so it holds of any
+-- a test that holds of all answers and states holds of any
 pub every-at : (f : Asks → Bool → EffectState → Bool) → every f ≡ true → (a : Asks) (due : Bool) (p : EffectState) → f a due p ≡ true
 unfolding every
 every-at f e a due p =

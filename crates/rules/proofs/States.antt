@@ -8,7 +8,7 @@ use Rattle.rules.specs.declared.EffectState.{EffectState}
 use Rattle.rules.specs.declared.EffectState.the-variants.{Tripped, WaitReset, Ready, WaitStart, Normal, Delayed}
 use Rattle.rules.specs.Rules.{code, mostCode, same}
 
--- from a code back to its state; what it gives for other numbers is never used
+-- from a code back to its state; the state that it gives for other numbers is never used
 abbrev back : ℕ → EffectState
 back k =
     cond (eqb k 0) Tripped
@@ -22,11 +22,11 @@ back-of-code WaitStart = refl
 back-of-code Normal = refl
 back-of-code Delayed = refl
 
--- no two states have one code
+-- no two states have the same code
 pub code-injective : (p q : EffectState) → code p ≡ code q → p ≡ q
 code-injective p q e = sym (back-of-code p) ∙ ap back e ∙ back-of-code q
 
--- and none has a code above the highest
+-- no state has a code above the highest
 pub code-at-most : (p : EffectState) → code p ≤ mostCode
 code-at-most Tripped = lit≤ tt
 code-at-most WaitReset = lit≤ tt
@@ -35,10 +35,10 @@ code-at-most WaitStart = lit≤ tt
 code-at-most Normal = lit≤ tt
 code-at-most Delayed = lit≤ tt
 
--- states that are the same are one
+-- two states that the test finds the same are equal
 pub same-eq : (p q : EffectState) → same p q ≡ true → p ≡ q
 same-eq p q e = code-injective p q (eqb-true (code p) (code q) e)
 
--- and a state is the same as itself
+-- a state is the same as itself
 pub same-refl : (p : EffectState) → same p p ≡ true
 same-refl p = eq-eqb (code p) (code p) refl

@@ -16,7 +16,7 @@ code WaitStart = 3
 code Normal = 4
 code Delayed = 5
 
--- the highest code; a number above it is none
+-- the highest code; a number above it is the code of no state
 abbrev pub mostCode : ℕ
 mostCode = 5
 
@@ -87,15 +87,15 @@ asks s =
 abbrev pub after : Signals → Slot → EffectState
 after s x = rule (asks s) (leb (x .timer) (s .period)) (x .state)
 
--- the timer in state q, coming from x: in Delayed it starts at the delay and falls by the period; elsewhere it is 0
+-- the timer in state q, where x was before: in Delayed it starts at the delay and falls by the period; elsewhere it is 0
 abbrev pub timerAt : Signals → Slot → EffectState → ℕ
 timerAt s x q = cond (same q Delayed) (cond (same (x .state) Delayed) (x .timer - s .period) (s .delay)) 0
 
--- the word that a first-out takes: active of the scan (perhaps 0)
+-- the word that a first-out takes: the active word of the scan (perhaps 0)
 abbrev pub firstOutWord : Signals → ℕ
 firstOutWord s = s .active
 
--- the first-out in state q, coming from x: 0 in Normal, that word in the scan that leaves Normal, and kept otherwise
+-- the first-out in state q, where x was before: 0 in Normal, `firstOutWord` in the scan that leaves Normal, and kept otherwise
 abbrev pub firstAt : Signals → Slot → EffectState → ℕ
 firstAt s x q = cond (same q Normal) 0 (cond (same (x .state) Normal) (firstOutWord s) (x .«first_out»))
 
@@ -106,13 +106,13 @@ enter s x q = record { state = q; timer = timerAt s x q; «first_out» = firstAt
 abbrev pub next : Signals → Slot → Slot
 next s x = enter s x (after s x)
 
--- its state changed
+-- the effect's state changes in the scan
 abbrev pub moved : Signals → Slot → Bool
 moved s x = not (same (after s x) (x .state))
 
 -- ## What is reported of an effect
 
--- its bit of the effect word: 1 in Normal or Delayed after the scan
+-- the effect's bit of the effect word: 1 in Normal or Delayed after the scan
 abbrev pub isOn : EffectState → Bool
 isOn Tripped = false
 isOn WaitReset = false
@@ -121,11 +121,11 @@ isOn WaitStart = false
 isOn Normal = true
 isOn Delayed = true
 
--- its bit of the latent word: force normal counts, and active is not 0 or there is a Bad trip
+-- the effect's bit of the latent word: force normal counts, and active is not 0 or there is a Bad trip
 abbrev pub isLatent : Signals → Bool
 isLatent s = s .normal && (ltb 0 (s .active) || s .bad)
 
--- it counts for the exercised scans: its active word is not 0
+-- the effect counts for the exercised scans: its active word is not 0
 abbrev pub isExercised : Signals → Bool
 isExercised s = ltb 0 (s .active)
 

@@ -16,7 +16,7 @@ pub record Signals : Type 0 where
   pub delay : ℕ
   pub period : ℕ
 
--- what the rules ask of it, yes or no: active and delayed say that the word and the delay are not 0
+-- what the rules ask of the signals, yes or no: active and delayed say that the word and the delay are not 0
 pub record Asks : Type 0 where
   pub trip : Bool
   pub normal : Bool

@@ -1,7 +1,7 @@
 // The state of one effect, and its code. What the effect sees, and the nine rules of one scan, are definitions (specs/) and no code:
-// what runs goes by words of effects (`planes`). Document 01, "The rules of one scan". It rests on `bits`.
-// A rule that changes in specs/ changes what every crate above promises, and its formula in `planes` with it, but no proof of theirs:
-// what they need of the rules is tested by computing.
+// the code that runs works on words of effects (`planes`). Document 01, "The rules of one scan". It rests on `bits`.
+// A rule that changes in specs/ changes what every crate above promises, and its formula in `planes` has to change with it. The proofs
+// above stay, because what they need of the rules is tested by computing.
 ghost use mathlib.Core.Path.{_≡_};
 ghost use Prim.Native.Nat.{_≤_};
 ghost use Rattle.rules.specs.Rules.{code as codeOf, mostCode, same as sameAs};

@@ -1,5 +1,5 @@
--- `bits::put_decimal` meets its contract. The number falls with each call of itself: what it writes before the last digit is
--- the number without it.
+-- `bits::put_decimal` meets its contract. The number falls with each call of itself: the digits before the last are those of the
+-- number without its last digit.
 use Prim.Native.Nat.{ℕ, _/_, _%_, _<_}
 use mathlib.Core.Path.{sym, ap, _∙_}
 use native.Mathlib.Omega.{arith}

@@ -1,4 +1,4 @@
--- `bits::get64` meets its contract: the lowest first, turned, is the highest first.
+-- `bits::get64` meets its contract: eight bytes that are read the lowest first and then turned are read the highest first.
 use Rattle.bits.proofs.Numbers.{turned-halves}
 use denote.Ref.{now}
 use borrow.Author.Needs.{needs}

@@ -1,4 +1,4 @@
--- `effects::event_at` meets its contract: what its readers ensure are the fields of the event whose record stands there.
+-- `effects::event_at` meets its contract: its readers give the fields of the event whose record stands there.
 use mathlib.Core.Path.{_∙_}
 use native.Mathlib.Omega.{arith}
 use denote.Ref.{now}
