@@ -1,4 +1,4 @@
--- What is due of the effects in Delayed is all that a scan asks for.
+-- A scan asks only of the effects in Delayed whether they are due.
 use mathlib.Core.Path.{_≡_, refl, ap, sym, _∙_, subst}
 use mathlib.Core.Bool.{Bool, true, false, cond, not, _&&_, and-self-left}
 use mathlib.Core.List.{List}
@@ -41,7 +41,7 @@ module _ (n delayed : ℕ) (t : ℕ → Bool) where
         (ap (λ (w : ℕ). w + cond (t k) (2 ^ k) 0) (before-it d more)
         ∙ sym (wordOf-more _ k ∙ ap (λ (b : Bool). upTo k + cond (b && t k) (2 ^ k) 0) (is-set d more)))
 
--- ## A scan asks for no more
+-- ## A scan asks this of no other effect
 
 less-twice : (a b : Bool) → (a && not (a && b)) ≡ (a && not b)
 less-twice true b = refl
@@ -70,7 +70,7 @@ module _ (n period : ℕ) (timers : List ℕ) (w : Asked) (p : Planes) (few : n 
       → q ≡ planesAfter w (wordOf (dueAt timers period) n) p
   after-due due q e f = f ∙ ap (λ (d : ℕ). planesAfter w d p) e ∙ enough-due
 
-  -- so the effects that change are those of what is due
+  -- the effects that change are the same, whether the due word has all effects or those in Delayed alone
   pub changed-due : (due ch : ℕ) (q : Planes) → due ≡ wordOf (dueIn timers period (p .delayed)) n → q ≡ planesAfter w due p → ch ≡ changedOf p q
       → changedOf p (planesAfter w (wordOf (dueAt timers period) n) p) ≡ ch
   changed-due due ch q e f g = sym (g ∙ ap (changedOf p) (after-due due q e f))

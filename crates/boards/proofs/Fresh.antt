@@ -1,4 +1,4 @@
--- The table of effects that are all Tripped, without timers or first-outs: that of the slots of no effect.
+-- The table of effects that are all Tripped, without timers or first-outs, is the table of the slots of no effect.
 use Prim.Native.Nat.{ℕ, zero, suc, _<_, _≤_}
 use native.Mathlib.Nat.{lt-of-lt-of-le}
 use mathlib.Core.Path.{_≡_, refl, ap, sym, _∙_}
@@ -17,7 +17,7 @@ use Rattle.planes.proofs.ByWord.{planesOf-ext}
 use Rattle.boards.specs.Table.{Table, padded, tableOf}
 use Rattle.boards.proofs.Step.{table, table-path}
 
--- the words where those of one word are Tripped, and there are no others
+-- the effects of one word are Tripped, and no effect is in another state
 abbrev pub trippedAlone : ℕ → Planes
 trippedAlone all = record { tripped = all; «wait_reset» = 0; ready = 0; «wait_start» = 0; normal = 0; delayed = 0 }
 
@@ -30,7 +30,7 @@ tripped-words : (n : ℕ) → planesOf n (λ i. Tripped) ≡ trippedAlone (wordO
 unfolding planesOf
 tripped-words n = rw (none-word n)
 
--- zeros put over zeros
+-- zeros put over zeros leave zeros
 none-put : (n : ℕ) (f : ℕ → ℕ) → n ≤ 16 → ((i : ℕ) → i < 16 → f i ≡ 0) → padded n f ≡ replicate 16 0
 none-put n f few e =
     let zeros : List ℕ = replicate 16 0 in

@@ -1,4 +1,4 @@
--- The loop over rounds, on lists of signals and slots: what holds at its head, that it holds at first, and that a turn keeps it.
+-- The loop over rounds, on lists of signals and slots: what holds at its head, that it holds at the start, and that a turn keeps it.
 use mathlib.Core.Path.{_≡_, refl, ap, _∙_}
 use mathlib.Core.List.{List, map, flatMap}
 use Prim.Native.Nat.{ℕ, _+_, _-_, _*_, _≤_, _<_}
@@ -34,7 +34,7 @@ module _ {whole : Run} {buf₀ : List ℕ} {ss : List Signals} {r : Run} {buf : 
   abbrev cs : List Signals
   cs = map clear ss
 
-  -- how many of those are skipped
+  -- how many of the scans after this one are skipped
   abbrev k : ℕ
   k = quiets (left - 1) cs (steps ss (r .slots))
 
@@ -42,18 +42,18 @@ module _ {whole : Run} {buf₀ : List ℕ} {ss : List Signals} {r : Run} {buf : 
   abbrev later : Run
   later = skip k cs (scan ss r)
 
-  -- what is left of it gives what the whole gives
+  -- the scans that are left after the turn give what the whole gives
   round : held cs (left - 1 - k) later ≡ whole
   round = round-turn ss (g .timed) r left w ∙ g .gives
 
-  -- the records of the scan fit, where those of the whole do
+  -- the records of the scan fit where the records of the whole fit
   pub fit : recordLength * length (whole .events) ≤ length buf₀
       → recordLength * length (r .events) + recordLength * length (due ss r) ≤ length buf
   fit v =
       let e = ap (λ (r : Run). length (r .events)) round in
       omega (arith, e, grows cs (left - 1 - k) later, v, length-append (r .events) (due ss r), ap length (g .laid), length-sets buf₀ 0 (bytes (r .events)))
 
-  -- it holds at the next head
+  -- what holds at the head holds at the next head
   pub turn : Going whole buf₀ cs later (sets buf (recordLength * length (r .events)) (bytes (due ss r))) (left - 1 - k) (fuel - 1)
   turn =
       let f = g .fuelled w in
@@ -71,7 +71,7 @@ module _ {whole : Run} {buf₀ : List ℕ} {ss : List Signals} {r : Run} {buf : 
 pub ends : {whole : Run} {buf₀ : List ℕ} {ss : List Signals} {r : Run} {buf : List ℕ} {left fuel : ℕ} → Going whole buf₀ ss r buf left fuel → left ≡ 0 → r ≡ whole
 ends g e = rw e at (g .gives)
 
--- it holds at first, where `fuel` is above twice the effects
+-- what holds at the head holds at the start, where `fuel` is above twice the effects
 pub begins : (hold : ℕ) (ss : List Signals) (done next : ℕ) (slots : List Slot) (buf : List ℕ) (fuel : ℕ)
     → Timed ss → hold ≤ mostHold → done + hold ≤ mostScans → 2 * length ss < fuel
     → Going (held ss hold (start done next slots)) buf ss (start done next slots) buf hold fuel

@@ -1,4 +1,4 @@
--- The least of what passes a test.
+-- The least value of those that pass a test.
 use mathlib.Core.Path.{_≡_, refl, ap, sym, _∙_}
 use mathlib.Core.Bool.{Bool, cond}
 use Prim.Native.Nat.{ℕ, zero, suc, _+_, _-_, _/_, _^_, min, _<_, _≤_}
@@ -26,7 +26,7 @@ lowTo-ext f g t u (suc m) h k =
 
 -- ## No timer
 
--- scans that no timer ends
+-- a timer of the largest u32 does not run out within a hold
 pub uncapped : (m period : ℕ) → m ≤ mostHold → 0 < period → period ≤ mostPeriod → min m (4294967294 / period) ≡ m
 uncapped m period most pos short =
     let h : m ≤ 4294967294 / period = le-div-iff-mul-le pos .1 (le-trans (mul-le-mul most short) (omega arith)) in

@@ -31,7 +31,7 @@ module _ {B : Type 0} (g : ℕ → ℕ → B) (t : ℕ → Bool) where
       go true e h = rw (picked-yes n e, length-append) (omega arith)
       go false e h = rw (picked-no n e) (omega arith)
 
-  -- more places, more picked
+  -- of more places, no fewer are picked
   pub picked-grows : (a d : ℕ) → length (picked g t a) ≤ length (picked g t (a + d))
   picked-grows a zero = rw add-zero (le-refl _)
   picked-grows a (suc d) = rw (add-suc, ← add-one (a + d)) (go (t (a + d)) refl (picked-grows a d))

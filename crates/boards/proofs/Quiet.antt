@@ -44,7 +44,7 @@ none-set f (suc n) = go (anyTo f n) (f n) (none-set f n)
     go false true e = ne-eqb (wordOf f n + 2 ^ n) 0 (λ z. absurd (omega (arith, pow-pos n)))
     go false false e = let h = eqb-true (wordOf f n) 0 e in eq-eqb (wordOf f n + 0) 0 (omega arith)
 
--- ## The lists' recursions, at their end
+-- ## The recursions on lists, with one element more at the end
 
 quiets-snoc : (m : ℕ) (ss : List Signals) (s : Signals) (xs : List Slot) → length ss < length xs
     → quiets m (ss ++ (s ∷ [])) xs ≡ quiet (quiets m ss xs) s (getD xs (length ss) noSlot)
@@ -85,7 +85,7 @@ min-div m a b p h = go (leb a b) refl
         let l : min a b ≡ b = omega arith in
         rw l (omega (arith, mono (b - 1) (a - 1) (omega arith)))
 
--- a turn: the answers a (some effect before moved), b (this one moves) and d (it is in Delayed)
+-- one turn: a, some effect before it moved; b, this effect moves; d, it is in Delayed
 turn : (m p l t : ℕ) → 0 < p → (a b d : Bool)
     → cond b 0 (cond d (min (cond a 0 (min m ((l - 1) / p))) ((t - 1) / p)) (cond a 0 (min m ((l - 1) / p))))
     ≡ cond (a || b) 0 (min m ((cond d (min l t) l - 1) / p))
@@ -121,7 +121,7 @@ module _ (n : ℕ) (few : n ≤ 16) (s : ℕ → Signals) (xs : List Slot) (long
       moved-snoc (tabulate s m) (s m) xs (rw (length-tabulate, long) h)
       ∙ ap₂ (λ (a : Bool) (k : ℕ). a || moved (s m) (getD xs k noSlot)) (any-upto m (omega arith)) (length-tabulate s m)
 
-  -- the scan is live where some effect changed
+  -- the scan is live if and only if the word of the changed effects is not 0
   pub live-word : not (eqb (changedOf (planesOf n (λ i. x i .state)) (planesOf n (λ i. next (s i) (x i) .state))) 0) ≡ anyMoved (tabulate s n) xs
   live-word = rw (changed-word n few, none-set) (Bool·not-not _ ∙ sym (any-upto n few))
 
@@ -155,7 +155,7 @@ module _ (n : ℕ) (few : n ≤ 16) (s : ℕ → Signals) (xs : List Slot) (long
           rw (planes-step n few associations delays period tripped s sees xs long, changed-word n few, none-set, low-word)
           (not-cond (anyTo (λ i. moved (s i) (x i)) n) _ ∙ sym (to n few))
 
-    -- ## The slots after them
+    -- ## The slots after scans that are not live
 
     later : (k i : ℕ) → i < n → getD (advances k (tabulate s n) xs) i noSlot ≡ advance k (s i) (x i)
     later k i w =

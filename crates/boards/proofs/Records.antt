@@ -35,7 +35,7 @@ length-joined g t h (suc n) = rw (← add-one n) (go (t n) refl (length-joined g
         rw (picked-yes g t n e, joined-snoc) (omega (arith, r, length-append (joined P) l, length-append P (l ∷ []), h (length P) n))
     go false e r = rw (picked-no g t n e) r
 
--- no record is of an effect that is not in the word
+-- an effect that is not in the word has no record
 pub entries-rest : (q c ch : ℕ) (was is : Planes) (firsts : List ℕ) → ch < 65536 → Rests 16 ch (entriesTo q c ch was is firsts)
 entries-rest q c ch was is firsts h =
     record { few = omega arith; inside = h; same = λ j v e. picked-no (entryAt q c was is firsts) (bitOf ch) j e }

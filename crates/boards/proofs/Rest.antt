@@ -1,5 +1,5 @@
--- What rests: the timer of an effect that is not in Delayed and the first-out of one in Normal are 0, and a first-out has 16 bits. A
--- scan leaves it so, and so do scans that are not live.
+-- What rests: the timer of an effect that is not in Delayed and the first-out of one in Normal are 0, and a first-out has 16 bits.
+-- This still holds after a scan, and after scans that are not live.
 use mathlib.Core.Path.{ap, _∙_}
 use mathlib.Core.Bool.{Bool, true, false, cond}
 use mathlib.Core.List.{List, [], _∷_, _++_}
@@ -36,7 +36,7 @@ blank-after n firsts associations tripped was is =
       none = λ i k e. getD-filled _ n _ i 0 k ∙ ap (λ (t : Bool). cond t 0 (cond (bitOf was i) (activeIn associations tripped i) (getD firsts i 0))) e;
     }
 
--- first-outs of 16 bits: in two lists, one after the other, and in those that are made one by one
+-- first-outs have 16 bits in two lists joined, and in a list made by index, if they do in each part
 narrow-append : (a b : List ℕ) → Narrow a → Narrow b → Narrow (a ++ b)
 narrow-append [] b h g i = g i
 narrow-append (x ∷ a) b h g zero = h zero
@@ -51,7 +51,7 @@ unfolding tabulate
 narrow-tabulate f zero h i = omega arith
 narrow-tabulate f (suc n) h i = narrow-append (tabulate f n) (f n ∷ []) (narrow-tabulate f n h) (narrow-one (f n) (h n)) i
 
--- a first-out is 0, some of the causes that are tripped, or as it was
+-- a first-out is 0, or some of the causes that are tripped, or as it was
 narrow-first : (firsts associations : List ℕ) (tripped was is : ℕ) → tripped < 2 ^ 16 → Narrow firsts → (i : ℕ) → firstBy firsts associations tripped was is i < 2 ^ 16
 narrow-first firsts associations tripped was is small h i = go (bitOf was i) (bitOf is i)
   where

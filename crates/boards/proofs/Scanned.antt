@@ -50,7 +50,7 @@ code-word n f i k =
       one-wordOf (λ j. same (f j) Delayed) n i k,
     ) (code-sum (f i))
 
--- ## The lists' recursions, at their end
+-- ## The recursions on lists, with one element more at the end
 
 events-snoc : (q c i : ℕ) (ss : List Signals) (s : Signals) (xs : List Slot) → length ss < length xs
     → eventsFrom q c i (ss ++ (s ∷ [])) xs

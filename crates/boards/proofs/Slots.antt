@@ -1,4 +1,4 @@
--- Slots by words, and back.
+-- From slots to words, and back.
 use mathlib.Core.Path.{_≡_, refl, ap₂, sym, _∙_, subst}
 use mathlib.Core.Bool.{cond}
 use mathlib.Core.List.{List, _++_}
@@ -49,7 +49,7 @@ unfolding slotsOf
 length-slots n few b =
     rw (length-append, length-tabulate, length-drop, length-replicate) (omega arith)
 
--- slots of which those past the n effects are of no effect
+-- the slots past the n effects are those of no effect
 abbrev pub Padded : ℕ → List Slot → Type 0
 Padded n xs = (length xs ≡ 16) × (drop n xs ≡ drop n (replicate 16 noSlot))
 

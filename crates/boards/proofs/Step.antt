@@ -23,15 +23,15 @@ use Rattle.planes.proofs.ByWord.{by-word, planesOf-ext}
 
 -- ## Arrays of which the first n matter
 
--- what stands at one of the first n
+-- an entry among the first n is the one that was put there
 pub padded-at : (n : ℕ) (f : ℕ → ℕ) (i : ℕ) → i < n → getD (padded n f) i 0 ≡ f i
 padded-at n f i k = getD-filled f n _ i 0 k
 
--- and past them
+-- the entries past the first n are 0
 padded-rest : (n : ℕ) (f : ℕ → ℕ) → drop n (padded n f) ≡ drop n (replicate 16 0)
 padded-rest n f = drop-at (tabulate f n) (drop n (replicate 16 0)) n (length-tabulate f n)
 
--- one that is filled anew
+-- an array that is filled anew in its first n entries
 pub refilled : (n : ℕ) (f g h : ℕ → ℕ) → ((i : ℕ) → i < n → g i ≡ h i) → tabulate g n ++ drop n (padded n f) ≡ padded n h
 refilled n f g h e = ap₂ (λ (a b : List ℕ). a ++ b) (tabulate-ext g h n e) (padded-rest n f)
 

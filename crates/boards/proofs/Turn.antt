@@ -120,18 +120,18 @@ module _ (n : ℕ) (few : n ≤ 16) (associations delays : List ℕ) (period tri
   unfolding later
   skip-word k = board-path refl refl refl (later-word n few s xs long associations delays period tripped sees k)
 
--- the words show no other effects
+-- the words show no effect past the first n
 within-shown : (n : ℕ) (r : Run) → Within n (boardOf n r .table .planes)
 unfolding tableOf planesOf
 within-shown n r = (wordOf-lt _ n, wordOf-lt _ n)
 
 -- ## The loop
 
--- what the whole run comes to
+-- the whole held run
 abbrev pub whole : (n : ℕ) (associations delays : List ℕ) (period tripped : ℕ) (hold : ℕ) → Asked → Board → Run
 whole n associations delays period tripped hold w x = held (signalsIn n associations delays period tripped w) hold (runOf n x)
 
--- at the loop's head: the words are those of signals and slots of which the loop over lists holds
+-- at the loop's head: the words are those of the signals and slots of the loop over lists, and what holds at its head holds
 pub record Kept (n : ℕ) (associations delays : List ℕ) (period tripped hold : ℕ) (w₀ : Asked) (x₀ : Board) (buf₀ : List ℕ)
     (w : Asked) (x : Board) (buf : List ℕ) (left fuel : ℕ) : Type 0 where
   pub few : n ≤ 16
@@ -175,14 +175,14 @@ module _ {n : ℕ} {associations delays : List ℕ} {period tripped hold : ℕ} 
   pub live-fits : x .live + left ≤ mostHold
   live-fits = rw (h .shown) (h .going .few)
 
-  -- before a scan and after it
+  -- only the first n effects are in Delayed or in Normal, before a scan and after it
   pub within : Within n (x .table .planes)
   within = rw (h .shown) (within-shown n (h .r))
 
   pub within-then : Within n (scanned n associations delays period tripped w x .table .planes)
   within-then = rw (h .shown, h .asked, scan-here) (within-shown n q)
 
-  -- what rests after it
+  -- what has to rest after a scan rests
   pub settled-scanned : Settled n (scanned n associations delays period tripped w x .table)
   unfolding scanned
   settled-scanned = settled-after n associations delays period tripped w (x .table) (h .trips) (h .settled .narrow)
@@ -258,7 +258,7 @@ module _ {n : ℕ} {associations delays : List ℕ} {period tripped hold : ℕ} 
 abbrev pub fresh : Board → Board
 fresh x = board (x .«scans_done») (x .next) 0 0 (x .table)
 
--- the first turn
+-- what holds at the head holds at the start
 pub starts : (n : ℕ) (associations delays : List ℕ) (period tripped hold : ℕ) (w : Asked) (x : Board) (buf : List ℕ) (fuel : ℕ)
     → n ≤ 16 → 0 < period → period ≤ mostPeriod → tripped < 2 ^ 16 → Right n associations delays period tripped w x → x .next < 65536 → hold ≤ mostHold → x .«scans_done» + hold ≤ mostScans → 2 * n < fuel
     → Kept n associations delays period tripped hold w (fresh x) buf w (fresh x) buf hold fuel

@@ -15,7 +15,7 @@ use Rattle.planes.specs.declared.Asked.{Asked}
 use Rattle.planes.specs.Planes.{changedOf, askedOf}
 use Rattle.boards.specs.Table.{Table, activeIn, tableAfter, tableLater, Settled, tableOf, slotsOf, entriesTo}
 
--- how far a run of scans has come: the scans done, the next sequence number, the place after its records, the live scans so far, and
+-- how far a run of scans has got: the scans done, the next sequence number, the place after its records, the live scans so far, and
 -- what is kept of the effects
 pub record Board : Type 0 where
   pub «scans_done» : ℕ
@@ -30,7 +30,7 @@ entriesOf n associations delays period tripped w x =
     let y = tableAfter n associations delays period tripped w (x .table) in
     entriesTo (x .next) (x .«scans_done» + 1) (changedOf (x .table .planes) (y .planes)) (x .table .planes) (y .planes) (y .firsts) 16
 
--- one scan more
+-- the board after one scan more
 unfoldable pub scanned : (n : ℕ) (associations delays : List ℕ) (period tripped : ℕ) → Asked → Board → Board
 scanned n associations delays period tripped w x =
     let y = tableAfter n associations delays period tripped w (x .table) in
@@ -43,7 +43,7 @@ scanned n associations delays period tripped w x =
       table = y;
     }
 
--- k scans that are not live
+-- the board after k scans that are not live
 unfoldable pub later : (k n period : ℕ) → Board → Board
 later k n period x =
     record { «scans_done» = x .«scans_done» + k; next = x .next; at = x .at; live = x .live; table = tableLater k n period (x .table) }
@@ -81,7 +81,7 @@ signalsBy associations delays period tripped w i =
       period = period;
     }
 
--- and of all
+-- the signals of all effects
 abbrev pub signalsIn : (n : ℕ) (associations delays : List ℕ) (period tripped : ℕ) → Asked → List Signals
 signalsIn n associations delays period tripped w = tabulate (signalsBy associations delays period tripped w) n
 
@@ -94,12 +94,12 @@ abbrev pub boardOf : ℕ → Run → Board
 boardOf n r =
     record { «scans_done» = r .«scans_done»; next = r .next; at = recordLength * length (r .events); live = r .live; table = tableOf n (r .slots) }
 
--- what is kept is that of the slots it shows, and rests where it should
+-- the table is that of the slots that it shows, and what has to rest in it rests
 pub record Shown (n : ℕ) (b : Table) : Type 0 where
   pub slots : b ≡ tableOf n (slotsOf n b)
   pub settled : Settled n b
 
--- the words are those of what they show
+-- the words are those of the signals and slots that they show
 pub record Right (n : ℕ) (associations delays : List ℕ) (period tripped : ℕ) (w : Asked) (x : Board) : Type 0 where
   pub asked : w ≡ askedOf n (λ i. asks (signalsBy associations delays period tripped w i))
   pub table : Shown n (x .table)

@@ -34,7 +34,7 @@ activeAt associations tripped i = ltb 0 (activeIn associations tripped i)
 abbrev pub dueAt : (timers : List ℕ) (period : ℕ) → ℕ → Bool
 dueAt timers period i = leb (getD timers i 0) period
 
--- the same of the effects in Delayed alone
+-- effect i is in Delayed, and its timer is at most the period
 abbrev pub dueIn : (timers : List ℕ) (period delayed : ℕ) → ℕ → Bool
 dueIn timers period delayed i = bitOf delayed i && dueAt timers period i
 
@@ -42,7 +42,7 @@ dueIn timers period delayed i = bitOf delayed i && dueAt timers period i
 abbrev pub timerBy : (timers delays : List ℕ) (period was is : ℕ) → ℕ → ℕ
 timerBy timers delays period was is i = cond (bitOf is i) (cond (bitOf was i) (getD timers i 0 - period) (getD delays i 0)) 0
 
--- its first-out. was, is: the effects in Normal before it and after it
+-- the first-out of effect i after a scan. was, is: the effects in Normal before it and after it
 abbrev pub firstBy : (firsts associations : List ℕ) (tripped was is : ℕ) → ℕ → ℕ
 firstBy firsts associations tripped was is i = cond (bitOf is i) 0 (cond (bitOf was i) (activeIn associations tripped i) (getD firsts i 0))
 
@@ -57,12 +57,12 @@ tableAfter n associations delays period tripped w b =
 
 -- ## What rests
 
--- there is a timer for each of n effects, and that of an effect that is not in Delayed is 0
+-- there is a timer for each of n effects, and the timer of an effect that is not in Delayed is 0
 pub record Still (n delayed : ℕ) (timers : List ℕ) : Type 0 where
   pub long : n ≤ length timers
   pub none : (i : ℕ) → i < n → bitOf delayed i ≡ false → getD timers i 0 ≡ 0
 
--- there is a first-out for each of n effects, and that of an effect in Normal is 0
+-- there is a first-out for each of n effects, and the first-out of an effect in Normal is 0
 pub record Blank (n normal : ℕ) (firsts : List ℕ) : Type 0 where
   pub long : n ≤ length firsts
   pub none : (i : ℕ) → i < n → bitOf normal i ≡ true → getD firsts i 0 ≡ 0
@@ -94,7 +94,7 @@ tableOf n xs =
       firsts = padded n (λ i. getD xs i noSlot .«first_out»);
     }
 
--- and back
+-- the slot of effect i that a table shows
 abbrev pub slotAt : Table → ℕ → Slot
 slotAt b i = record { state = stateAt (b .planes) i; timer = getD (b .timers) i 0; «first_out» = getD (b .firsts) i 0 }
 
@@ -103,7 +103,7 @@ slotsOf n b = tabulate (slotAt b) n ++ drop n (replicate 16 noSlot)
 
 -- ## Scans that are not live
 
--- the least timer of the effects below n that pass the test, at most a u32
+-- the least timer of the effects below n that pass the test, at most the largest u32
 unfoldable pub lowTo : (ℕ → Bool) → (ℕ → ℕ) → ℕ → ℕ
 lowTo f t zero = 4294967295
 lowTo f t (suc n) = cond (f n) (min (lowTo f t n) (t n)) (lowTo f t n)
@@ -114,7 +114,7 @@ quietsBy m n period w p timers =
     cond (eqb (changedOf p (planesAfter w (wordOf (dueAt timers period) n) p)) 0)
     (min m ((lowTo (bitOf (p .delayed)) (λ i. getD timers i 0) n - 1) / period)) 0
 
--- what is kept after k such scans
+-- what is kept after k scans that leave every state as it is
 unfoldable pub tableLater : (k n period : ℕ) → Table → Table
 tableLater k n period b =
     record {
@@ -125,7 +125,7 @@ tableLater k n period b =
 
 -- ## Records
 
--- the record of effect i, the k-th of a scan
+-- the record of effect i, which is record k of a scan
 unfoldable pub entryAt : (q c : ℕ) (was is : Planes) (firsts : List ℕ) → ℕ → ℕ → List ℕ
 entryAt q c was is firsts k i = recordOf ((q + k) % 2 ^ 16) c (i + 1) (codeAt was i) (codeAt is i) (getD firsts i 0)
 

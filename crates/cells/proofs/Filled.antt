@@ -1,4 +1,4 @@
--- A part of the array, filled from its start on by index, at the set bits of a word: all else stays. One law for every part.
+-- A part of the array, filled from its start on by index, at the set bits of a word: all else stays. One law serves every part.
 use mathlib.Core.Path.{_≡_, refl, ap, sym, _∙_}
 use mathlib.Core.Bool.{Bool, true, false, cond, xor, false≢true}
 use mathlib.Core.List.{List, [], _∷_}
@@ -25,7 +25,7 @@ pub getD-part : (o : ℕ) (xs : List ℕ) (i : ℕ) → i < partLength → getD 
 unfolding part
 getD-part o xs i h = rw (getD-take, getD-drop)
 
--- of the part that stands first
+-- an entry of the part that stands first
 pub getD-association : (xs : List ℕ) (i : ℕ) → i < partLength → getD (associationsIn xs) i 0 ≡ getD xs i 0
 getD-association xs i h = getD-part associationsAt xs i h ∙ ap (λ (j : ℕ). getD xs j 0) (zero-add i)
 
@@ -47,19 +47,19 @@ module _ (o : ℕ) (f : ℕ → ℕ) (xs : List ℕ) where
   pub more : (i : ℕ) → upTo (i + 1) ≡ set (upTo i) (o + i) (f i)
   more i = ap (sets xs o) (tabulate-more f i) ∙ sym (put-last xs (upTo i) o (o + i) (tabulate f i) (f i) refl (omega (arith, length-tabulate f i)))
 
-  -- what is not filled yet
+  -- an entry of the part that is not filled yet stays
   rest-at : (i : ℕ) → i < partLength → getD (upTo i) (o + i) 0 ≡ getD (part o xs) i 0
   rest-at i h = after-sets xs o (tabulate f i) (o + i) (omega (arith, length-tabulate f i)) ∙ sym (getD-part o xs i h)
 
-  -- and what stands in a part before it
+  -- an entry of a part before the filled one stays
   early-at : (m a i : ℕ) → i < partLength → a + partLength ≤ o → getD (upTo m) (a + i) 0 ≡ getD (part a xs) i 0
   early-at m a i h l = before-sets xs o (tabulate f m) (a + i) (omega arith) ∙ sym (getD-part a xs i h)
 
-  -- a place that keeps what stood there
+  -- an entry that gets the value it had: nothing changes
   kept-at : (i : ℕ) → i < partLength → f i ≡ getD (part o xs) i 0 → upTo (i + 1) ≡ upTo i
   kept-at i h e = more i ∙ ap (set (upTo i) (o + i)) (e ∙ sym (rest-at i h)) ∙ set-getD (upTo i) (o + i) 0
 
-  -- and where every place does, all stays
+  -- where every entry gets the value it had, the array stays
   pub kept : (n : ℕ) → n ≤ partLength → ((i : ℕ) → i < n → f i ≡ getD (part o xs) i 0) → upTo n ≡ xs
   unfolding tabulate
   kept zero h e = refl
@@ -69,7 +69,7 @@ module _ (o : ℕ) (f : ℕ → ℕ) (xs : List ℕ) where
     fills : n ≤ partLength → word < 2 ^ n → ((i : ℕ) → i < n → bitOf word i ≡ false → f i ≡ getD (part o xs) i 0) → Rests n word upTo
     fills few inside keeps = record { few = few; inside = inside; same = λ i h e. kept-at i (omega arith) (keeps i h e) }
 
-    -- a store at the next one, of what was made of what stood there and in the parts before it
+    -- a store at the next set bit, of a value made from the entry there and from the parts before it
     pub stored : {now : List ℕ} {rest : ℕ} → Done n word upTo now rest → 0 < rest → (v : ℕ)
         → (bitOf word (trailingZeros 16 rest) ≡ true → getD now (o + trailingZeros 16 rest) 0 ≡ getD (part o xs) (trailingZeros 16 rest) 0
         → ((a : ℕ) → a + partLength ≤ o → getD now (a + trailingZeros 16 rest) 0 ≡ getD (part a xs) (trailingZeros 16 rest) 0) → v ≡ f (trailingZeros 16 rest))
@@ -106,7 +106,7 @@ module _ (xs : List ℕ) (n period : ℕ) (few : n ≤ partLength) where
 
 -- ## First-outs: they change only where an effect enters or leaves Normal
 
--- an effect that neither enters nor leaves keeps its first-out
+-- an effect that neither enters nor leaves Normal keeps its first-out
 keeps-first : (a f : ℕ) (was is : Bool) → xor was is ≡ false → (was ≡ true → f ≡ 0) → cond is 0 (cond was a f) ≡ f
 unfolding xor
 keeps-first a f true true e g = sym (g refl)
@@ -114,7 +114,7 @@ keeps-first a f true false e g = absurd (false≢true (sym e))
 keeps-first a f false true e g = absurd (false≢true (sym e))
 keeps-first a f false false e g = refl
 
--- and one that does needs no look at it
+-- the new first-out of an effect that enters or leaves Normal does not depend on the old one
 pub new-first : (a f : ℕ) (was is : Bool) → xor was is ≡ true → cond is 0 a ≡ cond is 0 (cond was a f)
 unfolding xor
 new-first a f true is e = refl

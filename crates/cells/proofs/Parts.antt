@@ -16,7 +16,7 @@ length-part o xs h = length-take-le partLength (drop o xs) (omega (arith, length
 
 -- ## The part itself
 
--- a list in place of the first entries, and then the first n
+-- the first n entries after a list has replaced the first ones
 front : (l xs : List ℕ) (n : ℕ) → length l ≤ n → n ≤ length xs → take n (l ++ drop (length l) xs) ≡ l ++ drop (length l) (take n xs)
 front [] xs n h g = refl
 front (v ∷ l) xs zero h g = absurd (not-suc-le-zero h)
@@ -32,7 +32,7 @@ part-put o xs l h few =
     ∙ ap (λ (r : List ℕ). take partLength (l ++ r)) (sym (drop-drop (length l) o xs))
     ∙ front l (drop o xs) partLength few (omega (arith, length-drop o xs))
 
--- the first n are filled
+-- the part after its first n entries are filled
 pub part-filled : (o : ℕ) (f : ℕ → ℕ) (n : ℕ) (xs : List ℕ) → o + partLength ≤ length xs → n ≤ partLength
     → part o (sets xs o (tabulate f n)) ≡ tabulate f n ++ drop n (part o xs)
 part-filled o f n xs h few =
@@ -41,7 +41,7 @@ part-filled o f n xs h few =
 
 -- ## The other parts
 
--- those before it
+-- a store leaves the parts before it
 pub part-before : (p o : ℕ) (xs l : List ℕ) → p + partLength ≤ o → part p (sets xs o l) ≡ part p xs
 unfolding part
 part-before p o xs [] h = refl
@@ -52,7 +52,7 @@ part-before p o xs (v ∷ l) h =
     ∙ ap (take partLength) (drop-set-add p xs (o - p) v)
     ∙ take-set-le partLength (drop p xs) (o - p) v (omega arith)
 
--- and those after it
+-- a store leaves the parts after it
 pub part-after : (p o : ℕ) (xs l : List ℕ) → o + length l ≤ p → part p (sets xs o l) ≡ part p xs
 unfolding part
 part-after p o xs [] h = refl
@@ -67,7 +67,7 @@ same-put o xs l h long =
       long = length-sets xs o l ∙ long;
     }
 
--- what stays the same twice stays the same
+-- two changes that each leave what the settings gave leave it together
 pub same-then : {xs ys zs : List ℕ} → Same xs ys → Same ys zs → Same xs zs
 same-then a b = record { associations = b .associations ∙ a .associations; delays = b .delays ∙ a .delays; long = b .long }
 

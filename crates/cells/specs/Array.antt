@@ -5,7 +5,7 @@ use Prim.Native.Nat.{ℕ}
 use mathlib.Core.List.{List}
 use lib.ListN.{take, drop, length}
 
--- an entry an effect in each part
+-- each part has one entry an effect
 abbrev pub partLength : ℕ
 partLength = 16
 
@@ -41,7 +41,7 @@ timersIn array = part timersAt array
 abbrev pub firstsIn : List ℕ → List ℕ
 firstsIn array = part firstsAt array
 
--- what the settings gave stands as before
+-- the parts that the settings fill are the same in both arrays
 pub record Same (array array′ : List ℕ) : Type 0 where
   pub associations : associationsIn array′ ≡ associationsIn array
   pub delays : delaysIn array′ ≡ delaysIn array

@@ -14,7 +14,7 @@ use Rattle.cells.specs.Array.{timersAt, firstsAt, timersIn, firstsIn}
 abbrev pub tableIn : Planes → (array : List ℕ) → Table
 tableIn p array = record { planes = p; timers = timersIn array; firsts = firstsIn array }
 
--- the array with the timers and first-outs of n slots
+-- the array with the timers and first-outs of n slots put in
 unfoldable pub loadedInto : (n : ℕ) → List Slot → (array : List ℕ) → List ℕ
 loadedInto n xs array =
     sets (sets array timersAt (tabulate (λ i. getD xs i noSlot .timer) n)) firstsAt (tabulate (λ i. getD xs i noSlot .«first_out») n)

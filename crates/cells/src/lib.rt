@@ -1,6 +1,6 @@
 // The lent array: associations, delays, timers and first-outs of sixteen effects, in four parts, read and changed in place at the set
 // bits of a word of effects. Document 01, "The rules of one scan" and "Held runs and their two counts".
-// This crate is a part of the algorithm: `engine` goes by it. It rests on `boards` for what the parts mean and on `planes` for the states.
+// This crate is a part of the algorithm of `engine`. It rests on `boards` for what the parts mean and on `planes` for the states.
 // All of it may change without moving a contract of an entry point: inner functions alone cite it.
 mod slots;
 
@@ -45,8 +45,8 @@ pub fn lowest(w: u16) -> usize
 
 // ---- words of effects
 
-// The effects whose active word is not 0. tripped: the causes that are tripped and not masked; in most rows there is none that any
-// effect watches.
+// The effects whose active word is not 0. tripped: the causes that are tripped and not masked. In most rows it is 0, because no
+// effect watches a tripped cause; the loop is then left out.
 pub fn active_word(count: usize, board: &[u32; 64], tripped: u16) -> u16
     requires { ⌜ count ≤ 16 ⌝ }
     ensures { λ r. ⌜ r ≡ wordOf (activeAt (associationsIn (now (board .entry))) tripped) count ⌝ }
@@ -63,7 +63,7 @@ pub fn active_word(count: usize, board: &[u32; 64], tripped: u16) -> u16
     word
 }
 
-// The effects in Delayed whose timer is at most the period: nothing asks for it elsewhere.
+// The effects in Delayed whose timer is at most the period. Nothing asks this of the other effects.
 pub fn due_of(board: &[u32; 64], plan: Plan, delayed: u16) -> u16
     requires { ⌜ (plan .count ≤ 16) × (delayed < 2 ^ plan .count) ⌝ }
     ensures { λ r. ⌜ r ≡ wordOf (dueIn (timersIn (now (board .entry))) (plan .period) delayed) (plan .count) ⌝ }
@@ -136,7 +136,7 @@ pub fn low_timer(board: &[u32; 64], count: usize, delayed: u16) -> u32
     low
 }
 
-// The timers after k such scans, in place.
+// The timers after k scans that leave every state as it is, in place.
 pub fn timers_later(k: u32, board: &mut [u32; 64], plan: Plan, delayed: u16)
     requires { ⌜ (plan .count ≤ 16) × (k ≤ mostHold) × (plan .period ≤ mostPeriod) × (delayed < 2 ^ plan .count) × Still (plan .count) delayed (timersIn (now board)) ⌝ }
     ensures { λ _. ⌜ now (board .exit) ≡ sets (now (board .entry)) timersAt (tabulate (λ i. getD (timersIn (now (board .entry))) i 0 - k * plan .period) (plan .count)) ⌝ }

@@ -1,4 +1,4 @@
-// What a run needs at its start and at its end alone: between slots and words, with their timers and first-outs in the lent array.
+// What a run needs only at its start and at its end: from slots to words and back, with the timers and first-outs in the lent array.
 ghost use mathlib.Core.Path.{_≡_};
 ghost use Prim.Native.Nat.{_≤_};
 ghost use lib.ListN.{getD};
@@ -28,7 +28,7 @@ fn put_timers(board: &mut [u32; 64], count: usize, xs: [Slot; 16])
     }
 }
 
-// And their first-outs.
+// Puts the first-outs of the slots into their part of the array.
 fn put_firsts(board: &mut [u32; 64], count: usize, xs: [Slot; 16])
     requires { ⌜ count ≤ 16 ⌝ }
     ensures { λ _. ⌜ now (board .exit) ≡ sets (now (board .entry)) firstsAt (tabulate (λ i. getD xs i noSlot .«first_out») count) ⌝ }
@@ -41,7 +41,7 @@ fn put_firsts(board: &mut [u32; 64], count: usize, xs: [Slot; 16])
     }
 }
 
-// The slots by words: their timers and first-outs go into the array.
+// The states of the slots as words; the timers and first-outs go into the array.
 pub fn load(board: &mut [u32; 64], count: usize, xs: [Slot; 16]) -> Planes
     requires { ⌜ count ≤ 16 ⌝ }
     ensures { λ r. ⌜ (r ≡ planesOf count (λ i. getD xs i noSlot .state)) × (now (board .exit) ≡ loadedInto count xs (now (board .entry))) ⌝ }
@@ -51,7 +51,7 @@ pub fn load(board: &mut [u32; 64], count: usize, xs: [Slot; 16]) -> Planes
     planes::planes_of(count, xs)
 }
 
-// And back; slots past the count are those of no effect.
+// The slots that the words and the array show; slots past the count are those of no effect.
 pub fn slots_of(board: &[u32; 64], count: usize, planes: Planes) -> [Slot; 16]
     requires { ⌜ (count ≤ 16) × Narrow (firstsIn (now board)) ⌝ }
     ensures { λ r. ⌜ r ≡ slotsOf count (tableIn planes (now (board .entry))) ⌝ }

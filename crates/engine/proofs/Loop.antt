@@ -22,7 +22,7 @@ use Rattle.engine.proofs.Marks.{settled-there, within-there, skipped-is
 use Rattle.cells.proofs.Parts.{same-then}
 use Rattle.boards.proofs.Turn.{Kept, fresh, starts, turned, within, within-then, settled-scanned, fits, ended, done-fits, live-fits}
 
--- x₀: the mark that the loop begins with
+-- what holds at the loop's head. x₀: the mark that the loop begins with
 pub record Head (plan : Plan) (task : Task) (array₀ buf₀ : List ℕ) (x₀ : Mark) (w : Asked) (x : Mark) (array buf : List ℕ) (left fuel : ℕ) : Type 0 where
   pub kept :
       Kept (plan .count) (associationsIn array₀) (delaysIn array₀) (plan .period) (task .tripped) (task .hold) (task .asked) (fresh (boardAt x₀ array₀)) buf₀
@@ -30,7 +30,7 @@ pub record Head (plan : Plan) (task : Task) (array₀ buf₀ : List ℕ) (x₀ :
   pub same : Same array₀ array
   pub room : recordLength * length (heldBy plan task x₀ array₀ .events) ≤ length buf₀
 
--- at first
+-- what holds at the head holds at the start
 pub begins : {plan : Plan} {task : Task} {from x₀ : Mark} {array buf : List ℕ} {fuel : ℕ} → StrokeReady plan task from array (length buf)
     → task .tripped < 2 ^ 16 → from .next < 2 ^ 16 → 2 * plan .count < fuel → x₀ ≡ begun from
     → Head plan task array buf x₀ (task .asked) x₀ array buf (task .hold) fuel
@@ -63,7 +63,7 @@ module _ {plan : Plan} {task : Task} {array₀ buf₀ : List ℕ} {x₀ : Mark} 
           fits = rw (h .same .associations, h .same .delays) (fits (h .kept) more (h .room));
         }
 
-    -- after the scan
+    -- what holds after the scan
     module _ {y : Mark} {mid buf′ : List ℕ} (d : ScanDone plan (task .tripped) w x array buf y mid buf′) where
       board-then : boardAt y mid ≡ scanned n (associationsIn array₀) (delaysIn array₀) (plan .period) (task .tripped) w (boardAt x array)
       board-then = rw (h .same .associations, h .same .delays) at (d .board)
@@ -84,7 +84,7 @@ module _ {plan : Plan} {task : Task} {array₀ buf₀ : List ℕ} {x₀ : Mark} 
       unfolding scanned
       scanned-fits = omega (arith, ap (λ (b : Board). b .«scans_done») board-then, done-fits (h .kept))
 
-      -- and the scans that are skipped
+      -- after the scans that are skipped, what holds at the head holds again
       pub goes-on : {v : Asked} {z : Mark} {k : ℕ} {end : List ℕ} → v ≡ unset w → k ≡ quietsBy (left - 1) n (plan .period) v (y .planes) (timersIn mid)
           → end ≡ sets mid timersAt (tabulate (λ i. getD (timersIn mid) i 0 - k * plan .period) n)
           → z ≡ (record { «scans_done» = y .«scans_done» + k; next = y .next; at = y .at; live = y .live; planes = y .planes })
@@ -97,7 +97,7 @@ module _ {plan : Plan} {task : Task} {array₀ buf₀ : List ℕ} {x₀ : Mark} 
             room = h .room;
           }
 
-  -- at the end
+  -- at the end, the stroke has given what it promises
   pub ends : {from : Mark} → x₀ ≡ begun from → left ≡ 0 → StrokeDone plan task from array₀ buf₀ x array buf
   ends e z =
       let f = rw e at (ended (h .kept) z) in

@@ -27,7 +27,7 @@ use Rattle.cells.proofs.Parts.{part-filled, part-before, same-put, same-then, t
 use Rattle.boards.proofs.Rest.{settled-after}
 use Rattle.boards.proofs.Step.{table-path}
 
--- the records between two places
+-- the bytes between two places, divided by the length of a record, are the number of records
 twelfth : (a l : ℕ) → (a + recordLength * l - a) / recordLength ≡ l
 twelfth a l =
     let e : a + recordLength * l - a ≡ l * recordLength = omega arith in
@@ -38,7 +38,7 @@ between p a l e h = (omega arith, omega arith)
 
 -- ## A scan
 
--- what it stores: the states, and the array with the timers and the first-outs
+-- what a scan stores: the states, and the array with the timers and the first-outs
 pub record Stored (plan : Plan) (tripped : ℕ) (w : Asked) (x : Mark) (array : List ℕ) (is : Planes) (array′ : List ℕ) : Type 0 where
   pub table : tableIn is array′ ≡ scannedBy plan tripped w x array .table
   pub same : Same array array′
@@ -55,7 +55,7 @@ module _ {plan : Plan} {tripped : ℕ} {w : Asked} {x : Mark} {array : List ℕ}
     pub within-is : Within n is
     within-is = rw states (h .within-then)
 
-    -- the timers are stored
+    -- after the timers are stored
     module _ {mid : List ℕ} (t : mid ≡ sets array timersAt (tabulate (timerBy (timersIn array) (delaysIn array) (plan .period) (x .planes .delayed) (is .delayed)) n)) where
       abbrev timer : ℕ → ℕ
       timer = timerBy (timersIn array) (delaysIn array) (plan .period) (x .planes .delayed) (is .delayed)
@@ -69,7 +69,7 @@ module _ {plan : Plan} {tripped : ℕ} {w : Asked} {x : Mark} {array : List ℕ}
       pub blank-mid : Blank n (x .planes .normal) (firstsIn mid)
       blank-mid = rw firsts-mid (h .settled .blank)
 
-      -- and the first-outs
+      -- after the first-outs are stored, too
       pub stored : {then : List ℕ} → then ≡ sets mid firstsAt (tabulate (firstBy (firstsIn mid) (associationsIn mid) tripped (x .planes .normal) (is .normal)) n)
           → Stored plan tripped w x array is then
       unfolding scanned tableAfter
@@ -86,7 +86,7 @@ module _ {plan : Plan} {tripped : ℕ} {w : Asked} {x : Mark} {array : List ℕ}
             same = rw f (same-then same-mid (same-put firstsAt mid (tabulate first n) (omega arith) (same-mid .long)));
           }
 
--- what rests then
+-- what holds after both are stored
 module _ {plan : Plan} {tripped : ℕ} {w : Asked} {x : Mark} {array : List ℕ} {room : ℕ} (h : ScanReady plan tripped w x array room)
     {is : Planes} {array′ : List ℕ} (s : Stored plan tripped w x array is array′) where
   pub narrow-then : tripped < 2 ^ 16 → Narrow (firstsIn array′)
@@ -127,7 +127,7 @@ module _ {plan : Plan} {tripped : ℕ} {w : Asked} {x : Mark} {array : List ℕ}
           same = s .same;
         }
 
--- ## After it
+-- ## After a scan
 
 -- what is known of the board is known of the mark and its array
 pub settled-there : {n : ℕ} {b : Board} (y : Mark) (array : List ℕ) → boardAt y array ≡ b → Settled n (b .table) → Settled n (tableIn (y .planes) array)

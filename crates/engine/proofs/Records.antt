@@ -45,14 +45,14 @@ module _ {buf₀ firsts : List ℕ} {x : Mark} {is : Planes} {ch : ℕ} {buf : L
   abbrev made : ℕ → ℕ → List ℕ
   made = entryAt (x .next) (x .«scans_done» + 1) (x .planes) is firsts
 
-  -- nothing is left
+  -- where no bit is left, all records are written
   pub finished : rest ≡ 0 → p .es ≡ entries 16
   finished e = ended (p .passed) e
 
   pub as-long : length buf ≡ length buf₀
   as-long = ap length (p .wrote) ∙ length-sets buf₀ (x .at) (joined (p .es))
 
-  -- one more
+  -- where a bit is left, one record more is written
   module _ (more : 0 < rest) where
     abbrev n : ℕ
     n = trailingZeros 16 rest

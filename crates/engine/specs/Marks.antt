@@ -10,11 +10,11 @@ use Rattle.boards.specs.Board.{Board}
 use Rattle.engine.specs.declared.Mark.{Mark}
 use Rattle.cells.specs.Loaded.{tableIn}
 
--- the run that starts where another has come to
+-- the run that starts where another run has ended
 abbrev pub begun : Mark → Mark
 begun x = record { «scans_done» = x .«scans_done»; next = x .next; at = 0; live = 0; planes = x .planes }
 
--- a mark, with the array
+-- the board of a mark and its array
 abbrev pub boardAt : Mark → (array : List ℕ) → Board
 boardAt x array =
     record {
@@ -39,6 +39,6 @@ recordBy firsts x is q i =
       «first_out» = getD firsts i 0 % 2 ^ 16;
     }
 
--- the bytes of each, of the effects in a word
+-- the bytes of each record of a scan, of the effects in a word
 abbrev pub scanEntries : (firsts : List ℕ) → Mark → (is : Planes) → (ch : ℕ) → List (List ℕ)
 scanEntries firsts x is ch = entriesTo (x .next) (x .«scans_done» + 1) ch (x .planes) is firsts 16

@@ -19,12 +19,12 @@ use Rattle.engine.specs.Marks.{boardAt}
 
 -- ## A scan
 
--- the board after it, of a mark and its array
+-- the board after a scan, from a mark and its array
 abbrev pub scannedBy : Plan → (tripped : ℕ) → Asked → Mark → (array : List ℕ) → Board
 scannedBy plan tripped w x array =
     scanned (plan .count) (associationsIn array) (delaysIn array) (plan .period) tripped w (boardAt x array)
 
--- and its records
+-- the records of a scan, from a mark and its array
 abbrev pub entriesBy : Plan → (tripped : ℕ) → Asked → Mark → (array : List ℕ) → List (List ℕ)
 entriesBy plan tripped w x array =
     entriesOf (plan .count) (associationsIn array) (delaysIn array) (plan .period) tripped w (boardAt x array)
@@ -51,7 +51,7 @@ abbrev pub seenBy : Plan → Task → (array : List ℕ) → List Signals
 seenBy plan task array =
     signalsIn (plan .count) (associationsIn array) (delaysIn array) (plan .period) (task .tripped) (task .asked)
 
--- the held run of it
+-- the held run of a task
 abbrev pub heldBy : Plan → Task → Mark → (array : List ℕ) → Run
 heldBy plan task x array = held (seenBy plan task array) (task .hold) (runOf (plan .count) (boardAt x array))
 

@@ -1,8 +1,8 @@
 // The stroke: a held run of a row by rounds, on words of effects, with one lent array for what each effect has. Document 01, "Held runs
 // and their two counts".
-// This crate is an algorithm alone: it is proved to come to what `planes` says of words, and so to the held run over lists of slots.
-// It rests on `planes` and what that rests on. All of it may change without moving a contract of an entry point: inner functions
-// alone cite it.
+// This crate is an algorithm alone: it is proved to give what `boards` says of words, and so the held run over lists of slots. It rests on
+// `cells` for the array, on `boards` and `planes`, and on what those rest on. All of it may change without moving a contract of an entry
+// point: inner functions alone cite it.
 ghost use mathlib.Core.Path.{_≡_};
 ghost use Prim.Native.Nat.{_+_, _-_, _*_, _/_, _%_, _^_, _<_, _≤_};
 ghost use lib.ListN.{length};
@@ -27,9 +27,9 @@ pub struct Task {
     pub asked: Asked,
 }
 
-// How far a run of scans has come: the scans done, the next sequence number, the place after the records in the buffer, the
-// live scans so far, and the effects' states. Associations, delays, timers and first-outs are in one array that is lent beside it,
-// and timers and first-outs change in place: copied from scan to scan they would cost more than all the rest.
+// How far a run of scans has got: the scans done, the next sequence number, the place after the records in the buffer, the live scans so
+// far, and the effects' states. Associations, delays, timers and first-outs are in one array that is lent beside it. Timers and first-outs
+// change in place: to copy them from scan to scan would cost more than all the rest.
 pub struct Mark {
     pub scans_done: u32,
     pub next: u16,
@@ -64,7 +64,7 @@ fn quiets(n: u32, board: &[u32; 64], plan: Plan, w: Asked, p: Planes) -> u32
 
 // ---- the records
 
-// The record of the effect i of a scan from x to the states `is`. q: its sequence number.
+// The record of effect i of a scan from x to the states `is`. q: its sequence number.
 fn record_at(board: &[u32; 64], x: Mark, is: Planes, q: u16, i: usize) -> Record
     requires { ⌜ (i < 16) × (x .«scans_done» < mostScans) ⌝ }
     ensures { λ r. ⌜ r ≡ recordBy (firstsIn (now (board .entry))) x is q i ⌝ }
@@ -80,7 +80,7 @@ fn record_at(board: &[u32; 64], x: Mark, is: Planes, q: u16, i: usize) -> Record
     }
 }
 
-// The records of a scan from x to the states `is`, of the effects in the word `ch`; and the place after them.
+// Puts the records of a scan from x to the states `is`, of the effects in the word `ch`, and answers the place after them.
 fn put_scan(buf: &mut [u8], board: &[u32; 64], x: Mark, is: Planes, ch: u16) -> usize
     requires { ⌜ (x .«scans_done» < mostScans) × Narrow (firstsIn (now board)) × (x .at + recordLength * length (scanEntries (firstsIn (now board)) x is ch) ≤ length (now buf)) ⌝ }
     ensures { λ r. ⌜ r ≡ x .at + recordLength * length (scanEntries (firstsIn (now (board .entry))) x is ch) ⌝ }
@@ -116,7 +116,7 @@ fn count_live(n: u32, b: bool) -> u32
     if b { n + 1 } else { n }
 }
 
-// One scan more: its records go to the buffer at the run's place.
+// One scan more. Its records go to the buffer at the run's place.
 fn scan(buf: &mut [u8], board: &mut [u32; 64], plan: Plan, tripped: u16, w: Asked, x: Mark) -> Mark
     requires { ⌜ ScanReady plan tripped w x (now board) (length (now buf)) ⌝ }
     ensures { λ r. ⌜ ScanDone plan tripped w x (now (board .entry)) (now (buf .entry)) r (now (board .exit)) (now (buf .exit)) ⌝ }
@@ -161,7 +161,7 @@ fn unset(w: Asked) -> Asked
     v
 }
 
-// The run that starts where another has come to.
+// The run that starts where another run has ended.
 pub fn begin(x: Mark) -> Mark
     ensures { λ r. ⌜ r ≡ begun x ⌝ }
 {

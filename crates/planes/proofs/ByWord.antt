@@ -1,4 +1,4 @@
--- The rules by words are the rules, effect by effect: once, over the bit's number.
+-- The rules by words are the rules, effect by effect: this is proved once, over the bit's number.
 use mathlib.Core.Path.{_≡_, refl, ap, sym}
 use mathlib.Core.Bool.{Bool, true, false, not, _&&_, _||_}
 use Prim.Native.Nat.{ℕ, _<_, _≤_}
@@ -12,7 +12,7 @@ use Rattle.rules.proofs.Answers.{both, allStates, every, every-at, states-at}
 use Rattle.planes.specs.declared.Planes.{Planes}
 use Rattle.planes.specs.Planes.{askedOf, planesOf, planesAfter, changedOf, less16, toTripped, toWait, toReady, toStart, toNormal, toDelayed, differ}
 
--- ## The formulas on one bit, computed at every case
+-- ## The formulas on one bit, computed for every case
 
 -- the first without the second
 without : Bool → Bool → Bool
@@ -82,7 +82,7 @@ planes T W R S N D = record { tripped = T; «wait_reset» = W; ready = R; «wait
 planes-path : {T T′ W W′ R R′ S S′ N N′ D D′ : ℕ} → T ≡ T′ → W ≡ W′ → R ≡ R′ → S ≡ S′ → N ≡ N′ → D ≡ D′ → planes T W R S N D ≡ planes T′ W′ R′ S′ N′ D′
 planes-path a b c d e f = λ i. planes (a i) (b i) (c i) (d i) (e i) (f i)
 
--- states that agree below n give one set of words
+-- states that agree below n give the same words
 pub planesOf-ext : (n : ℕ) (f g : ℕ → EffectState) → ((i : ℕ) → i < n → f i ≡ g i) → planesOf n f ≡ planesOf n g
 unfolding planesOf
 planesOf-ext n f g h = planes-path (at Tripped) (at WaitReset) (at Ready) (at WaitStart) (at Normal) (at Delayed)
@@ -98,13 +98,13 @@ module _ (n : ℕ) (few : n ≤ 16) where
   abbrev word : (Asks → Bool → EffectState → Bool) → (ℕ → Asks) → (ℕ → Bool) → (ℕ → EffectState) → ℕ
   word f a due p = wordOf (λ i. f (a i) (due i) (p i)) n
 
-  -- a formula that is right of every bit gives the word of the states that the rules give
+  -- a formula that is valid for every bit gives the word of the states that the rules give
   turn : (f : Asks → Bool → EffectState → Bool) (q : EffectState) → every (right f q) ≡ true → (a : ℕ → Asks) (due : ℕ → Bool) (p : ℕ → EffectState)
       → word f a due p ≡ wordOf (λ i. same (rule (a i) (due i) (p i)) q) n
   unfolding right
   turn f q t a due p = wordOf-ext _ _ n (λ i k. is-eq _ _ (every-at (right f q) t (a i) (due i) (p i)))
 
-  -- the law: by words, and effect by effect
+  -- the law: the rules by words give what the rules give effect by effect
   pub by-word : (a : ℕ → Asks) (due : ℕ → Bool) (p : ℕ → EffectState)
       → planesAfter (askedOf n a) (wordOf due n) (planesOf n p) ≡ planesOf n (λ i. rule (a i) (due i) (p i))
   unfolding planesAfter planesOf askedOf
@@ -119,7 +119,7 @@ module _ (n : ℕ) (few : n ≤ 16) where
 
   -- ## The effects that changed
 
-  -- the formula on one bit, at two states
+  -- the formula on one bit, for two states
   abbrev differs : EffectState → EffectState → Bool
   differs p q =
       differ _&&_ _||_ without (same p Tripped) (same p WaitReset) (same p Ready) (same p WaitStart) (same p Normal) (same p Delayed)

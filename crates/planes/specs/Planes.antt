@@ -22,7 +22,7 @@ planesOf n f =
       delayed = wordOf (λ i. same (f i) Delayed) n;
     }
 
--- and those of what n effects are asked
+-- what the rules ask of n effects, as words
 unfoldable pub askedOf : ℕ → (ℕ → Asks) → Asked
 askedOf n a =
     record {
@@ -40,7 +40,7 @@ askedOf n a =
 -- ## The rules on a word, or on a bit: the same formulas over any and, or and less (the first without the second)
 
 module _ {B : Type 0} (and or less : B → B → B) where
-  -- one of the three first rules applies
+  -- one of the first three rules applies
   abbrev pub stopped : (trip normal bad : B) → B
   stopped t n b = or t (or n b)
 
@@ -54,7 +54,7 @@ module _ {B : Type 0} (and or less : B → B → B) where
   abbrev pub toReady : (trip normal bad active require permit reset : B) → (T W R : B) → B
   toReady t n b a rq pm rs T W R = less (and pm (or W (or (and T rq) (less R rs)))) (or (stopped t n b) a)
 
-  -- what is left of the way to Normal is the start permit
+  -- the effect needs only the start permit to reach Normal
   abbrev pub onWay : (require permit reset : B) → (T R S : B) → B
   onWay rq pm rs T R S = or S (or (less T rq) (and R (and pm rs)))
 
@@ -67,7 +67,7 @@ module _ {B : Type 0} (and or less : B → B → B) where
   abbrev pub toDelayed : (trip normal bad active delayed due : B) → (N D : B) → B
   toDelayed t n b a de due N D = less (or (less D due) (and N (and a de))) (stopped t n b)
 
-  -- one of the first six is without its like among the others
+  -- one of the first six is set where its like among the other six is not
   abbrev pub differ : (T W R S N D T′ W′ R′ S′ N′ D′ : B) → B
   differ T W R S N D T′ W′ R′ S′ N′ D′ = or (less T T′) (or (less W W′) (or (less R R′) (or (less S S′) (or (less N N′) (less D D′)))))
 
@@ -98,11 +98,11 @@ changedOf p q =
 abbrev pub oneOf : ℕ → ℕ → ℕ
 oneOf w i = w / 2 ^ i % 2
 
--- its code
+-- the code of effect i's state
 unfoldable pub codeAt : Planes → ℕ → ℕ
 codeAt p i = oneOf (p .«wait_reset») i + 2 * oneOf (p .ready) i + 3 * oneOf (p .«wait_start») i + 4 * oneOf (p .normal) i + 5 * oneOf (p .delayed) i
 
--- the state itself
+-- effect i's state
 unfoldable pub stateAt : Planes → ℕ → EffectState
 stateAt p i =
     cond (bitOf (p .tripped) i) Tripped (cond (bitOf (p .«wait_reset») i) WaitReset (cond (bitOf (p .ready) i) Ready

@@ -1,8 +1,8 @@
 // The states of all effects as six words, one bit an effect, and the rules of one scan as formulas on them, so that a scan of all effects
-// is a few operations on words. Document 01, "The rules of one scan" and "Held runs and their two counts".
-// What a scan and a held run mean stands in the specs of effects and rounds, over lists of signals and slots; here stands that
-// the words come to the same. It rests on `rounds`, `effects`, `rules` and `bits`. All of it may change without moving a contract of an
-// entry point: inner functions alone cite it.
+// takes a few operations on words. Document 01, "The rules of one scan" and "Held runs and their two counts".
+// What the rules mean stands in the specs of `rules`, effect by effect; the proofs here show that the formulas give the same, and `boards`
+// shows it of a scan and a held run. It rests on `rules` and `bits`. All of it may change without moving a contract of an entry point:
+// inner functions alone cite it.
 mod words;
 
 pub use words::planes_of;
@@ -11,7 +11,7 @@ ghost use mathlib.Core.Path.{_≡_};
 ghost use Prim.Native.Nat.{_≤_, _<_};
 ghost use Rattle.planes.specs.Planes.{planesAfter, changedOf, oneOf, codeAt};
 
-// What the rules ask of all effects, a bit each. active and with_delay: the active word and the delay are not 0.
+// What the rules ask of all effects, one bit an effect. active and with_delay: the active word and the delay are not 0.
 pub struct Asked {
     pub force_trip: u16,
     pub force_normal: u16,
@@ -41,13 +41,13 @@ pub fn planes_after(w: Asked, due: u16, p: Planes) -> Planes
     ensures { λ r. ⌜ r ≡ planesAfter w due p ⌝ }
 {
     let stop = w.force_trip | (w.force_normal | w.bad_trip);
-    // where an active cause trips at once
+    // The effects that an active cause trips at once.
     let open = p.tripped | (p.wait_reset | (p.ready | (p.wait_start | (p.normal & !w.with_delay))));
     let trips = (p.delayed & due) | (w.active & open);
     let asks = p.tripped & w.require_reset;
     let waits = p.wait_reset | (p.ready | asks);
     let permitted = w.reset_permit & (p.wait_reset | (asks | (p.ready & !w.reset)));
-    // what is left of the way to Normal is the start permit
+    // The effects that need only the start permit to reach Normal.
     let way = p.wait_start
         | ((p.tripped & !w.require_reset) | (p.ready & (w.reset_permit & w.reset)));
     let starts = p.normal | (w.start_permit & way);
@@ -62,7 +62,7 @@ pub fn planes_after(w: Asked, due: u16, p: Planes) -> Planes
     }
 }
 
-// The effects whose state differs.
+// The effects whose state differs between p and q.
 pub fn changed(p: Planes, q: Planes) -> u16
     ensures { λ r. ⌜ r ≡ changedOf p q ⌝ }
 {

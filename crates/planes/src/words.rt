@@ -1,4 +1,4 @@
-// Between slots and words, which are the effects of each state as a word.
+// From slots to words and back; the words are those of the effects in each state.
 ghost use mathlib.Core.Path.{_≡_};
 ghost use Prim.Native.Nat.{_<_, _≤_};
 ghost use lib.ListN.{getD};

@@ -1,4 +1,4 @@
--- `planes::active_word` meets its contract. The loop's invariant: the word is that of the first i effects.
+-- `cells::active_word` meets its contract. The loop's invariant: the word is that of the first i effects.
 use mathlib.Core.Path.{_≡_, refl, sym}
 use mathlib.Core.List.{List}
 use Prim.Native.Nat.{ℕ, zero, suc, _≤_, _-_}
@@ -25,7 +25,7 @@ unfolding wordOf
 none-active associations zero = refl
 none-active associations (suc n) = rw (none-active associations n, and-zero-r)
 
--- no cause is tripped
+-- where no cause is tripped, no effect is active
 returns : tie.Need-returns Inv-loop μ-loop
 returns c =
     let a = c .before .args in

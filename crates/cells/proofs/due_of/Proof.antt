@@ -1,4 +1,4 @@
--- `planes::due_of` meets its contract. The loop's invariant: the word of what is due below some m, and the word holds the effects from m on.
+-- `cells::due_of` meets its contract. The loop's invariant: the word of what is due below some m, and the word holds the effects from m on.
 use mathlib.Core.Path.{refl}
 use native.Mathlib.Omega.{arith}
 use borrow.Author.Needs.{needs}

@@ -1,4 +1,4 @@
--- `planes::lowest` meets its contract.
+-- `cells::lowest` meets its contract.
 use mathlib.Core.Path.{refl}
 use native.Mathlib.Omega.{arith}
 use lib.Count.{trailing-le}

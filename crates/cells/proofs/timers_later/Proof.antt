@@ -1,4 +1,4 @@
--- `planes::timers_later` meets its contract. The loop's invariant: whatever the count is, the effects in the word below some m have their
+-- `cells::timers_later` meets its contract. The loop's invariant: whatever the count is, the effects in the word below some m have their
 -- timers, and the word holds those from m on.
 use mathlib.Core.Path.{refl}
 use Prim.Native.Nat.{ℕ, _-_}
@@ -22,7 +22,7 @@ Inv-loop k board₀ delayed by rest₀ board rest =
 abbrev μ-loop : tie.MeasureT-loop
 μ-loop k board₀ delayed by rest₀ board rest = rest
 
--- no scan is skipped
+-- where no scan is skipped, the timers stay
 returns : tie.Need-returns Inv-loop μ-loop
 returns c =
     let a = c .before .args in

@@ -1,4 +1,4 @@
--- `planes::count_live` meets its contract: by the two ways of its test.
+-- `engine::count_live` meets its contract: by the two cases of its test.
 use native.Mathlib.Omega.{arith}
 use borrow.Author.Needs.{needs}
 use Rattle.engine.proofs.count_live.Statement.{statement}

@@ -1,4 +1,4 @@
--- `planes::quiets` meets its contract, from what its callees ensure.
+-- `engine::quiets` meets its contract, from what its callees ensure.
 use mathlib.Core.Path.{_≡_, sym}
 use native.Mathlib.Omega.{arith}
 use borrow.Author.Needs.{needs}
@@ -14,7 +14,7 @@ use Rattle.boards.proofs.Low.{none-low}
 use Rattle.engine.proofs.quiets.Statement.{statement}
 use Rattle.engine.proofs.quiets.Tie as tie
 
--- no scan is left
+-- where no scan is left
 returns : tie.Need-returns
 returns c =
     let a = c .before .args in
@@ -30,12 +30,12 @@ changes k =
     let a = s .args in
     changed-due (a .plan .count) (a .plan .period) (timersIn (now (a .board))) (a .w) (a .p) (s .pre .0) (s .pre .4) _ _ _ (k .before .before .due-of .ensures) (k .before .planes-after .ensures) (k .changed .ensures)
 
--- the next scan is live
+-- where the next scan is live
 returns-2 : tie.Need-returns-2
 unfolding quietsBy
 returns-2 c = rw (changes (c .before), ne-eqb _ 0 (c .if2 .taken))
 
--- no timer runs
+-- where no timer runs
 returns-3 : tie.Need-returns-3
 unfolding quietsBy
 returns-3 c =

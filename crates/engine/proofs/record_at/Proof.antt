@@ -1,4 +1,4 @@
--- `planes::record_at` meets its contract, from what its callees ensure.
+-- `engine::record_at` meets its contract, from what its callees ensure.
 use borrow.Author.Needs.{needs}
 use denote.Ref.{now}
 use Rattle.cells.specs.Array.{firstsAt}

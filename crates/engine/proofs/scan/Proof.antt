@@ -1,4 +1,4 @@
--- `planes::scan` meets its contract, from what its callees ensure.
+-- `engine::scan` meets its contract, from what its callees ensure.
 use native.Mathlib.Omega.{arith}
 use borrow.Author.Needs.{needs}
 use denote.Ref.{now}

@@ -1,4 +1,4 @@
--- `planes::stroke` meets its contract: a turn of the loop is a round, and the rest of the run gives what the whole gives.
+-- `engine::stroke` meets its contract: a turn of the loop is a round, and the rest of the run gives what the whole gives.
 use Prim.Native.Nat.{_-_, _≤_}
 use native.Mathlib.Omega.{arith}
 use borrow.Author.Needs.{needs}
@@ -43,7 +43,7 @@ quiets-requires c κs =
 abbrev after-scan : tie.After-quiets Inv-loop μ-loop → tie.After-scan Inv-loop μ-loop
 after-scan c = c .before .before .before .before .before .before
 
--- they are some of those left
+-- the scans that are skipped are at most those left
 few : (c : tie.After-quiets Inv-loop μ-loop) → c .quiets .result ≤ within-loop (after-scan c) .before .loop .left - 1
 few c = quiets-few _ _ _ _ _ _ _ (c .quiets .ensures)
 

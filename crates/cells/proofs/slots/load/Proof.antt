@@ -1,4 +1,4 @@
--- `planes::words::load` meets its contract, from what its callees ensure.
+-- `cells::slots::load` meets its contract, from what its callees ensure.
 use borrow.Author.Needs.{needs}
 use Rattle.cells.specs.Loaded.{loadedInto}
 use Rattle.cells.proofs.slots.load.Statement.{statement}

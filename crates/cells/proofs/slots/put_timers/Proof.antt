@@ -1,4 +1,4 @@
--- `planes::words::put_timers` meets its contract. The loop's invariant: what stands before i in the part is filled.
+-- `cells::slots::put_timers` meets its contract. The loop's invariant: the entries before i in the part are filled.
 use mathlib.Core.Path.{_≡_, refl, sym}
 use Prim.Native.Nat.{_≤_, _-_}
 use native.Mathlib.Omega.{arith}

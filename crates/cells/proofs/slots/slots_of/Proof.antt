@@ -1,4 +1,4 @@
--- `planes::words::slots_of` meets its contract. The loop's invariant: what stands before i is filled, and the rest is of no effect.
+-- `cells::slots::slots_of` meets its contract. The loop's invariant: the slots before i are filled, and the rest are of no effect.
 use mathlib.Core.Path.{_≡_, refl}
 use mathlib.Core.List.{_++_}
 use Prim.Native.Nat.{_≤_, _-_}
