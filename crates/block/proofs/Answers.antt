@@ -1,4 +1,4 @@
--- What a run that is granted leaves of the lent bytes, and what input that is not refused tells.
+-- What a run that is granted leaves of the lent bytes, and what follows from input that is not refused.
 use mathlib.Core.Path.{_≡_, sym, _∙_}
 use mathlib.Core.List.{List, _++_}
 use Prim.Native.Nat.{ℕ, _+_, _*_, _≤_}
@@ -18,12 +18,12 @@ use Rattle.block.specs.declared.State.{State}
 use Rattle.block.specs.State.{stateNumber}
 use Rattle.block.specs.Scan.{scansNumber, inputNumber, atFront}
 
--- records that were laid in a space of their own, copied to the front of the lent bytes
+-- records that were laid in a space of their own are copied to the front of the lent bytes
 pub copied : (es : List Event) (at : ℕ) (space space′ out buf : List ℕ) → at ≡ recordLength * length es → recordLength * length es ≤ length space
     → space′ ≡ sets space 0 (bytes es) → buf ≡ take at space′ ++ drop at out → buf ≡ atFront es out
 copied es at space space′ out buf e v l f = f ∙ rw (e, l, front-bytes es space v)
 
--- ## What input that is not refused tells
+-- ## What follows from input that is not refused
 
 module _ (st : Settings) (row : Row) (x : State) (n : ℕ) (is : n ≡ inputNumber st x row) (z : n ≡ 0) where
   parts : (settingsNumber st ≡ 0) × (stateNumber st x ≡ 0) × (rowNumber (knownOf st) row ≡ 0) × (scansNumber (x .«scans_done») (row .hold) ≡ 0)

@@ -1,4 +1,4 @@
--- A right state by the words of its effects, and back: slots past the effects are those of no effect.
+-- A valid state as words of its effects, and back: slots past the effects are those of no effect.
 use mathlib.Core.Path.{_≡_, refl, ap, sym, _∙_}
 use mathlib.Core.Bool.{Bool, true, false, cond, _&&_}
 use Prim.Native.Nat.{ℕ, zero, suc, _+_, _-_, _^_, _≤_, _<_}
@@ -30,7 +30,7 @@ use Rattle.slots.specs.Slots.{timerRight, firstRight, slotRight, slotUnused, sl
 use Rattle.block.specs.State.{stateNumber}
 use Rattle.block.proofs.RightStates.{slots-right}
 
--- an unused slot is that of no effect
+-- an unused slot is the slot of no effect
 unused : (x : Slot) → slotUnused x ≡ true → x ≡ noSlot
 unused x e =
     let both = and-left (same (x .state) Tripped && eqb (x .timer) 0) (eqb (x .«first_out») 0) e in
@@ -39,14 +39,14 @@ unused x e =
     let f = eqb-true (x .«first_out») 0 (and-right (same (x .state) Tripped && eqb (x .timer) 0) (eqb (x .«first_out») 0) e) in
     λ i. record { state = p i; timer = t i; «first_out» = f i }
 
--- a right slot rests where it should
+-- in a valid slot the timer is 0 except in Delayed, and the first-out is 0 in Normal
 timer-none : (delay : ℕ) (z : Slot) → timerRight delay z ≡ true → same (z .state) Delayed ≡ false → z .timer ≡ 0
 timer-none delay z t e = eqb-true (z .timer) 0 (rw e at t)
 
 first-none : (association : ℕ) (z : Slot) → firstRight association z ≡ true → same (z .state) Normal ≡ true → z .«first_out» ≡ 0
 first-none association z t e = eqb-true (z .«first_out») 0 (rw e at t)
 
--- first-out lies inside the association word, so it has 16 bits
+-- the first-out of a valid slot lies inside the association word, so it has 16 bits
 first-lt : (association : ℕ) (z : Slot) → association < 65536 → firstRight association z ≡ true → z .«first_out» < 2 ^ 16
 first-lt association z h t = go (same (z .state) Normal) t
   where
@@ -59,7 +59,7 @@ zeros-at zero i = refl
 zeros-at (suc n) zero = refl
 zeros-at (suc n) (suc i) = zeros-at n i
 
--- what is filled is 0 past the effects
+-- a list that is filled with values of 16 bits, and 0 past the effects, has 16 bits throughout
 padded-narrow : (n : ℕ) (f : ℕ → ℕ) → ((i : ℕ) → i < n → f i < 2 ^ 16) → Narrow (paddedBy n f)
 padded-narrow n f h i = go (ltb i n) refl
   where
@@ -89,7 +89,7 @@ module _ (st : Settings) (x : State) (right : stateNumber st x ≡ 0) (long : le
         ∙ sym (getD-drop (st .count) (replicate 16 noSlot) i noSlot ∙ getD-replicate 16 (st .count + i) noSlot noSlot (omega arith))),
   )
 
-  -- they rest where they should
+  -- the slot of each effect of a valid state is valid
   slot-right : settingsNumber st ≡ 0 → (i : ℕ) → i < st .count → slotRight (getD (st .effects) i noEffect) (getD (x .slots) i noSlot) ≡ true
   slot-right settings i k =
       rw (zero-add, lt-ltb i (st .count) k) at (all-at (slotOk st) 0 (x .slots) noSlot (slots-right st x right) i (rw long (omega (arith, k, count-few st settings))))

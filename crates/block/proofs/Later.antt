@@ -1,4 +1,4 @@
--- The scans of a hold after the first: with the reset word zero, the words are right again, and the effects see the same but
+-- The scans of a hold after the first: with the reset word zero, the words are still valid, and the effects see the same except
 -- for the reset.
 use mathlib.Core.Path.{_≡_, refl, ap, sym, _∙_}
 use mathlib.Core.Bool.{Bool, true, _&&_, _||_}
@@ -25,9 +25,9 @@ use Rattle.settings.proofs.Right.{period-some, period-most}
 use Rattle.block.specs.Scan.{once}
 use Rattle.block.specs.Held.{later}
 
--- ## Right words
+-- ## Valid words
 
--- a test among others, exchanged for one that holds too
+-- in a conjunction, one test is exchanged for another that holds, too
 exchanged : (p r f t n r′ : Bool) → (p && r && f && t && n) ≡ true → r′ ≡ true → (p && r′ && f && t && n) ≡ true
 exchanged p r f t n r′ e g =
     let e₁ = and-left (p && r && f && t) n e in
@@ -42,7 +42,7 @@ later-right k w e =
     let ok = unless-none (wordsOk k w) 3 (parts .0) in
     rw (exchanged _ _ _ _ _ (ltb 0 (2 ^ k .count)) ok (lt-ltb 0 (2 ^ k .count) (pow-pos (k .count)))) (parts .1)
 
--- the words of a right row are right for a single scan
+-- the words of a valid row are valid for a single scan
 pub once-right : (k : Known) (w : Words) → wordsNumber k w ≡ 0 → rowNumber k (once w) ≡ 0
 unfolding rowNumber
 once-right k w e = e

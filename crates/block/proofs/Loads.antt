@@ -1,4 +1,4 @@
--- What a stroke starts with, at a state: it shows the state, and holds what the settings give.
+-- What a stroke starts with, at a state: it shows the state, and it holds what the settings give.
 use mathlib.Core.Path.{_≡_, refl, ap, sym, _∙_}
 use mathlib.Core.Bool.{true}
 use mathlib.Core.List.{List, _++_}
@@ -41,7 +41,7 @@ use Rattle.block.proofs.Runs.{state}
 abbrev none : List ℕ
 none = replicate arrayLength 0
 
--- the timers and first-outs of n slots, in an array that has none
+-- the timers and first-outs of n slots are put into an array that has none
 module _ (n : ℕ) (xs : List Slot) (array : List ℕ) (few : n ≤ partLength) (long : length array ≡ arrayLength) where
   abbrev timer : ℕ → ℕ
   timer i = getD xs i noSlot .timer
@@ -94,7 +94,7 @@ module _ (st : Settings) (few : st .count ≤ 16) where
   unfolding part
   no-firsts = wired-past st none firstsAt (omega arith)
 
-  -- the code's answer
+  -- what `load` answers shows the state
   pub loaded : (x : State) {p : Planes} {array : List ℕ} → p ≡ planesOf (st .count) (λ i. getD (x .slots) i noSlot .state)
       → array ≡ loadedInto (st .count) (x .slots) wired
       → LoadedAs st x (record { mark = record { «scans_done» = x .«scans_done»; next = x .next; at = 0; live = 0; planes = p }; board = array })
@@ -110,7 +110,7 @@ module _ (st : Settings) (few : st .count ≤ 16) where
         long = ap length ea ∙ loaded-long n (x .slots) wired few long;
       }
 
-  -- and where no slots are put in, at a fresh state
+  -- what `load_fresh` answers shows a fresh state
   pub loaded-fresh : {all : ℕ} {array : List ℕ} → all ≡ wordOf (λ i. true) (st .count) → array ≡ wired
       → LoadedAs st fresh (record { mark = record { «scans_done» = 0; next = 0; at = 0; live = 0; planes = trippedAlone all }; board = array })
   loaded-fresh {all} {array} e ea =
@@ -122,7 +122,7 @@ module _ (st : Settings) (few : st .count ≤ 16) where
         long = ap length ea ∙ long;
       }
 
--- ## What it shows
+-- ## What the loaded words show
 
 module _ {st : Settings} {x : State} {l : Loaded} (is : LoadedAs st x l) (row : Row) (input : inputNumber st x row ≡ 0) (sixteen : length (x .slots) ≡ 16) where
   abbrev back : slotsOf (st .count) (tableOf (st .count) (x .slots)) ≡ x .slots

@@ -1,5 +1,5 @@
--- A fresh state is right, and a scan of a right state gives a right state: so 8 never comes up in a replay. What the rules
--- do is computed at every answer to what they ask; timers and first-outs are arithmetic beside it.
+-- A fresh state is valid, and a scan of a valid state gives a valid state, so refusal number 8 never occurs in a replay. What the rules
+-- do is computed for every answer to what they ask; timers and first-outs are arithmetic beside it.
 use mathlib.Core.Path.{_≡_, refl}
 use mathlib.Core.Bool.{Bool, true, false, cond, not, _&&_, _||_, false≢true}
 use mathlib.Core.List.{List}
@@ -52,7 +52,7 @@ module _ (s : Signals) (x : Slot) where
   unfolding delayed-test
   delayed-from = from-test _ _ (every-at delayed-test delayed-all (asks s) (leb (x .timer) (s .period)) (x .state))
 
-  -- timers stay in their range
+  -- a scan keeps a timer in its range
   pub timer-keeps : timerRight (s .delay) x ≡ true → timerRight (s .delay) (next s x) ≡ true
   timer-keeps r = go (same (stateAfter s x) Delayed) (same (x .state) Delayed) r delayed-from
     where
@@ -68,7 +68,7 @@ module _ (s : Signals) (x : Slot) where
           let some = ltb-true 0 (s .delay) (h refl) in
           both-true (leb 1 (s .delay)) (leb (s .delay) (s .delay)) (le-leb 1 (s .delay) (omega arith)) (le-leb (s .delay) (s .delay) (omega arith))
 
-  -- first-outs stay inside the association word
+  -- a scan keeps a first-out inside the association word
   pub first-keeps : (association : ℕ) → bitAnd (s .active) association ≡ s .active → firstRight association x ≡ true → firstRight association (next s x) ≡ true
   first-keeps a inside r = go (same (stateAfter s x) Normal) (same (x .state) Normal) r
     where
@@ -91,7 +91,7 @@ module _ (st : Settings) (w : Words) (right : settingsNumber st ≡ 0) (i : ℕ)
   slot-keeps x r =
       both-true _ _ (timer-keeps (signalsOf st w i) x (and-left _ _ r)) (first-keeps (signalsOf st w i) x _ active-inside (and-right (timerRight (getD (st .effects) i noEffect .delay) x) _ r))
 
--- the parts of a right state
+-- the parts of a valid state
 module _ (st : Settings) (x : State) (right : stateNumber st x ≡ 0) where
   state-ok : stateOk st x ≡ true
   unfolding stateNumber
@@ -134,11 +134,11 @@ unused-right st i = go (ltb i (st .count))
     go true = refl
     go false = refl
 
--- a fresh state is right, whatever the settings
+-- a fresh state is valid, whatever the settings
 pub fresh-right : (st : Settings) → stateNumber st fresh ≡ 0
 fresh-right st = right-state st fresh (omega arith) (all-replicate (slotOk st) 0 16 noSlot (unused-right st))
 
--- a scan of a right state gives a right state
+-- a scan of a valid state gives a valid state
 pub scan-keeps-right : (st : Settings) (w : Words) (x : State) → settingsNumber st ≡ 0 → stateNumber st x ≡ 0 → x .«scans_done» < mostScans
     → stateNumber st (after st w x) ≡ 0
 unfolding after

@@ -59,7 +59,7 @@ module _ (st : Settings) (row : Row) (x : State) (input : inputNumber st x row �
   unfolding run
   run-is = stepped-runs st right (row .hold) (row .words) (start x) ready
 
-  -- no more than two records an effect
+  -- a held run gives at most two records an effect
   pub due-few : length (run st row x .events) ≤ 2 * st .count
   due-few =
       let e = ap (λ (r : Run). length (r .events)) run-is in
@@ -79,7 +79,7 @@ module _ (st : Settings) (row : Row) (x : State) (input : inputNumber st x row �
   unfolding run
   done-is = stepped-done st right (row .hold) (row .words) (start x) ready
 
-  -- the words and the exercised scans
+  -- the words of the last scan and the exercised scans, where the hold is at least 1
   from-hold : (m : ℕ) → 1 ≤ m → row .hold ≡ m → (run st row x .effect ≡ effectWord (st .count) (run st row x .state .slots)) × (run st row x .latent ≡ latentWord (signals st (row .words)))
   unfolding run
   from-hold zero h e = absurd (not-suc-le-zero h)
@@ -90,23 +90,23 @@ module _ (st : Settings) (row : Row) (x : State) (input : inputNumber st x row �
   words-are : (run st row x .effect ≡ effectWord (st .count) (run st row x .state .slots)) × (run st row x .latent ≡ latentWord (signals st (row .words)))
   words-are = from-hold (row .hold) (hold-some (knownOf st) row (row-right st row x _ refl input)) refl
 
-  -- exercised: the hold where some effect's active word is not 0, else 0
+  -- the exercised scans are the hold if some effect's active word is not 0, else 0
   pub exercised-is : run st row x .exercised ≡ row .hold * one (anyExercised (signals st (row .words)))
   unfolding run
   exercised-is = stepped-exercised st (row .hold) (row .words) (start x) ∙ zero-add _
 
-  -- a held run of a right state gives a right state
+  -- a held run of a valid state gives a valid state
   pub keeps-right : stateNumber st (run st row x .state) ≡ 0
   unfolding run
   keeps-right =
       let r : Ready st right (row .words) (row .hold + 0) x = record { words = ready .words; state = ready .state; scans = omega (arith, ready .scans) } in
       ready-at st right (row .hold) 0 (row .words) (start x) r .state
 
-  -- there are as many slots as before
+  -- a held run keeps the number of slots
   pub slots-stay : length (run st row x .state .slots) ≡ length (x .slots)
   slots-stay = ap (λ (r : Run). length (r .slots)) run-is ∙ held-slots (signals st (row .words)) (row .hold) (startOf x)
 
--- ## Where the words are kept
+-- ## Where the state is kept as words
 
 -- single scans from the state that the words show
 module _ {st : Settings} {plan : Plan} {row : Row} {x : Mark} {array : List ℕ} {room : ℕ} (runs : Runs st plan row x array room) where
@@ -123,7 +123,7 @@ module _ {st : Settings} {plan : Plan} {row : Row} {x : Mark} {array : List ℕ}
   stroke-is : strokeOf st row x array ≡ runOf (run st row at)
   stroke-is = sym (run-is st row at (runs .input))
 
-  -- the stroke runs
+  -- the stroke of `wiring` can run
   pub strokes : Strokes st plan row x array room
   strokes =
       record {
@@ -178,7 +178,7 @@ module _ {st : Settings} {plan : Plan} {row : Row} {x : Mark} {array : List ℕ}
     long-after : length (end .slots) ≡ 16
     long-after = slots-stay st row at (runs .input) ∙ long
 
-    -- first-outs have 16 bits after it too
+    -- first-outs still have 16 bits after the run
     pub narrow-after : Narrow (firstsIn array′)
     narrow-after =
         subst (λ (b : Board). Narrow (b .table .firsts)) (sym (ap (λ (q : Stroked). q .board) comes-to))

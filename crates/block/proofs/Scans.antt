@@ -18,12 +18,12 @@ use Rattle.block.specs.Run.{scannedBy}
 use Rattle.block.proofs.Answers.{settings-right, state-right, row-right, countable}
 use Rattle.block.proofs.Stepping.{scan-accepted}
 
--- its number
+-- the refusal number of a held run of hold 1 is that of the scan
 once-number : (st : Settings) (w : Words) (x : State) (room : ℕ) → heldNumber st (once w) x room ≡ scanNumber st w x room
 unfolding heldNumber scanNumber run
 once-number st w x room = refl
 
--- its answer
+-- the answer of a held run of hold 1 is that of the scan
 once-answer : (st : Settings) (w : Words) (x : State) → inputNumber st x (once w) ≡ 0 → scannedBy (grantedHeld st (once w) x) ≡ grantedScan st w x
 unfolding run
 once-answer st w x input =
@@ -34,7 +34,7 @@ once-answer st w x input =
     in
     λ i. record { number = 0; place = 0; state = e i .state; effect = e i .effect; latent = e i .latent; records = length (events st w x) }
 
--- refused alike, and granted alike
+-- a held run and a scan with the same refusal numbers are refused alike, and granted alike
 alike : (held : Held) (scan : Scanned) (x : State) (input room : ℕ) → (input ≡ 0 → scannedBy held ≡ scan)
     → scannedBy (granted (orElse input room) held (refusedHeld x)) ≡ granted (orElse input room) scan (refusedScan x)
 alike held scan x zero zero h = h refl

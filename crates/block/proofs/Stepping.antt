@@ -1,4 +1,4 @@
--- Single scans of a right state are all accepted, and what they give is what the run over lists of signals and slots gives.
+-- Single scans of a valid state are all accepted, and they give what the run over lists of signals and slots gives.
 use mathlib.Core.Path.{_≡_, refl, ap, ap₂, sym, _∙_}
 use mathlib.Core.List.{List}
 use Prim.Native.Nat.{ℕ, zero, suc, _+_, _*_, _≤_}
@@ -25,7 +25,7 @@ use Rattle.block.specs.Run.{runOf}
 use Rattle.block.proofs.Later.{later-right, once-right, signals-later, latent-clear, exercised-clear}
 use Rattle.block.proofs.RightStates.{scan-keeps-right}
 
--- after the first scan all have the same
+-- all scans after the first have the same words
 pub later-again : (k : ℕ) (w : Words) → wordsAt k (later w) ≡ later w
 later-again zero w = refl
 later-again (suc k) w = refl
@@ -37,14 +37,14 @@ module _ (st : Settings) (right : settingsNumber st ≡ 0) where
   unfolding inputNumber
   input-accepted w x ok state h = rw (right, state, once-right (knownOf st) w ok, le-leb (x .«scans_done» + 1) mostScans h)
 
-  -- a scan of a right state and right words, with room, is accepted
+  -- a scan of a valid state and valid words, with room, is accepted
   pub scan-accepted : (w : Words) (x : State) (room : ℕ) → wordsNumber (knownOf st) w ≡ 0 → stateNumber st x ≡ 0 → x .«scans_done» + 1 ≤ mostScans → 12 * length (events st w x) ≤ room
       → scanOf st w x room ≡ grantedScan st w x
   unfolding scanOf scanNumber
   scan-accepted w x room ok state h fits =
       sym (granted-in-room (inputNumber st x (once w)) (12 * length (events st w x)) room 0 (sym (input-accepted w x ok state h)) (grantedScan st w x) (refusedScan x) refl fits)
 
-  -- what can go on for n scans more
+  -- n more scans of these words can follow at this state
   pub record Ready (w : Words) (n : ℕ) (x : State) : Type 0 where
     pub words : wordsNumber (knownOf st) w ≡ 0
     pub state : stateNumber st x ≡ 0
@@ -77,14 +77,14 @@ module _ (st : Settings) (right : settingsNumber st ≡ 0) where
   unfolding after events
   step-runs w n r ready = rw (single-accepted w n (r .state) ready)
 
-  -- the state, the events and the live scans
+  -- single scans give the state, the events and the live scans of the run over lists
   pub stepped-runs : (n : ℕ) (w : Words) (r : Stepped) → Ready w n (r .state) → runOf (stepped st w n r) ≡ held (signals st w) n (runOf r)
   stepped-runs zero w r ready = refl
   stepped-runs (suc n) w r ready =
       stepped-runs n (later w) (step st w r) (ready-after w n (r .state) ready)
       ∙ ap₂ (λ (ss : List Signals) (q : Run). held ss n q) (signals-later st w) (step-runs w n r ready)
 
-  -- the words of the last scan
+  -- single scans give the words of the last scan
   pub stepped-effect : (n : ℕ) (w : Words) (r : Stepped) → Ready w (suc n) (r .state)
       → stepped st w (suc n) r .effect ≡ effectWord (st .count) (stepped st w (suc n) r .state .slots)
   stepped-effect zero w r ready = rw (single-accepted w zero (r .state) ready)
@@ -95,7 +95,7 @@ module _ (st : Settings) (right : settingsNumber st ≡ 0) where
   stepped-latent (suc n) w r ready =
       stepped-latent n (later w) (step st w r) (ready-after w (suc n) (r .state) ready) ∙ rw (signals-later st w) (latent-clear (signals st w))
 
-  -- the scans done
+  -- n single scans add n to the scans done
   pub stepped-done : (n : ℕ) (w : Words) (r : Stepped) → Ready w n (r .state) → stepped st w n r .state .«scans_done» ≡ r .state .«scans_done» + n
   unfolding after
   stepped-done zero w r ready = omega arith
@@ -103,7 +103,7 @@ module _ (st : Settings) (right : settingsNumber st ≡ 0) where
       let one-more : step st w r .state .«scans_done» ≡ r .state .«scans_done» + 1 = ap (λ (a : Scanned). a .state .«scans_done») (single-accepted w n (r .state) ready) in
       omega (arith, stepped-done n (later w) (step st w r) (ready-after w n (r .state) ready), one-more)
 
--- exercised scans: all of the hold, or none
+-- the exercised scans are all of the hold, or none
 pub stepped-exercised : (st : Settings) (n : ℕ) (w : Words) (r : Stepped) → stepped st w n r .exercised ≡ r .exercised + n * one (anyExercised (signals st w))
 stepped-exercised st zero w r = omega arith
 stepped-exercised st (suc n) w r =

@@ -1,5 +1,5 @@
 -- What is promised of the block, beside its contracts: those of `State::scan` and `State::held` give their whole answers by the
--- definitions `scanOf`, `scanInto`, `heldOf` and `heldInto`, and here stands what those come to. `demands` cites these theorems.
+-- definitions `scanOf`, `scanInto`, `heldOf` and `heldInto`, and here stands what follows from those. `demands` cites these theorems.
 use mathlib.Core.Path.{_≡_, refl, ap, sym, _∙_}
 use mathlib.Core.List.{List}
 use Prim.Native.Nat.{ℕ, _+_, _*_, _≤_, _<_}
@@ -35,11 +35,11 @@ use Rattle.block.proofs.Stepping.{Ready, scan-accepted, ready-at}
 
 -- ## Demand 2: a scan
 
--- a replay starts right, and a scan keeps it right: 8 never comes up
+-- a replay starts with a valid state, and a scan keeps the state valid, so refusal number 8 never occurs
 pub a-fresh-state-is-right : (st : Settings) → stateNumber st fresh ≡ 0
 a-fresh-state-is-right = states.fresh-right
 
--- a scan of what is right, with room for its records, is accepted, and leaves a right state
+-- a scan of valid input, with room for its records, is accepted, and leaves a valid state
 pub a-right-scan-is-accepted : (st : Settings) (w : Words) (x : State) (room : ℕ) → settingsNumber st ≡ 0 → stateNumber st x ≡ 0 → wordsNumber (knownOf st) w ≡ 0
     → x .«scans_done» + 1 ≤ mostScans → 12 * length (events st w x) ≤ room
     → (scanOf st w x room ≡ grantedScan st w x) × (stateNumber st (scanOf st w x room .state) ≡ 0)
@@ -51,12 +51,12 @@ a-right-scan-is-accepted st w x room right state words scans fits =
 
 module _ (st : Settings) (row : Row) (x : State) (settings : settingsNumber st ≡ 0) (state : stateNumber st x ≡ 0) (right-row : rowNumber (knownOf st) row ≡ 0)
     (scans : x .«scans_done» + row .hold ≤ mostScans) where
-  -- nothing refuses it before its room is looked at
+  -- valid input is not refused before its room is checked
   pub right-input-is-accepted : inputNumber st x row ≡ 0
   unfolding inputNumber
   right-input-is-accepted = rw (settings, state, right-row, le-leb (x .«scans_done» + row .hold) mostScans scans)
 
-  -- every one of its single scans is accepted, where it is lent the room for its records: no 8, 9 or 10 comes in between
+  -- every single scan of a held run is accepted, where it is lent the room for its records: refusal numbers 8, 9 and 10 do not occur
   pub every-scan-is-accepted : (k : ℕ) → k < row .hold → (room : ℕ)
       → 12 * length (events st (wordsAt k (row .words)) (stepped st (row .words) k (start x) .state)) ≤ room
       → scanOf st (wordsAt k (row .words)) (stepped st (row .words) k (start x) .state) room .number ≡ 0
@@ -65,7 +65,7 @@ module _ (st : Settings) (row : Row) (x : State) (settings : settingsNumber st �
       let now = ready-at st settings k 1 (row .words) (start x) ready in
       ap (λ (a : Scanned). a .number) (scan-accepted st settings (wordsAt k (row .words)) (stepped st (row .words) k (start x) .state) room (now .words) (now .state) (now .scans) fits)
 
-  -- with room for its records, the answer in one stroke is that of its single scans (state, words, counts), and so are the bytes
+  -- with room for its records, the answer in one stroke is that of the single scans (state, words, counts), and so are the bytes
   pub one-stroke-is-single-scans : (out : List ℕ) → 12 * length (run st row x .events) ≤ length out
       → (heldOf st row x (length out) ≡ grantedHeld st row x) × (heldInto st row x out ≡ atFront (run st row x .events) out)
   unfolding heldOf heldInto heldNumber
@@ -74,7 +74,7 @@ module _ (st : Settings) (row : Row) (x : State) (settings : settingsNumber st �
     sym (granted-in-room (inputNumber st x row) (12 * length (run st row x .events)) (length out) 0 (sym right-input-is-accepted) (atFront (run st row x .events) out) (λ n. out) refl fits),
   )
 
-  -- rounds, as many as twice the effects and one, come to those single scans
+  -- 2 n + 1 rounds, of n effects, give what the single scans give
   pub rounds-suffice : byRounds (2 * st .count + 1) (signals st (row .words)) (row .hold) (startRun (x .«scans_done») (x .next) (x .slots)) ≡ runOf (run st row x)
   rounds-suffice =
       let ss = signals st (row .words) in
@@ -99,14 +99,14 @@ module _ (st : Settings) (row : Row) (x : State) (settings : settingsNumber st �
   pub exercised-is-the-hold-or-nothing : run st row x .exercised ≡ row .hold * one (anyExercised (signals st (row .words)))
   exercised-is-the-hold-or-nothing = runs.exercised-is st row x right-input-is-accepted
 
-  -- a held run of a right state gives a right state
+  -- a held run of a valid state gives a valid state
   pub a-held-run-keeps-right : stateNumber st (run st row x .state) ≡ 0
   unfolding run
   a-held-run-keeps-right =
       let ready : Ready st settings (row .words) (row .hold + 0) x = record { words = row-words (knownOf st) row right-row; state = state; scans = omega arith } in
       ready-at st settings (row .hold) 0 (row .words) (start x) ready .state
 
-  -- and as many slots as it had
+  -- a held run keeps the number of slots
   pub a-held-run-keeps-its-slots : length (run st row x .state .slots) ≡ length (x .slots)
   a-held-run-keeps-its-slots = runs.slots-stay st row x right-input-is-accepted
 

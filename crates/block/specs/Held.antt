@@ -99,6 +99,6 @@ grantedHeld st row x =
 unfoldable pub heldOf : Settings → Row → State → (room : ℕ) → Held
 heldOf st row x room = granted (heldNumber st row x room) (grantedHeld st row x) (refusedHeld x)
 
--- the lent buffer after it; a refusal touches no byte
+-- the lent buffer after a held run; a refusal touches no byte
 unfoldable pub heldInto : Settings → Row → State → List ℕ → List ℕ
 heldInto st row x out = granted (heldNumber st row x (length out)) (atFront (run st row x .events) out) (λ n. out)

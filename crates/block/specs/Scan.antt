@@ -1,4 +1,4 @@
--- One scan of the block, refusals too. Document 01, "The rules of one scan" and "Refusal numbers".
+-- One scan of the block, with its refusals. Document 01, "The rules of one scan" and "Refusal numbers".
 use Prim.Native.Nat.{ℕ, _+_, _*_}
 use mathlib.Core.List.{List, _++_}
 use lib.Dec.{leb}
@@ -19,11 +19,11 @@ use Rattle.block.specs.State.{stateNumber}
 
 -- ## What is refused
 
--- 9: scans done plus hold above 1,000,000,000
+-- refusal number 9: scans done plus hold above 1,000,000,000
 abbrev pub scansNumber : (done hold : ℕ) → ℕ
 scansNumber done hold = unless (leb (done + hold) mostScans) 9
 
--- the order in a scan or held run: settings (2, 3), state (8), row (4, 5, 6), 9; then 10
+-- the order of refusal numbers in a scan or held run: settings (2, 3), state (8), row (4, 5, 6), 9; then 10
 unfoldable pub inputNumber : Settings → State → Row → ℕ
 inputNumber st x row =
     orElse (settingsNumber st)
@@ -55,7 +55,7 @@ events st w x = eventsFrom (x .next) (x .«scans_done» + 1) 1 (signals st w) (x
 unfoldable pub scanNumber : Settings → Words → State → (room : ℕ) → ℕ
 scanNumber st w x room = orElse (inputNumber st x (once w)) (roomNumber (recordLength * length (events st w x)) room)
 
--- a refusal returns its number, place 0, the given state, and zeros
+-- a refusal gives its refusal number, place 0, the given state, and zeros
 abbrev pub refusedScan : State → ℕ → Scanned
 refusedScan x number = record { number = number; place = 0; state = x; effect = 0; latent = 0; records = 0 }
 
@@ -74,6 +74,6 @@ grantedScan st w x =
 unfoldable pub scanOf : Settings → Words → State → (room : ℕ) → Scanned
 scanOf st w x room = granted (scanNumber st w x room) (grantedScan st w x) (refusedScan x)
 
--- the lent buffer after it; a refusal touches no byte
+-- the lent buffer after a scan; a refusal touches no byte
 unfoldable pub scanInto : Settings → Words → State → List ℕ → List ℕ
 scanInto st w x out = granted (scanNumber st w x (length out)) (atFront (events st w x) out) (λ n. out)

@@ -1,7 +1,7 @@
-// The block: its state, what is right of it, one scan and a held run. Document 01, "Settings, row, state", "The rules of one
+// The block: its state, when it is valid, one scan and a held run. Document 01, "Settings, row, state", "The rules of one
 // scan", "Held runs and their two counts" and "Refusal numbers".
-// It rests on `settings` for what is right and on `wiring` for the run. How a run is made (`run_right`, `run_kept` and all below
-// them) may change without moving a contract; the order of the numbers and what a state keeps may not.
+// It rests on `settings` and `slots` for what is valid and on `wiring` for the run. How a run is made (`run_right`, `run_kept` and all
+// below them) may change without moving a contract; the order of the refusal numbers and what a state keeps may not.
 ghost use mathlib.Core.Path.{_≡_};
 ghost use mathlib.Core.Bool.{true};
 ghost use Prim.Native.Nat.{_*_, _≤_, _<_};
@@ -34,7 +34,7 @@ pub struct State {
     pub slots: [Slot; 16],
 }
 
-// What a scan answers: a refusal's number (0 for none) and place, the state after it or the given one, the effect and
+// What a scan answers: a refusal number (0 for none) and its place, the state after the scan or the given one, the effect and
 // the latent word, and the number of records.
 pub struct Scanned {
     pub number: u8,
@@ -45,7 +45,7 @@ pub struct Scanned {
     pub records: usize,
 }
 
-// What a held run answers: as a scan, with the words of its last scan, and its live and exercised scans.
+// What a held run answers: what a scan answers, with the words of its last scan, and its live and exercised scans.
 pub struct Held {
     pub number: u8,
     pub place: usize,
@@ -57,9 +57,9 @@ pub struct Held {
     pub exercised: u32,
 }
 
-// ---- what is right of a state: 8
+// ---- when a state is valid: refusal number 8
 
-// 0 for a state that is right, else 8.
+// 0 for a valid state, else refusal number 8.
 fn state_number(st: Settings, x: State) -> u8
     ensures { λ r. ⌜ r ≡ stateNumber st x ⌝ }
 {
@@ -71,9 +71,9 @@ fn state_number(st: Settings, x: State) -> u8
     }
 }
 
-// ---- what is right of a scan or a held run: 2, 3, 8, 4, 5, 6, 9
+// ---- when a scan or a held run is valid: refusal numbers 2, 3, 8, 4, 5, 6, 9
 
-// 0 where the scans of a hold end at or before the last that is counted, else 9.
+// 0 where the scans of a hold end at or before the last that is counted, else refusal number 9.
 pub fn scans_number(done: u32, hold: u32) -> u8
     ensures { λ r. ⌜ r ≡ scansNumber done hold ⌝ }
 {
@@ -84,7 +84,7 @@ pub fn scans_number(done: u32, hold: u32) -> u8
     }
 }
 
-// 0 where settings, state and row are right and the scans can be counted, or the number that refuses them.
+// 0 where settings, state and row are valid and the scans can be counted, else the refusal number.
 fn input_number(st: Settings, x: State, row: Row) -> u8
     ensures { λ r. ⌜ r ≡ inputNumber st x row ⌝ }
 {
@@ -127,7 +127,7 @@ pub fn exercised_scans(hold: u32, exercised: bool) -> u32
     if exercised { hold } else { 0 }
 }
 
-// What a stroke by these settings starts with, at a state: its mark, and the array, which is 0 before.
+// What a stroke with these settings starts with, at a state: its mark, and the array, which has to be 0 before.
 pub fn load(board: &mut [u32; 64], st: Settings, x: State) -> Mark
     requires { ⌜ (st .count ≤ 16) × (now board ≡ replicate arrayLength 0) ⌝ }
     ensures { λ r. ⌜ LoadedAs st x (record { mark = r; board = now (board .exit) }) ⌝ }
@@ -144,7 +144,7 @@ pub fn load(board: &mut [u32; 64], st: Settings, x: State) -> Mark
     }
 }
 
-// And at a fresh state, from the word of all effects alone: each of them is Tripped, and the array has neither timers nor first-outs.
+// What `load` gives at a fresh state, from the word of all effects alone: each is Tripped, and the array has no timers and no first-outs.
 pub fn load_fresh(board: &mut [u32; 64], st: Settings, all: u16) -> Mark
     requires { ⌜ (st .count ≤ 16) × (now board ≡ replicate arrayLength 0) × (all ≡ wordOf (λ i. true) (st .count)) ⌝ }
     ensures { λ r. ⌜ LoadedAs st freshState (record { mark = r; board = now (board .exit) }) ⌝ }
@@ -166,7 +166,7 @@ pub fn load_fresh(board: &mut [u32; 64], st: Settings, all: u16) -> Mark
     }
 }
 
-// The state that a stroke has come to.
+// The state that a stroke has reached.
 fn reached(board: &[u32; 64], count: usize, mark: Mark) -> State
     requires { ⌜ (count ≤ 16) × Narrow (firstsIn (now board)) ⌝ }
     ensures { λ r. ⌜ r ≡ reachedBy count (boardAt mark (now (board .entry))) ⌝ }
@@ -179,7 +179,7 @@ fn reached(board: &[u32; 64], count: usize, mark: Mark) -> State
     }
 }
 
-// A held run as `run_right` gives it, where the state is kept by the words of its effects from row to row.
+// A held run as `run_right` gives it, where the state is kept as words of effects from row to row.
 pub fn run_kept(buf: &mut [u8], board: &mut [u32; 64], plan: Plan, row: Row, from: Mark) -> Struck
     requires { ⌜ Runnable plan row from (now board) (length (now buf)) ⌝ }
     ensures { λ r. ⌜ RunsBy plan row from (now (board .entry)) (now (buf .entry)) r (now (board .exit)) (now (buf .exit)) ⌝ }
@@ -187,7 +187,7 @@ pub fn run_kept(buf: &mut [u8], board: &mut [u32; 64], plan: Plan, row: Row, fro
     wiring::stroke(buf, board, plan, row, from)
 }
 
-// A held run in one stroke, of input that was found right: the row's words for its hold, the reset word in the first scan
+// A held run in one stroke, of valid input: the row's words for its hold, the reset word in the first scan
 // only. Its records go to the front of `buf`. A single scan is a run of hold 1.
 pub fn run_right(buf: &mut [u8], st: Settings, row: Row, x: State) -> Held
     requires { ⌜ (inputNumber st x row ≡ 0) × (recordLength * length (run st row x .events) ≤ length (now buf)) ⌝ }
@@ -211,7 +211,7 @@ pub fn run_right(buf: &mut [u8], st: Settings, row: Row, x: State) -> Held
     }
 }
 
-// What a held run answers, as a scan does.
+// The part of a held run's answer that a scan answers.
 fn scan_of(h: Held) -> Scanned
     ensures { λ r. ⌜ r ≡ scannedBy h ⌝ }
 {
@@ -262,8 +262,8 @@ impl State {
         scan_of(held)
     }
 
-    // A held run. Its records go to the front of `out`. They are laid out apart first, since a run that is refused for want
-    // of room touches no byte of `out`.
+    // A held run. Its records go to the front of `out`. They are laid in a space of their own first, because a run that is refused for
+    // want of room touches no byte of `out`.
     pub fn held(self, st: Settings, row: Row, out: &mut [u8]) -> Held
         ensures { λ r. ⌜ r ≡ heldOf st row self (length (now (out .entry))) ⌝ }
         ensures { λ _. ⌜ now (out .exit) ≡ heldInto st row self (now (out .entry)) ⌝ }

@@ -12,7 +12,7 @@ use Rattle.settings.specs.declared.Settings.{Settings}
 use Rattle.plans.specs.Plans.{associationAt, delayAt, associationsOf, delaysOf, wiredInto}
 use Rattle.cells.proofs.Parts.{length-part, part-filled, part-before, part-after}
 
--- a part that is filled whole
+-- a part whose every entry is filled
 part-whole : (o : ℕ) (f : ℕ → ℕ) (xs : List ℕ) → o + partLength ≤ length xs → part o (sets xs o (tabulate f partLength)) ≡ tabulate f partLength
 part-whole o f xs h =
     let whole : length (part o xs) ≤ partLength = omega (arith, length-part o xs h) in

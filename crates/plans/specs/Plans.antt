@@ -20,14 +20,14 @@ associationAt st i = getD (st .effects) i noEffect .association
 abbrev pub delayAt : Settings → ℕ → ℕ
 delayAt st i = getD (st .effects) i noEffect .delay
 
--- those of all slots
+-- the association words of all slots
 abbrev pub associationsOf : Settings → List ℕ
 associationsOf st = tabulate (associationAt st) 16
 
 abbrev pub delaysOf : Settings → List ℕ
 delaysOf st = tabulate (delayAt st) 16
 
--- the array with them
+-- the array with the association words and the delays of all slots
 unfoldable pub wiredInto : Settings → (array : List ℕ) → List ℕ
 wiredInto st array = sets (sets array associationsAt (associationsOf st)) delaysAt (delaysOf st)
 

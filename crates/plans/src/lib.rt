@@ -25,7 +25,7 @@ fn put_associations(board: &mut [u32; 64], st: Settings)
     }
 }
 
-// And their delays.
+// Puts the delays of all slots into their part of the array.
 fn put_delays(board: &mut [u32; 64], st: Settings)
     ensures { λ _. ⌜ now (board .exit) ≡ sets (now (board .entry)) delaysAt (tabulate (delayAt st) 16) ⌝ }
 {

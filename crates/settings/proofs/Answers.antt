@@ -6,7 +6,7 @@ use lib.ListN.{length}
 use Rattle.settings.specs.Refusals.{orElse, granted, roomNumber}
 use Rattle.settings.proofs.Refusals.{granted-refused, room-enough, room-short, or-else-first, or-else-next}
 
--- n is the number of the input, and `due` the bytes due in so much room
+-- n is the refusal number of the input, `due` the bytes due, and `room` the bytes there are
 module _ {A : Type 0} (input due room n : ℕ) (is : n ≡ input) (a : A) (f : ℕ → A) where
   refused-at-once : (n ≡ 0 → ⊥) → f n ≡ granted (orElse input (roomNumber due room)) a f
   refused-at-once h = sym (ap (λ (k : ℕ). granted k a f) (sym (or-else-first input (roomNumber due room) n is h)) ∙ granted-refused a f n h)
@@ -21,7 +21,7 @@ module _ {A : Type 0} (input due room n : ℕ) (is : n ≡ input) (a : A) (f : �
     pub granted-in-room : due ≤ room → a ≡ granted (orElse input (roomNumber due room)) a f
     granted-in-room h = ap (λ (k : ℕ). granted k a f) (then-room 0 (sym (room-enough due room h)))
 
--- the answer r and the lent bytes `buf` after it, where `piece` is what a call that is granted leaves of the bytes `out`
+-- the answer r, and the lent bytes `buf` after it. `piece`: what a call that is granted leaves of the bytes `out`
 module _ {A : Type 0} (input due : ℕ) (out piece : List ℕ) (yes : A) (no : ℕ → A) (n : ℕ) (is : n ≡ input) where
   abbrev Answers : A → List ℕ → Type 0
   Answers r buf =

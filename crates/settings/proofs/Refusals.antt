@@ -1,4 +1,4 @@
--- Laws of refusal numbers: what one check gives, and what a chain of them does, each returning at the first number that is not 0.
+-- Laws of refusal numbers: what one check gives, and what a chain of checks gives, which returns at the first that is not 0.
 use mathlib.Core.Path.{_≡_, refl, ap}
 use mathlib.Core.Bool.{Bool, true, false}
 use Prim.Native.Nat.{ℕ, zero, suc, _≤_, _<_}
@@ -18,17 +18,17 @@ module _ {A : Type 0} (a : A) (f : ℕ → A) where
   granted-refused zero h = absurd (h refl)
   granted-refused (suc k) h = refl
 
-  -- what holds in both cases
+  -- what holds of the granted answer and of every refusal holds of the answer
   pub granted-either : (P : A → Type 0) (n : ℕ) → (n ≡ 0 → P a) → ((k : ℕ) → P (f k)) → P (granted n a f)
   granted-either P zero g h = g refl
   granted-either P (suc k) g h = h (suc k)
 
-  -- the number of what is given is the number that it is given for
+  -- the refusal number in an answer is the one that it is given for
   pub granted-number : (number : A → ℕ) (n : ℕ) → (n ≡ 0 → number a ≡ 0) → ((k : ℕ) → number (f k) ≡ k) → number (granted n a f) ≡ n
   granted-number number zero g h = g refl
   granted-number number (suc k) g h = h (suc k)
 
-  -- refusals that are the same in both
+  -- two grants that agree where nothing is refused give the same answer
   pub granted-alike : (n : ℕ) (b : A) → (n ≡ 0 → b ≡ a) → granted n b f ≡ granted n a f
   granted-alike zero b h = h refl
   granted-alike (suc k) b h = refl
@@ -55,7 +55,7 @@ module _ (a most : ℕ) where
       go true e = absurd (h (rw e))
       go false e = leb-false a most e
 
--- the check of a room
+-- the check of the room
 module _ (due room : ℕ) where
   pub room-enough : due ≤ room → roomNumber due room ≡ 0
   room-enough h = ap (λ (b : Bool). unless b 10) (le-leb due room h)
@@ -80,7 +80,7 @@ pub or-else-none : (a b : ℕ) → orElse a b ≡ 0 → (a ≡ 0) × (b ≡ 0)
 or-else-none zero b e = (refl, e)
 or-else-none (suc a) b e = absurd (omega arith)
 
--- the second refuses only what the first does
+-- a second check that refuses only what the first refuses changes nothing
 pub or-else-alone : (a b : ℕ) → (a ≡ 0 → b ≡ 0) → orElse a b ≡ a
 or-else-alone zero b h = h refl
 or-else-alone (suc a) b h = refl

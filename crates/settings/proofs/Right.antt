@@ -1,4 +1,4 @@
--- What settings that are right tell.
+-- What follows from valid settings and from a valid row.
 use mathlib.Core.Path.{_≡_, refl}
 use mathlib.Core.Bool.{Bool, true, false, _&&_}
 use Prim.Native.Nat.{ℕ, _^_, _≤_, _<_}
@@ -65,7 +65,7 @@ module _ (st : Settings) (right : settingsNumber st ≡ 0) where
             omega (arith, lt, pow-mono causes-few)
         go false k = rw (List·getD-eq-default (st .effects) noEffect {n = i} (ltb-false i (length (st .effects)) k)) (omega arith)
 
--- the words of a right row have only bits of existing effects
+-- the words of a valid row have only bits of existing effects
 pub record Inside (n : ℕ) (w : Words) : Type 0 where
   pub require : w .«require_reset» < 2 ^ n
   pub permit : w .«reset_permit» < 2 ^ n
@@ -74,7 +74,7 @@ pub record Inside (n : ℕ) (w : Words) : Type 0 where
   pub trip : w .«force_trip» < 2 ^ n
   pub normal : w .«force_normal» < 2 ^ n
 
--- of ten tests that all hold, those of the effects' words
+-- of ten tests that all hold, those of the effects' words hold
 of-ten : (a b c d e f g h i j : Bool) → (a && b && c && d && e && f && g && h && i && j) ≡ true
     → (d ≡ true) × (e ≡ true) × (f ≡ true) × (g ≡ true) × (i ≡ true) × (j ≡ true)
 of-ten a b c d e f g h i j p =
@@ -117,7 +117,7 @@ inside k w e =
       normal = ltb-true _ _ (h .5);
     }
 
--- what a right row tells
+-- what follows from a valid row
 module _ (k : Known) (row : Row) (right : rowNumber k row ≡ 0) where
   pub row-words : wordsNumber k (row .words) ≡ 0
   unfolding rowNumber

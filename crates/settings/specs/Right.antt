@@ -1,4 +1,4 @@
--- What is right, and which number refuses it. Document 01, "Settings, row, state" and "Refusal numbers".
+-- What is valid, and which refusal number refuses the rest. Document 01, "Settings, row, state" and "Refusal numbers".
 use Prim.Native.Nat.{ℕ, _+_, _^_}
 use mathlib.Core.Bool.{Bool, cond, not, _&&_, _||_}
 use lib.Bits.{bitAnd}
@@ -14,7 +14,7 @@ use Rattle.settings.specs.declared.Known.{Known}
 use Rattle.rules.specs.Limits.{between, mostCauses, mostEffects, mostPeriod, mostDelay, mostHold}
 use Rattle.settings.specs.Refusals.{unless, orElse}
 
--- ## Settings: 2, then 3
+-- ## Settings: refusal number 2, then 3
 
 -- cause count 1..16; options, bits 3 to 7 zero (as "Recordings" says of a file); scan period 1..1,000 ms
 abbrev pub blockOk : (causes options period : ℕ) → Bool
@@ -30,14 +30,14 @@ effectOk causes e = leb 1 (e .association) && ltb (e .association) (2 ^ causes) 
 abbrev pub effectNumber : (causes : ℕ) → Effect → ℕ
 effectNumber causes e = unless (effectOk causes e) 3
 
--- effects 1..16
+-- an effect count of 1..16
 abbrev pub countOk : ℕ → Bool
 countOk count = between 1 mostEffects count
 
 abbrev pub knownOf : Settings → Known
 knownOf st = record { causes = st .causes; count = st .count; options = st .options }
 
--- slot i, from 0, holds an effect that is right; slots past the effect count are zero
+-- slot i, from 0, holds a valid effect; slots past the effect count are zero
 abbrev pub slotOk : Known → ℕ → Effect → Bool
 slotOk k i e = cond (ltb i (k .count)) (effectOk (k .causes) e) (eqb (e .association) 0 && eqb (e .delay) 0)
 
@@ -47,7 +47,7 @@ effectsNumber st = unless (countOk (st .count) && allFrom (slotOk (knownOf st)) 
 unfoldable pub settingsNumber : Settings → ℕ
 settingsNumber st = orElse (blockNumber (st .causes) (st .options) (st .period)) (effectsNumber st)
 
--- ## Rows: 4, 5, then 6
+-- ## Rows: refusal numbers 4, 5, then 6
 
 -- words 1 to 3 have only bits of existing causes, words 4 to 7, 9 and 10 only of existing effects; force permit is 0 or 1
 abbrev pub wordsOk : Known → Words → Bool
@@ -77,7 +77,7 @@ apartNumber w = unless (apart w) 5
 abbrev pub several : Words → Bool
 several w = ltb 1 (ones (w .«force_trip») + ones (w .«force_normal»))
 
--- 6: several forced without option bit 2, whether or not forces are permitted
+-- refusal number 6: several forced without option bit 2, whether or not forces are permitted
 abbrev pub severalNumber : Known → Words → ℕ
 severalNumber k w = unless (bitOf (k .options) 2 || not (several w)) 6
 

@@ -1,4 +1,4 @@
--- A row and settings that are all zero, as answers have them where there is none. Document 01, "Refusal numbers": a refusal gives zeros.
+-- A row and settings that are all zero; an answer that has none gives these. Document 01, "Refusal numbers": a refusal gives zeros.
 use lib.ListN.{replicate}
 use Rattle.settings.specs.declared.Settings.{Settings}
 use Rattle.settings.specs.declared.Words.{Words}

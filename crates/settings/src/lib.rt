@@ -1,7 +1,7 @@
-// Settings and rows: what they are, which number refuses them, and what an effect sees of them in a scan.
+// Settings and rows: what they are, which refusal number refuses them, and what an effect sees of them in a scan.
 // Document 01, "Settings, row, state", "Refusal numbers" and "The rules of one scan". It rests on `rules` and `bits`.
-// How a number is come to, and in which order the tests of one number are made, may change without moving a contract; the order of
-// the numbers may not.
+// How a refusal number is computed, and in which order the tests of one refusal number are made, may change without moving a contract;
+// the order of the refusal numbers may not.
 ghost use mathlib.Core.Path.{_≡_};
 ghost use mathlib.Core.Bool.{_&&_, _||_, not};
 ghost use Prim.Native.Nat.{_+_, _<_, _≤_};
@@ -76,7 +76,7 @@ impl Row {
     }
 }
 
-// ---- settings: 2, then 3
+// ---- settings: refusal number 2, then 3
 
 pub fn known_of(st: Settings) -> Known
     ensures { λ r. ⌜ r ≡ knownOf st ⌝ }
@@ -88,7 +88,7 @@ pub fn known_of(st: Settings) -> Known
     }
 }
 
-// 0 for a block section that is right, else 2.
+// 0 for a valid block section, else refusal number 2.
 pub fn block_number(causes: u8, options: u8, period: u16) -> u8
     ensures { λ r. ⌜ r ≡ blockNumber causes options period ⌝ }
 {
@@ -105,14 +105,14 @@ fn effect_ok(causes: u8, e: Effect) -> bool
     (1 <= e.association) & bits::within(e.association, causes) & (e.delay <= Effect::MOST_DELAY)
 }
 
-// 0 for an effect that is right, else 3.
+// 0 for a valid effect, else refusal number 3.
 pub fn effect_number(causes: u8, e: Effect) -> u8
     ensures { λ r. ⌜ r ≡ effectNumber causes e ⌝ }
 {
     if effect_ok(causes, e) { 0 } else { 3 }
 }
 
-// Slot i holds an effect that is right, or nothing past the count.
+// Slot i holds a valid effect; past the count it is zero.
 fn slot_ok(known: Known, i: usize, e: Effect) -> bool
     ensures { λ r. ⌜ r ≡ slotOk known i e ⌝ }
 {
@@ -143,7 +143,7 @@ fn count_ok(count: u8) -> bool
     (1 <= count) & (count <= 16)
 }
 
-// 0 for an effect count and slots that are right, else 3.
+// 0 for a valid effect count and valid slots, else refusal number 3.
 fn effects_number(st: Settings) -> u8
     ensures { λ r. ⌜ r ≡ effectsNumber st ⌝ }
 {
@@ -155,7 +155,7 @@ fn effects_number(st: Settings) -> u8
     }
 }
 
-// 0 for settings that are right, or their refusal's number.
+// 0 for valid settings, else their refusal number.
 pub fn settings_number(st: Settings) -> u8
     ensures { λ r. ⌜ r ≡ settingsNumber st ⌝ }
 {
@@ -166,7 +166,7 @@ pub fn settings_number(st: Settings) -> u8
     effects_number(st)
 }
 
-// ---- rows: 4, 5, then 6
+// ---- rows: refusal numbers 4, 5, then 6
 
 fn words_ok(known: Known, w: Words) -> bool
     ensures { λ r. ⌜ r ≡ wordsOk known w ⌝ }
@@ -221,7 +221,7 @@ fn several_number(known: Known, w: Words) -> u8
     }
 }
 
-// 0 for words that are right, or their refusal's number.
+// 0 for valid words, else their refusal number.
 pub fn words_number(known: Known, w: Words) -> u8
     ensures { λ r. ⌜ r ≡ wordsNumber known w ⌝ }
 {
@@ -246,7 +246,7 @@ fn hold_number(hold: u32) -> u8
     }
 }
 
-// 0 for a row that is right, or its refusal's number.
+// 0 for a valid row, else its refusal number.
 pub fn row_number(known: Known, row: Row) -> u8
     ensures { λ r. ⌜ r ≡ rowNumber known row ⌝ }
 {

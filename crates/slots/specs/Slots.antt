@@ -1,4 +1,4 @@
--- What is right of the slot of an effect. Document 01, "Settings, row, state".
+-- When the slot of an effect is valid. Document 01, "Settings, row, state".
 use Prim.Native.Nat.{ℕ}
 use mathlib.Core.Bool.{Bool, cond, _&&_}
 use lib.Bits.{bitAnd}
@@ -22,10 +22,10 @@ firstRight association x = cond (same (x .state) Normal) (eqb (x .«first_out»)
 abbrev pub slotRight : Effect → Slot → Bool
 slotRight e x = timerRight (e .delay) x && firstRight (e .association) x
 
--- Tripped, 0, 0
+-- an unused slot: Tripped, 0, 0
 abbrev pub slotUnused : Slot → Bool
 slotUnused x = same (x .state) Tripped && eqb (x .timer) 0 && eqb (x .«first_out») 0
 
--- slot i, from 0, is right; slots past the effect count are unused
+-- slot i, from 0, is valid; slots past the effect count are unused
 abbrev pub slotOk : Settings → ℕ → Slot → Bool
 slotOk st i x = cond (ltb i (st .count)) (slotRight (getD (st .effects) i noEffect) x) (slotUnused x)

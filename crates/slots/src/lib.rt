@@ -1,5 +1,6 @@
-// What is kept of an effect from scan to scan, and when it is right by the settings: what number 8 is about, but for the scans done.
-// Document 01, "Settings, row, state". It rests on `settings` and `rules`.
+// What is kept of an effect from scan to scan, and when it is valid for the settings: refusal number 8, except for the scans done.
+// Document 01, "Settings, row, state". It rests on `settings` and `rules`. How the tests are made may change without moving a contract;
+// what is valid stands in specs/Slots.
 ghost use mathlib.Core.Path.{_≡_};
 ghost use Prim.Native.Nat.{_<_};
 ghost use Rattle.bits.specs.Lists.{allFrom};
@@ -31,14 +32,14 @@ fn first_right(association: u16, x: Slot) -> bool
     }
 }
 
-// What is kept of an effect is right.
+// What is kept of an effect is valid.
 fn slot_right(e: Effect, x: Slot) -> bool
     ensures { λ r. ⌜ r ≡ slotRight e x ⌝ }
 {
     timer_right(e.delay, x) & first_right(e.association, x)
 }
 
-// What is kept of no effect.
+// The slot holds what is kept of no effect.
 fn slot_unused(x: Slot) -> bool
     ensures { λ r. ⌜ r ≡ slotUnused x ⌝ }
 {
@@ -46,7 +47,7 @@ fn slot_unused(x: Slot) -> bool
     rules::same(p, EffectState::Tripped) & (x.timer == 0) & (x.first_out == 0)
 }
 
-// Slot i is right, or unused past the count.
+// Slot i is valid, or unused past the count.
 fn slot_ok(st: Settings, i: usize, x: Slot) -> bool
     requires { ⌜ i < 16 ⌝ }
     ensures { λ r. ⌜ r ≡ slotOk st i x ⌝ }
@@ -59,7 +60,7 @@ fn slot_ok(st: Settings, i: usize, x: Slot) -> bool
     }
 }
 
-// Every slot is.
+// Every slot is valid, or unused past the count.
 pub fn slots_ok(st: Settings, slots: [Slot; 16]) -> bool
     ensures { λ r. ⌜ r ≡ allFrom (slotOk st) 0 slots ⌝ }
 {

@@ -1,4 +1,4 @@
--- Laws of lines: their pieces, and those that are left in a loop.
+-- Laws of lines: the pieces of a line, and the lines that are left in a loop.
 use mathlib.Core.Path.{_≡_, sym, ap, _∙_}
 use mathlib.Core.List.{List, [], _∷_, _++_, flatMap, append-assoc}
 use Prim.Native.Nat.{ℕ, _+_, _<_, _≤_}

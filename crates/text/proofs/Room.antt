@@ -1,4 +1,4 @@
--- How long lines are at most.
+-- How many bytes lines have at most.
 use mathlib.Core.List.{List, [], _∷_, flatMap}
 use Prim.Native.Nat.{ℕ, _+_, _*_, _^_, _≤_, _<_}
 use native.Mathlib.Omega.{arith}
@@ -33,7 +33,7 @@ line-at-most e s c i f =
     let u = length-decimal 4 (e .«first_out») (omega arith) in
     simp length-append (omega (arith, name-at-most (e .from), name-at-most (e .to)))
 
--- the records of any bytes
+-- the line of a record that stands in a list of bytes has at most `mostLine` bytes
 record-at-most : (s : List ℕ) → Bytes s → (at : ℕ) (e : Event) → StandsAt s at e → length (line e) ≤ mostLine
 record-at-most s b at e h =
     let f = fields-of s at e h in
@@ -45,7 +45,7 @@ lines-at-most s b at [] h = omega arith
 lines-at-most s b at (e ∷ es) h =
     omega (arith, length-append (line e) (lines es), record-at-most s b at e (stand-first s at e es h), lines-at-most s b (at + recordLength) es (stand-rest s at e es h))
 
--- the other lines
+-- the other lines have at most `mostPiece` bytes
 pub last-at-most : (r s l x : ℕ) → r < 2 ^ 32 → s < 2 ^ 32 → l < 2 ^ 32 → x < 2 ^ 32 → length (lastLine r s l x) ≤ mostPiece
 unfolding lastLine
 last-at-most r s l x hr hs hl hx =

@@ -13,7 +13,7 @@ use Rattle.text.specs.Text.{lineOf, name, lines}
 unfoldable pub when : Event → List ℕ
 when e = decimal (e .seq) ++ ascii " " ++ (decimal (e .scan) ++ ascii " " ++ (decimal (e .effect) ++ ascii " "))
 
--- and the others
+-- the last three fields of a record's line, a space behind the first two and LF behind the third
 unfoldable pub change : Event → List ℕ
 change e = lineOf (name (e .from) ∷ name (e .to) ∷ decimal (e .«first_out») ∷ [])
 
@@ -21,10 +21,10 @@ change e = lineOf (name (e .from) ∷ name (e .to) ∷ decimal (e .«first_out»
 unfoldable pub total : List ℕ → (v end : ℕ) → List ℕ
 total word v end = word ++ ascii " " ++ (decimal v ++ (end ∷ []))
 
--- n records stand at the front: those of some events
+-- the records of some n events stand at the front
 abbrev pub Recorded : List ℕ → (n : ℕ) → Type 0
 Recorded records n = (es : List Event) × (length es ≡ n) × StandFrom records 0 es
 
--- the lines of the events whose n records these are were written at a place, and r is the place after them
+-- for any events whose n records these are: their lines were written at a place, and r is the place after them
 abbrev pub LinesPut : (records : List ℕ) (n at : ℕ) (out : List ℕ) (r : ℕ) (out′ : List ℕ) → Type 0
 LinesPut records n at out r out′ = (es : List Event) → length es ≡ n → StandFrom records 0 es → (r ≡ at + length (lines es)) × (out′ ≡ sets out at (lines es))

@@ -1,5 +1,5 @@
--- The lines of a listing, as bytes. Document 01, "One session, whole": fields with a space between; that LF ends every
--- line, the last too, is ours.
+-- The lines of a listing, as bytes. Document 01, "One session, whole": fields with a space between. That LF ends every
+-- line, the last one too, is our decision.
 use Prim.Native.Nat.{ℕ}
 use mathlib.Core.List.{List, [], _∷_, _++_, flatMap}
 use Rattle.bits.specs.Decimal.{ascii, decimal}

@@ -1,5 +1,5 @@
 // The lines of a listing, written at a place of a lent buffer: each function answers the place after what it wrote, and all
-// else stays. Those for whole lines say too that this place is within the buffer, so that a caller need not show it. Document
+// else stays. Functions for whole lines also say that this place is within the buffer, so that a caller need not show it. Document
 // 01, "One session, whole". It rests on `effects` for the events and on `bits` for numbers and text. How lines are put may change without
 // moving a contract; the text is specs/Text.
 ghost use mathlib.Core.Path.{_≡_};
@@ -17,7 +17,7 @@ use rules::EffectState;
 
 // ---- fields
 
-// A word, and the byte behind it.
+// Puts a word, and the byte behind it.
 fn put_word(out: &mut [u8], at: usize, word: &[u8], end: u8) -> usize
     requires { ⌜ at + length (now word ++ (end ∷ [])) ≤ length (now out) ⌝ }
     ensures { λ r. ⌜ (r ≡ at + length (now (word .entry) ++ (end ∷ []))) × (now (out .exit) ≡ sets (now (out .entry)) at (now (word .entry) ++ (end ∷ []))) ⌝ }
@@ -27,7 +27,7 @@ fn put_word(out: &mut [u8], at: usize, word: &[u8], end: u8) -> usize
     last + 1
 }
 
-// A number, and the byte behind it.
+// Puts a number, and the byte behind it.
 fn put_number(out: &mut [u8], at: usize, v: u64, end: u8) -> usize
     requires { ⌜ at + length (decimal v ++ (end ∷ [])) ≤ length (now out) ⌝ }
     ensures { λ r. ⌜ (r ≡ at + length (decimal v ++ (end ∷ []))) × (now (out .exit) ≡ sets (now (out .entry)) at (decimal v ++ (end ∷ []))) ⌝ }
@@ -37,7 +37,7 @@ fn put_number(out: &mut [u8], at: usize, v: u64, end: u8) -> usize
     last + 1
 }
 
-// The name of a state, and a space.
+// Puts the name of a state, and a space.
 fn put_state(out: &mut [u8], at: usize, p: EffectState) -> usize
     requires { ⌜ at + length (name p ++ ascii " ") ≤ length (now out) ⌝ }
     ensures { λ r. ⌜ (r ≡ at + length (name p ++ ascii " ")) × (now (out .exit) ≡ sets (now (out .entry)) at (name p ++ ascii " ")) ⌝ }
@@ -52,7 +52,7 @@ fn put_state(out: &mut [u8], at: usize, p: EffectState) -> usize
     }
 }
 
-// A word, a space, a number, and the byte behind it.
+// Puts a word, a space, a number, and the byte behind it.
 fn put_total(out: &mut [u8], at: usize, word: &[u8], v: u64, end: u8) -> usize
     requires { ⌜ at + length (total (now word) v end) ≤ length (now out) ⌝ }
     ensures { λ r. ⌜ (r ≡ at + length (total (now (word .entry)) v end)) × (now (out .exit) ≡ sets (now (out .entry)) at (total (now (word .entry)) v end)) ⌝ }
@@ -63,7 +63,7 @@ fn put_total(out: &mut [u8], at: usize, word: &[u8], v: u64, end: u8) -> usize
 
 // ---- the line of a record
 
-// The number of an event, its scan and its effect, a space behind each.
+// Puts the sequence number of an event, its scan and its effect, with a space behind each.
 fn put_when(out: &mut [u8], at: usize, e: Event) -> usize
     requires { ⌜ at + length (when e) ≤ length (now out) ⌝ }
     ensures { λ r. ⌜ (r ≡ at + length (when e)) × (now (out .exit) ≡ sets (now (out .entry)) at (when e)) ⌝ }
@@ -73,7 +73,7 @@ fn put_when(out: &mut [u8], at: usize, e: Event) -> usize
     put_number(out, effect, e.effect as u64, b' ')
 }
 
-// Its states and its first-out, and LF.
+// Puts the states and the first-out of an event, and LF.
 fn put_change(out: &mut [u8], at: usize, e: Event) -> usize
     requires { ⌜ at + length (change e) ≤ length (now out) ⌝ }
     ensures { λ r. ⌜ (r ≡ at + length (change e)) × (now (out .exit) ≡ sets (now (out .entry)) at (change e)) ⌝ }
@@ -93,7 +93,7 @@ fn put_line(out: &mut [u8], at: usize, e: Event) -> usize
     put_change(out, from, e)
 }
 
-// The lines of the n records at the front of `records`.
+// Puts the lines of the n records at the front of `records`.
 pub fn put_lines(out: &mut [u8], at: usize, records: &[u8], n: usize) -> usize
     requires { ⌜ (n ≤ mostRecords) × Recorded (now records) n × (at + mostPiece ≤ length (now out)) ⌝ }
     ensures { λ r. ⌜ LinesPut (now (records .entry)) n at (now (out .entry)) r (now (out .exit)) ⌝ }
@@ -122,7 +122,7 @@ pub fn put_header(out: &mut [u8], at: usize) -> usize
     bits::put_text(out, at, b"seq scan effect from to first\n")
 }
 
-// The last line.
+// Puts the last line.
 pub fn put_last(
     out: &mut [u8],
     at: usize,
@@ -141,7 +141,7 @@ pub fn put_last(
     put_total(out, fourth, b"exercised", exercised as u64, b'\n')
 }
 
-// The line of a refusal.
+// Puts the line of a refusal.
 pub fn put_refusal(out: &mut [u8], at: usize, number: u8, place: usize) -> usize
     requires { ⌜ at + mostPiece ≤ length (now out) ⌝ }
     ensures { λ r. ⌜ (r ≡ at + length (refusalLine number place)) × (now (out .exit) ≡ sets (now (out .entry)) at (refusalLine number place)) ⌝ }

@@ -38,7 +38,7 @@ stroked b e l x = record { board = b; effect = e; latent = l; exercised = x }
 stroked-path : {b b′ : Board} {e e′ l l′ : ℕ} {x x′ : Bool} → b ≡ b′ → e ≡ e′ → l ≡ l′ → x ≡ x′ → stroked b e l x ≡ stroked b′ e′ l′ x′
 stroked-path p q r s = λ i. stroked (p i) (q i) (r i) (s i)
 
--- what the plan has of the settings
+-- the plan has the count and the period of the settings
 pub count-of : (st : Settings) (plan : Plan) → plan ≡ planOf st → plan .count ≡ st .count
 unfolding planOf
 count-of st plan e = ap (λ (y : Plan). y .count) e
@@ -102,7 +102,7 @@ module _ {st : Settings} {plan : Plan} {row : Row} {x : Mark} {array : List ℕ}
       comes-to : boardAt y array′ ≡ boardOf (st .count) run
       comes-to = done .board ∙ rw (held-is, en)
 
-      -- the answer, by its words
+      -- the code's answer is the result of the run of slots
       pub ran : {r : Struck} → strokedAt r array′ ≡ stroked (boardAt y array′) (bitOr (y .planes .normal) (y .planes .delayed)) (bitAnd (task .asked .«force_normal») (bitOr (task .asked .active) (task .asked .«bad_trip»))) (not (eqb (task .asked .active) 0))
           → Ran st plan row x array buf r array′ buf′
       ran e =

@@ -1,4 +1,4 @@
--- The words are those of what the effects see.
+-- The words that a row gives are those of what the effects see.
 use mathlib.Core.Path.{_≡_, refl, ap, sym, _∙_}
 use mathlib.Core.Bool.{Bool, true, false, cond, not, _&&_, _||_, or-assoc, or-false, Bool·not-not}
 use mathlib.Core.List.{List, [], _∷_, _++_}
@@ -32,7 +32,7 @@ use Rattle.plans.specs.Plans.{associationAt, delayAt, associationsOf, delaysOf,
 use Rattle.wiring.specs.Wiring.{trippedOf, askedBy}
 use Rattle.wiring.proofs.Watched.{in-union, and-watched}
 
--- a bit of a word that counts, or does not
+-- a bit of a word that counts if b holds, and is 0 otherwise
 bit-if : (b : Bool) (w i : ℕ) → bitOf (cond b w 0) i ≡ (b && bitOf w i)
 bit-if true w i = refl
 bit-if false w i = bit-none i
@@ -92,7 +92,7 @@ module _ (st : Settings) (right : settingsNumber st ≡ 0) (w : Words) (words : 
   pub signals-are : signalsIn n (associationsOf st) (delaysOf st) (st .period) (trippedOf w) asked ≡ signals st w
   signals-are = tabulate-ext shown (signalsOf st w) n sees
 
-  -- and the words are those of what they show
+  -- the words that are asked are those of what they show
   pub asked-right : asked ≡ askedOf n (λ i. asks (shown i))
   unfolding askedOf signalsBy askedBy planOf
   asked-right =
@@ -119,12 +119,12 @@ on-all WaitStart = refl
 on-all Normal = refl
 on-all Delayed = refl
 
--- the effect word
+-- the effect word, from the words of the states
 pub effect-is : (m : ℕ) (xs : List Slot) → bitOr (tableOf m xs .planes .normal) (tableOf m xs .planes .delayed) ≡ effectWord m xs
 unfolding tableOf planesOf
 effect-is m xs = or-word _ _ m ∙ wordOf-ext _ _ m (λ i k. on-all (getD xs i noSlot .state))
 
--- the latent word, of what is asked
+-- the latent word, from what is asked
 pub latent-is : (m : ℕ) (s : ℕ → Signals)
     → bitAnd (askedOf m (λ i. asks (s i)) .«force_normal») (bitOr (askedOf m (λ i. asks (s i)) .active) (askedOf m (λ i. asks (s i)) .«bad_trip»)) ≡ latentWord (tabulate s m)
 unfolding askedOf
@@ -132,7 +132,7 @@ latent-is m s =
     simp (or-word, and-word)
     (wordOf-ext _ _ m (λ i k. ap isLatent (sym (getD-tabulate s m i noSignals k))) ∙ ap (wordOf (λ i. isLatent (getD (tabulate s m) i noSignals))) (sym (length-tabulate s m)))
 
--- some effect is exercised where the active word is not 0
+-- some effect is exercised if and only if the word of the active effects is not 0
 exercised-snoc : (ss : List Signals) (s : Signals) → anyExercised (ss ++ (s ∷ [])) ≡ (anyExercised ss || isExercised s)
 exercised-snoc [] s = or-false (isExercised s)
 exercised-snoc (r ∷ ss) s = ap (λ (b : Bool). isExercised r || b) (exercised-snoc ss s) ∙ sym (or-assoc (isExercised r) (anyExercised ss) (isExercised s))

@@ -25,7 +25,7 @@ in-union f (suc n) i j h e = bit-or (unionTo f n) (f n) j ∙ ⊎-elim last (λ 
     last : i ≡ n → (bitOf (unionTo f n) j || bitOf (f n) j) ≡ true
     last k = or-second (bitOf (unionTo f n) j) (bitOf (f n) j) (rw k at e)
 
--- bits that hold all of a's hide nothing of a
+-- a mask that has all bits of a hides nothing of a
 pub and-watched : (a t u : ℕ) → a < 2 ^ 16 → ((j : ℕ) → bitOf a j ≡ true → bitOf u j ≡ true) → bitAnd a (bitAnd t u) ≡ bitAnd a t
 and-watched a t u h all =
     same-bits _ _ 16 (lt-of-le-of-lt (and-le-l a (bitAnd t u)) h) (lt-of-le-of-lt (and-le-l a t) h)

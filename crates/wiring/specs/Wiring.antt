@@ -33,7 +33,7 @@ use Rattle.wiring.specs.declared.Struck.{Struck}
 abbrev pub trippedOf : Words → ℕ
 trippedOf w = bitAnd (65535 - w .mask) (65535 - w .values)
 
--- what the rules are asked
+-- what the rules are asked in a row
 unfoldable pub askedBy : Plan → (associations : List ℕ) → Words → Asked
 askedBy plan associations w =
     record {
@@ -55,19 +55,19 @@ taskOf plan associations row =
 
 -- ## A held run
 
--- what it comes to: how far, the two words of its last scan, and whether it exercises an effect
+-- what a held run results in: its board, the two words of its last scan, and whether it exercises an effect
 pub record Stroked : Type 0 where
   pub board : Board
   pub effect : ℕ
   pub latent : ℕ
   pub exercised : Bool
 
--- as the code gives it
+-- the result that the code gives, with the array
 abbrev pub strokedAt : Struck → (array : List ℕ) → Stroked
 strokedAt r array =
     record { board = boardAt (r .mark) array; effect = r .effect; latent = r .latent; exercised = r .exercised }
 
--- as the run of slots gives it
+-- the result of the run of slots
 abbrev pub strokedBy : Settings → Words → Run → Stroked
 strokedBy st w r =
     record {
@@ -81,7 +81,7 @@ strokedBy st w r =
 abbrev pub heldOf : Settings → Row → Mark → (array : List ℕ) → Run
 heldOf st row x array = held (signals st (row .words)) (row .hold) (runOf (st .count) (boardAt x array))
 
--- the row can run by these settings, and its records fit in so many bytes
+-- the row can run with these settings, and its records fit in so many bytes
 pub record Runs (st : Settings) (plan : Plan) (row : Row) (x : Mark) (array : List ℕ) (room : ℕ) : Type 0 where
   pub settings : settingsNumber st ≡ 0
   pub wired : Wired st plan array
@@ -90,18 +90,18 @@ pub record Runs (st : Settings) (plan : Plan) (row : Row) (x : Mark) (array : Li
   pub shown : Shown (st .count) (boardAt x array .table)
   pub fits : recordLength * length (heldOf st row x array .events) ≤ room
 
--- it can run by some settings
+-- the row can run with some settings
 pub record Runnable (plan : Plan) (row : Row) (x : Mark) (array : List ℕ) (room : ℕ) : Type 0 where
   pub st : Settings
   pub runs : Runs st plan row x array room
 
--- what it comes to by these settings
+-- what the run results in, with these settings
 pub record Ran (st : Settings) (plan : Plan) (row : Row) (x : Mark) (array buf : List ℕ) (r : Struck) (array′ buf′ : List ℕ) : Type 0 where
   pub stroked : strokedAt r array′ ≡ strokedBy st (row .words) (heldOf st row x array)
   pub laid : buf′ ≡ sets buf 0 (bytes (heldOf st row x array .events))
   pub wired : Wired st plan array′
 
--- and by any by which it can run
+-- what the run results in, with any settings with which the row can run
 abbrev pub RunsBy : Plan → Row → Mark → (array buf : List ℕ) → Struck → (array′ buf′ : List ℕ) → Type 0
 RunsBy plan row x array buf r array′ buf′ =
     (st : Settings) → Runs st plan row x array (length buf) → Ran st plan row x array buf r array′ buf′

@@ -1,8 +1,8 @@
 // What a row gives to the words of effects: what the rules are asked of all of them, and a held run of it. Document 01, "The rules
 // of one scan".
-// This crate is the way to the algorithm of `engine`. What an effect sees stands in the specs of settings. It rests on `engine`, on
-// `plans` for what the settings give, on `settings` and what they rest on. All of it may change without moving a contract of an entry
-// point.
+// This crate leads from a row to the algorithm of `engine`. What an effect sees stands in the specs of `settings`. It rests on `engine`,
+// on `plans` for what the settings give, on `settings`, and on what those rest on. All of it may change without moving a contract of an
+// entry point.
 ghost use mathlib.Core.Path.{_≡_};
 ghost use Prim.Native.Nat.{_≤_};
 ghost use lib.ListN.{length};
@@ -15,7 +15,7 @@ use planes::Asked;
 use settings::Row;
 use settings::Words;
 
-// What a held run comes to: how far, the effect and latent words of its last scan, and whether it exercises an effect.
+// What a held run results in: its mark, the effect and latent words of its last scan, and whether it exercises an effect.
 pub struct Struck {
     pub mark: Mark,
     pub effect: u16,
@@ -32,7 +32,7 @@ fn tripped_causes(w: Words) -> u16
     !w.mask & !w.values
 }
 
-// What the rules are asked.
+// What the rules are asked in a row.
 fn asked_by(plan: Plan, board: &[u32; 64], w: Words) -> Asked
     requires { ⌜ plan .count ≤ 16 ⌝ }
     ensures { λ r. ⌜ r ≡ askedBy plan (associationsIn (now (board .entry))) w ⌝ }
@@ -64,7 +64,7 @@ fn task_of(plan: Plan, board: &[u32; 64], row: Row) -> Task
     }
 }
 
-// A held run of a row that is right, in one stroke. Its records go to the front of the buffer, and the timers and first-outs
+// A held run of a valid row, in one stroke. Its records go to the front of the buffer, and the timers and first-outs
 // are those after it.
 pub fn stroke(buf: &mut [u8], board: &mut [u32; 64], plan: Plan, row: Row, from: Mark) -> Struck
     requires { ⌜ Runnable plan row from (now board) (length (now buf)) ⌝ }

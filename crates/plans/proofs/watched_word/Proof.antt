@@ -1,4 +1,4 @@
--- `plans::watched_word` meets its contract. The loop's invariant: the word is the union of the first i.
+-- `plans::watched_word` meets its contract. The loop's invariant: the word is the union of the first i association words.
 use mathlib.Core.Path.{_≡_, refl}
 use Prim.Native.Nat.{_≤_, _-_}
 use native.Mathlib.Numerals.{add-one}

@@ -14,7 +14,7 @@ use Rattle.text.proofs.Room.{last-at-most}
 use Rattle.text.proofs.put_last.Statement.{statement}
 use Rattle.text.proofs.put_last.Tie as tie
 
--- its pieces are together at most a piece of a listing
+-- the pieces of the last line have together at most `mostPiece` bytes
 short : (s : tie.Start) → let a = s .args in length (total (ascii "rows") (a .rows) 32) + (length (total (ascii "scans") (a .scans) 32) + (length (total (ascii "live") (a .live) 32) + length (total (ascii "exercised") (a .exercised) 10))) ≤ mostPiece
 short s =
     let a = s .args in

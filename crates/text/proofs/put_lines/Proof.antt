@@ -1,5 +1,5 @@
--- `text::put_lines` meets its contract. The loop's invariant: of the events whose records these are, with the lines that are left the
--- text would be whole.
+-- `text::put_lines` meets its contract. The loop's invariant: for any events whose records these are, the text written so far and the
+-- lines that are left make the whole text.
 use mathlib.Core.Path.{_≡_, refl, sym, ap, _∙_}
 use mathlib.Core.List.{List}
 use Prim.Native.Nat.{ℕ, _≤_, _<_, _-_, _+_, _*_}
@@ -27,7 +27,7 @@ Inv-loop out₀ at records n next₀ i₀ out next i = (i ≤ n) × (length out 
 abbrev μ-loop : tie.MeasureT-loop
 μ-loop out₀ at records n next₀ i₀ out next i = n - i
 
--- no event's record: what `getD` gives past the end
+-- an event that stands for none: what `getD` gives past the end
 abbrev none : Event
 none = record { seq = 0; scan = 0; effect = 0; from = Tripped; to = Tripped; «first_out» = 0 }
 

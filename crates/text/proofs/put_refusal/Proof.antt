@@ -13,7 +13,7 @@ use Rattle.text.proofs.Room.{refusal-at-most}
 use Rattle.text.proofs.put_refusal.Statement.{statement}
 use Rattle.text.proofs.put_refusal.Tie as tie
 
--- its pieces are together at most a piece of a listing
+-- the pieces of the line of a refusal have together at most `mostPiece` bytes
 short : (s : tie.Start) → let a = s .args in length (total (ascii "refused") (a .number) 32) + length (total (ascii "at") (a .place) 10) ≤ mostPiece
 short s =
     let a = s .args in

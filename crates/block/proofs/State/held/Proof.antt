@@ -1,5 +1,5 @@
--- `block::State::held` meets its contract: the run's records, laid apart, are those of the definitions, so they fit or do not,
--- and the cases of the answer are those of the code.
+-- `block::State::held` meets its contract: the run's records, laid in a space of their own, are those of the definitions, so they fit
+-- or do not, and the cases of the answer are those of the code.
 use mathlib.Core.Path.{_≡_, ap, sym, _∙_}
 use Prim.Native.Nat.{_*_, _≤_}
 use native.Mathlib.Omega.{arith}
@@ -25,7 +25,7 @@ returns c =
     answers-refused _ (recordLength * length (run (a .st) (a .row) (a .self) .events)) (now (a .out)) (atFront (run (a .st) (a .row) (a .self) .events) (now (a .out))) (grantedHeld (a .st) (a .row) (a .self)) (refusedHeld (a .self)) _ (i .input-number .ensures)
     (c .refused-held .result) (c .refused-held .ensures) (c .before .if1 .taken)
 
--- what the tests before the run found
+-- the tests before the run refused nothing
 input : (c : tie.After-space) → let a = c .before .before .before .before .args in inputNumber (a .st) (a .self) (a .row) ≡ 0
 input c = sym (c .before .before .input-number .ensures) ∙ c .before .if1 .left
 
