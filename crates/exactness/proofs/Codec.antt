@@ -14,7 +14,7 @@ use Rattle.recording.specs.Encode.{counted, All}
 use Rattle.layout.proofs.Lists.{length-listOf}
 use Rattle.recording.specs.Refused.{FirstRight}
 
--- an entry is read at a place, written as w bytes, and checked: 0 for right
+-- an entry is read at a place, written as w bytes, and checked; 0 means valid
 pub record Codec (A : Type 0) (w : ℕ) (get : List ℕ → ℕ → A) (put : A → List ℕ) (check : A → ℕ) : Type 0 where
   pub width : (a : A) → length (put a) ≡ w
   pub put-get : (s : List ℕ) (at : ℕ) → Bytes s → at + w ≤ length s → put (get s at) ≡ take w (drop at s)
@@ -43,7 +43,7 @@ module _ {A : Type 0} (w : ℕ) (get : List ℕ → ℕ → A) (put : A → List
         (λ i l. let e : at + w + w * i ≡ at + w * suc i = omega (arith, mul-suc w i) in rw e (f (suc i) (omega arith))),
   )
 
-  -- a section that passes is its count and its entries, as written
+  -- a section that passes is the bytes of its count and its entries
   pub section-bytes : (s : List ℕ) (at e : ℕ) → Bytes s → at + 2 ≤ length s → at + 2 + w * numAt 2 s at ≤ length s → e ≡ at + 2 + w * numAt 2 s at
       → counted put (listOf (get s) w (numAt 2 s at) (at + 2)) ≡ take (e - at) (drop at s)
   section-bytes s at e b room there next =

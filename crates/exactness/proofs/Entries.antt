@@ -1,4 +1,4 @@
--- The three kinds of entry are written and read back: each has a fixed layout, and a right entry's numbers fit their widths.
+-- The three kinds of entry are written and read back: each has a fixed layout, and a valid entry's numbers fit their widths.
 use mathlib.Core.Path.{_≡_, refl, sym, ap, _∙_}
 use mathlib.Core.Bool.{true}
 use mathlib.Core.List.{List, [], _∷_, _++_}
@@ -53,7 +53,7 @@ module _ {A : Type 0} (ws : List ℕ) (fields : A → List ℕ) (of : List ℕ �
             sym (back (get s (length p))) ∙ ap of (are s (length p) ∙ fields-pack ws (fields a) p q (length p) 0 (add-zero (length p)) (fit a h)) ∙ back a;
       }
 
--- and it is read from its own bytes alone
+-- an entry of fixed layout is read from its own bytes alone
 module _ {A : Type 0} (ws : List ℕ) (fields : A → List ℕ) (of : List ℕ → A) (get : List ℕ → ℕ → A)
     (back : (a : A) → of (fields a) ≡ a) (are : (s : List ℕ) (at : ℕ) → fields (get s at) ≡ fieldsAt ws s at 0) where
   layout-front : (m : ℕ) (s : List ℕ) (at : ℕ) → at + total ws ≤ m → get (take m s) at ≡ get s at
@@ -62,7 +62,7 @@ module _ {A : Type 0} (ws : List ℕ) (fields : A → List ℕ) (of : List ℕ �
       ∙ ap of (are (take m s) at ∙ fields-front m ws s at 0 (omega arith) ∙ sym (are s at))
       ∙ back (get s at)
 
--- what holds of the counts once the sections before an entry are right
+-- what holds of the counts once the sections before an entry are valid
 pub record Checked (k : Known) : Type 0 where
   pub causes : k .causes ≤ 16
   pub count : k .count ≤ 16

@@ -1,5 +1,5 @@
--- The bytes that the reader accepts are exactly the encodings of right settings and rows: section by section, each by the
--- laws of its kind of entry.
+-- The bytes that the reader accepts are exactly the encodings of valid settings and rows. This is shown section by section, each by
+-- the laws of its kind of entry.
 use mathlib.Core.Path.{_≡_, refl, sym, ap, ap₂, _∙_, subst}
 use mathlib.Core.List.{List, [], _∷_, _++_, append-assoc, append-nil}
 use Prim.Native.Nat.{ℕ, _+_, _-_, _*_, _≤_, _<_}
@@ -146,18 +146,18 @@ module _ (st : Settings) (rows : List Row) (right : Right st rows) where
     rows-again : listOf (rowAt s) (widthOf Rows) (length rows) (openingLength st) ≡ rows
     rows-again = let e : openingLength st ≡ rowsPlace + 2 = omega arith in rw e (rows-back .entries)
 
-    -- bytes after it are left over
+    -- bytes after the encoding are left over
     pub spare : 0 < length q → reading s ≡ refusal 7 (length (encode st rows))
     spare h = all-pass ∙ sym (left-over s 6 rowsPlace (length (encode st rows)) (λ e. omega (arith, e, length-append (encode st rows) q)))
 
-  -- with nothing after it, it is accepted, and gives its settings back
+  -- an encoding with nothing after it is accepted, and gives its settings back
   pub complete : reading (encode st rows) ≡ record { answer = A.Accepted (length rows) (openingLength st) (widthOf Rows); settings = st }
   complete =
       let e = append-nil (encode st rows) in
       ap reading (sym e) ∙ all-pass []
       ∙ sym (accepted (s []) 6 rowsPlace (length (encode st rows)) (length rows) (openingLength st) (widthOf Rows) st (ap length (sym e)) (sym (rows-back [] .count)) (omega arith) refl (sym (settings-back [])))
 
-  -- and its rows
+  -- an encoding gives its rows back
   pub rows-are-back : listOf (rowAt (encode st rows)) (widthOf Rows) (length rows) (openingLength st) ≡ rows
   rows-are-back = ap (λ (l : List ℕ). listOf (rowAt l) (widthOf Rows) (length rows) (openingLength st)) (sym (append-nil (encode st rows))) ∙ rows-again []
 
@@ -220,7 +220,7 @@ module _ (s : List ℕ) (e r end : ℕ) (t : ToEnd s e r end) where
         slots = ap (λ (l : List Effect). l ++ replicate (16 - st .count) noEffect) (sym listed);
       }
 
-  -- the settings and rows that were read are right
+  -- the settings and rows that were read are valid
   pub right-at : Right st (rowsAt s r)
   right-at =
       let len = length-listOf (rowAt s) (widthOf Rows) (numAt 2 s r) (r + 2) in
@@ -250,7 +250,7 @@ module _ (s : List ℕ) (e r end : ℕ) (t : ToEnd s e r end) where
     row-bytes : counted putRow (rowsAt s r) ≡ take (end - r) (drop r s)
     row-bytes = section-bytes (widthOf Rows) rowAt putRow (rowNumber (knownOf st)) rows-codec s r end bytes (t .rows .room) (t .rows .entries .there) (t .rows .next)
 
-    -- and their encoding is the bytes through the rows' end
+    -- the encoding of the settings and rows that were read is the bytes through the rows' end
     pub encoded-at : encode st (rowsAt s r) ≡ take end s
     unfolding encode
     encoded-at =

@@ -1,5 +1,5 @@
--- Bytes longer than a recording can be are answered by their first 49,259: every section's bytes are among those, so none
--- is short, and one byte at least is left over.
+-- Bytes longer than a recording can be are answered by their first 49,259: the bytes of every section are among those, so none
+-- is short, and at least one byte is left over.
 use mathlib.Core.Path.{_≡_, refl, sym, ap, _∙_}
 use mathlib.Core.Bool.{Bool, true, false}
 use mathlib.Core.List.{List}

@@ -1,4 +1,4 @@
--- The shortest and the longest recording are had: right settings and rows whose encodings have 40 and 49,258 bytes. Document
+-- The shortest and the longest recording exist: valid settings and rows whose encodings have 40 and 49,258 bytes. Document
 -- 01, "Recordings".
 use mathlib.Core.Path.{_≡_, refl, _∙_}
 use mathlib.Core.List.{[], _∷_, _++_}

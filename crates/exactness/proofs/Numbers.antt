@@ -1,4 +1,4 @@
--- Which numbers a file is given, and what each tells: a case of each of the five ways that a reading goes.
+-- Which refusal numbers a file is given, and what each tells, by the five ways in which a reading can go.
 use mathlib.Core.Path.{_≡_, refl, sym, ap, _∙_}
 use mathlib.Core.List.{List}
 use mathlib.Core.Logic.{_⊎_, inl, inr}
@@ -17,7 +17,7 @@ use Rattle.exactness.proofs.Refusals.{Given, section-gives, file-gives,
 use Rattle.exactness.proofs.Exact.{right-at, encoded-at, complete, rowsAt}
 
 module _ (s : List ℕ) where
-  -- a file that is not accepted gives zeros beside its number and place
+  -- a file that is not accepted gives zeros beside its refusal number and place
   pub not-accepted-refused : (number (reading s .answer) ≡ 0 → ⊥) → reading s ≡ refusal (number (reading s .answer)) (place (reading s .answer))
   not-accepted-refused =
       said-or-accepted s (λ x. (number (x .answer) ≡ 0 → ⊥) → x ≡ refusal (number (x .answer)) (place (x .answer))) (λ n p c h. refl) (λ e r t h. absurd (h refl))
@@ -37,7 +37,7 @@ module _ (s : List ℕ) where
   not-seven n p (inl h) e = absurd (omega (arith, h .0, e))
   not-seven n p (inr h) e = absurd (omega (arith, h .1, e))
 
-  -- what stands before spare bytes is accepted
+  -- the bytes before spare bytes are accepted
   abbrev Spare : Reading → Type 0
   Spare x = number (x .answer) ≡ 7 → (place (x .answer) < length s) × (number (reading (take (place (x .answer)) s) .answer) ≡ 0)
 

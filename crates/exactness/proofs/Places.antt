@@ -1,4 +1,4 @@
--- The rows of an accepted file stand at its row places, and nowhere else: the file is its first row's place and whole rows.
+-- The rows of an accepted file stand at its row places, and nowhere else: the file is the bytes before its first row, and whole rows.
 use mathlib.Core.Path.{_≡_, refl, sym}
 use mathlib.Core.Bool.{Bool, true, false, _&&_}
 use mathlib.Core.List.{List}
@@ -58,7 +58,7 @@ module _ (first n at : ℕ) (none : (i : ℕ) → i < n → at ≡ first + width
   place-no : isPlace first (widthOf Rows) end at ≡ false
   place-no = nowhere (isPlace first (widthOf Rows) end at) refl
 
--- ## At each way that a reading goes
+-- ## For each way in which a reading can go
 
 module _ (s : List ℕ) where
   abbrev place : Reading → ℕ → ℕ
@@ -79,7 +79,7 @@ module _ (s : List ℕ) where
       let next : r + 2 + widthOf Rows * i + widthOf Rows ≡ r + 2 + widthOf Rows * suc i = omega arith in
       rw (place-yes (r + 2) (numAt 2 s r) i l, getD-listOf (rowAt s) (widthOf Rows) (numAt 2 s r) (r + 2) i d l, next))
 
-  -- and the row's bytes are there to be read, without a look at the width
+  -- the bytes of a row are there to be read, with the width of the table
   abbrev Within : Row → Reading → Type 0
   Within d x = (i : ℕ) → i < rowCount (x .answer)
       → (place x i + widthOf Rows ≤ length s) × (rowAt s (place x i) ≡ getD (rowsIn (x .answer) s) i d) × (rowWidth (x .answer) ≡ widthOf Rows)
@@ -90,7 +90,7 @@ module _ (s : List ℕ) where
       (λ n p c i l. absurd (omega (arith, l)))
       (λ e r t i l. (omega (arith, rows-end e r t, l), sym (getD-listOf (rowAt s) (widthOf Rows) (numAt 2 s r) (r + 2) i d l), refl))
 
-  -- elsewhere it has ended
+  -- at a place that is no row's, the step has ended
   abbrev Elsewhere : ℕ → Reading → Type 0
   Elsewhere at x = ((i : ℕ) → i < rowCount (x .answer) → at ≡ place x i → ⊥) → stepIn (x .answer) s at ≡ T.Ended
 

@@ -1,4 +1,4 @@
--- The reader refuses exactly as it is said of the bytes: entry by entry, section by section.
+-- The reader refuses exactly as `Refused` says of the bytes. This is shown entry by entry, and section by section.
 use mathlib.Core.Path.{_≡_, refl, sym, ap, _∙_}
 use mathlib.Core.Bool.{Bool, true, false, not, _&&_, _||_}
 use mathlib.Core.List.{List}
@@ -36,7 +36,7 @@ use Rattle.exactness.proofs.Sections.{first-of, rest-of, block-pass, ef
 -- ## Entries
 
 module _ (test : ℕ → ℕ) (w len : ℕ) where
-  -- one entry that is right, before those of `n at`
+  -- entries that stop still stop behind one more valid entry
   shift : (n at k p : ℕ) → test at ≡ 0 → EntryStops test w len n (at + w) k p → EntryStops test w len (suc n) at k p
   shift n at k p r (EntryStops.short i c h l) = EntryStops.short (suc i) (omega (arith, c)) (one-before test w len at i r h) (omega (arith, mul-suc w i, l))
   shift n at k p r (EntryStops.wrong i m c h l t) =
@@ -101,7 +101,7 @@ module _ (kind : Kind) (k : Known) (s : List ℕ) (at : ℕ) where
       let room = leb-true (at + 2) (length s) q in
       Stops.entries n p room r (entries-stop (testOf kind k s) (widthOf kind) (length s) (numAt 2 s at) (at + 2) n p room (rw (q, r) at eq))
 
-  -- a section that refuses stops as it is said
+  -- a section that refuses stops as `Stops` says
   pub refuses-stops : (n p : ℕ) → sectionOf kind k s at ≡ S.Refused n p → Stops kind k s at n p
   refuses-stops n p = in-section n p (leb (at + 2) (length s)) refl (countOk kind (numAt 2 s at)) refl
 
@@ -112,16 +112,16 @@ module _ (kind : Kind) (k : Known) (s : List ℕ) (at : ℕ) where
   pub section-said : let x = sectionOf kind k s at in (sectionNumber x ≡ 0 → ⊥) → Stops kind k s at (sectionNumber x) (sectionPlace x)
   section-said = said-of (sectionOf kind k s at) refl
 
-  -- and one that stops refuses
+  -- a section that stops as `Stops` says refuses
   pub stops-refuses : (n p : ℕ) → Stops kind k s at n p → sectionOf kind k s at ≡ S.Refused n p
   stops-refuses n p (Stops.short h) = section-short _ _ _ _ _ s at h
   stops-refuses n p (Stops.wrong h c) = section-count _ _ _ _ _ s at (numAt 2 s at) h refl c
   stops-refuses n p (Stops.entries n′ p′ h c e) =
       section-entries _ _ _ _ _ s at (numAt 2 s at) h refl c ∙ stops-entries (testOf kind k s) (widthOf kind) (length s) (numAt 2 s at) (at + 2) n′ p′ e
 
--- ## Which numbers
+-- ## Which refusal numbers
 
--- nothing, or one of 2 to 6
+-- 0, or one of the refusal numbers 2 to 6
 abbrev InRange : ℕ → Type 0
 InRange n = (n ≡ 0) ⊎ ((2 ≤ n) × (n ≤ 6))
 
@@ -154,7 +154,7 @@ number-range Block = (omega arith, omega arith)
 number-range Effects = (omega arith, omega arith)
 number-range Rows = (omega arith, omega arith)
 
--- a section gives 1 at the file's length, or one of 2 to 6
+-- a section gives refusal number 1 at the file's length, or one of 2 to 6
 abbrev pub Given : List ℕ → (n p : ℕ) → Type 0
 Given s n p = ((n ≡ 1) × (p ≡ length s)) ⊎ ((2 ≤ n) × (n ≤ 6))
 
@@ -174,7 +174,7 @@ module _ (kind : Kind) (k : Known) (s : List ℕ) (at : ℕ) where
 
 -- ## Files
 
--- what holds of each refusal that is said of the bytes, and of an acceptance, holds of the reading
+-- what holds of each refusal that `Refused` allows, and of an acceptance, holds of the reading
 pub said-or-accepted : (s : List ℕ) (P : Reading → Type 0) → ((n p : ℕ) → Refused s n p → P (refusal n p))
     → ((e r : ℕ) → ToEnd s e r (length s) → P (acceptance s e r)) → P (reading s)
 said-or-accepted s P refuses accepts =
@@ -185,7 +185,7 @@ said-or-accepted s P refuses accepts =
     (λ e r end t d. refuses 7 end (Refused.spare e r end t (let i = passes-inside Rows (knownOf (settingsAt s e)) s r end (t .rows) in omega (arith, i, d))))
     accepts
 
--- a refusal's number and place are those that are said of the bytes
+-- the refusal number and place of a refusal are those that `Refused` says
 pub refused-as-said : (s : List ℕ) (n p : ℕ) → reading s ≡ refusal n p → Refused s n p
 refused-as-said s n p =
     said-or-accepted s (λ x. x ≡ refusal n p → Refused s n p) (λ k q c h. same k q h c) (λ e r t h. other e r (ap (λ (x : Reading). x .answer) h))
@@ -200,7 +200,7 @@ refused-as-said s n p =
     other : {X : Type 0} (e r : ℕ) → acceptance s e r .answer ≡ A.Refused n p → X
     other e r h = not-accepted n p (numAt 2 s r) (r + 2) (widthOf Rows) (sym h)
 
--- and what is said of the bytes is answered
+-- a refusal that `Refused` says is the answer
 pub said-is-refused : (s : List ℕ) (n p : ℕ) → Refused s n p → reading s ≡ refusal n p
 unfolding reading
 said-is-refused s n p (Refused.in-block n′ p′ h) = rw (stops-refuses Block nothingKnown s 0 n′ p′ h)
@@ -210,7 +210,7 @@ said-is-refused s n p (Refused.in-rows n′ p′ e r t h) =
 said-is-refused s n p (Refused.spare e r end t h) =
     read-rows s e (block-pass s e (t .before .block)) r (effects-pass s e r (t .before .effects)) end (rows-pass s e r end (t .rows)) ∙ sym (left-over s e r end (λ q. omega (arith, q, h)))
 
--- a file is refused by 1 at its length, by one of 2 to 6, or by 7
+-- a file is refused by refusal number 1 at its length, by one of 2 to 6, or by 7
 pub file-gives : (s : List ℕ) (n p : ℕ) → Refused s n p → Given s n p ⊎ (n ≡ 7)
 file-gives s n p (Refused.in-block n′ p′ h) = inl (section-gives Block nothingKnown s 0 n′ p′ h)
 file-gives s n p (Refused.in-effects n′ p′ e b h) = inl (section-gives Effects (knownOfBlock s) s e n′ p′ h)

@@ -1,4 +1,4 @@
--- Right settings in parts, as the sections of a file show them: each slot of the effects is one of the count, or empty.
+-- Valid settings in parts, as the sections of a file show them: each slot of the effects is one of the count, or empty.
 use mathlib.Core.Path.{_≡_, refl, ap, ap₂, _∙_}
 use mathlib.Core.Bool.{Bool, true, false, _&&_}
 use mathlib.Core.List.{List, [], _∷_, _++_}

@@ -1,4 +1,4 @@
--- A section of which all is right passes: the other way round of what `recording` has of sections.
+-- A section that is valid throughout passes: the converse of what `recording` shows of sections.
 use mathlib.Core.Path.{_≡_}
 use mathlib.Core.List.{List}
 use Prim.Native.Nat.{ℕ, zero, suc, _+_, _*_, _≤_}
@@ -17,7 +17,7 @@ use Rattle.recording.specs.Reader.{nothingKnown, knownOfBlock, settingsAt}
 use Rattle.recording.specs.Refused.{FirstRight, Passes}
 
 module _ (test : ℕ → ℕ) (w len : ℕ) where
-  -- of entries that are right, the first and those after it
+  -- of valid entries, the first is valid, and so are those after it
   pub first-of : (at i : ℕ) → FirstRight test w len at (suc i) → test at ≡ 0
   first-of at i h = rw (mul-zero, add-zero) at (h .right 0 (omega arith))
 
@@ -40,13 +40,13 @@ module _ (kind : Kind) (k : Known) (s : List ℕ) (at : ℕ) where
   section-pass e h =
       rw (le-leb (at + 2) (length s) (h .room), h .count, h .next) (entries-pass (testOf kind k s) (widthOf kind) (length s) (numAt 2 s at) (at + 2) (h .entries))
 
-  -- of n entries
+  -- a section of n valid entries passes
   pub passes-by : (n : ℕ) → numAt 2 s at ≡ n → leastOf kind ≤ n → n ≤ mostOf kind → at + 2 ≤ length s
       → FirstRight (testOf kind k s) (widthOf kind) (length s) (at + 2) n → Passes kind k s at (at + 2 + widthOf kind * n)
   passes-by n c low top room h =
       record { room = room; count = rw (c, le-leb (leastOf kind) n low, le-leb n (mostOf kind) top); entries = rw c h; next = rw c }
 
--- the sections of a file
+-- the three sections of a file
 module _ (s : List ℕ) (e : ℕ) where
   pub block-pass : Passes Block nothingKnown s 0 e → sectionOf Block nothingKnown s 0 ≡ S.Next e
   block-pass = section-pass Block nothingKnown s 0 e

@@ -1,5 +1,5 @@
 -- What is promised of recordings, each theorem stated once by what it says. Document 01, "Recordings" and "Refusal numbers".
--- `reading` and `stepAt` are what the code returns, by the contracts in src/; `Bytes s` is what every slice of bytes is.
+-- `reading` and `stepAt` are what the code returns, by the contracts in src/; `Bytes s` holds of every slice of bytes.
 use mathlib.Core.Path.{_≡_, refl, sym, ap, _∙_}
 use mathlib.Core.Bool.{true, false}
 use mathlib.Core.List.{List, _++_, flatMap}
@@ -34,19 +34,19 @@ use Rattle.exactness.proofs.Trips.{accepted-encodes, accepted-right, fi
 
 -- ## Exactness
 
--- what the reader accepts is the encoding of the settings and rows that are read, and these are right
+-- what the reader accepts is the encoding of the settings and rows that are read, and these are valid
 pub accepted-is-encoding : (s : List ℕ) → Bytes s → Accepted s → Right (reading s .settings) (rowsOf s) × (encode (reading s .settings) (rowsOf s) ≡ s)
 accepted-is-encoding s bytes h = accepted-encodes s bytes h
 
--- that these are right holds of any list of numbers that is accepted
+-- the settings and rows that are read are valid, for any list of numbers that is accepted
 pub accepted-is-right : (s : List ℕ) → Accepted s → Right (reading s .settings) (rowsOf s)
 accepted-is-right = accepted-right
 
--- and the encoding of right settings and right rows is accepted, and answered by them
+-- the encoding of valid settings and valid rows is accepted, and the answer has these settings and rows
 pub encoding-is-accepted : (st : Settings) (rows : List Row) → Right st rows → Answers (encode st rows) st rows
 encoding-is-accepted st rows right = rw (complete st rows right) (refl, refl, refl, refl, refl, rows-are-back st rows right)
 
--- the enum's case is Accepted exactly if the number is 0
+-- the enum's case is Accepted exactly if the refusal number is 0
 pub accepted-case : (s : List ℕ) → Accepted s → reading s .answer ≡ A.Accepted (rowCount (reading s .answer)) (firstRow (reading s .answer)) (rowWidth (reading s .answer))
 accepted-case = case-of
 
@@ -56,7 +56,7 @@ accepted-case = case-of
 pub encoding-in-pieces : (st : Settings) (rows : List Row) → encode st rows ≡ opening st (length rows) ++ flatMap putRow rows
 encoding-in-pieces = in-pieces
 
--- the count that is answered is the number of the rows
+-- the count in the answer is the number of the rows
 pub rows-counted : (s : List ℕ) → length (rowsOf s) ≡ rowCount (reading s .answer)
 rows-counted = length-rowsOf
 
@@ -73,7 +73,7 @@ row-at-its-place s i l = rw (row-at-place s noRow i l) (refl, refl, refl)
 pub first-row-after-the-opening : (s : List ℕ) → Accepted s → firstRow (reading s .answer) ≡ openingLength (reading s .settings)
 first-row-after-the-opening = first-row-place
 
--- a row's bytes are there to be read
+-- the bytes of row i are in the file
 pub row-in-the-file : (s : List ℕ) (i : ℕ) → i < rowCount (reading s .answer)
     → let at = firstRow (reading s .answer) + rowWidth (reading s .answer) * i in
     (at + widthOf Rows ≤ length s) × (rowAt s at ≡ getD (rowsOf s) i noRow) × (rowWidth (reading s .answer) ≡ widthOf Rows)
@@ -92,11 +92,11 @@ pub refused-as-said : (s : List ℕ) → (Accepted s → ⊥)
     → let n = number (reading s .answer) in let p = place (reading s .answer) in (reading s ≡ refusal n p) × Refused s n p
 refused-as-said s h = let e = not-accepted-refused s h in (e, said s (number (reading s .answer)) (place (reading s .answer)) e)
 
--- and what `Refused` says of the bytes is the answer
+-- a refusal that `Refused` says of the bytes is the answer
 pub said-is-refused : (s : List ℕ) (n p : ℕ) → Refused s n p → (number (reading s .answer) ≡ n) × (place (reading s .answer) ≡ p)
 said-is-refused s n p h = let e = answered s n p h in (ap (λ (x : Reading). number (x .answer)) e, ap (λ (x : Reading). place (x .answer)) e)
 
--- so it is of each section
+-- a section is refused as `Stops` says of the bytes, and what `Stops` says is its answer
 pub section-refused-as-said : (kind : Kind) (k : Known) (s : List ℕ) (at : ℕ) → let x = sectionOf kind k s at in
     (sectionNumber x ≡ 0 → ⊥) → Stops kind k s at (sectionNumber x) (sectionPlace x)
 section-refused-as-said kind k s at h = section-said kind k s at h
@@ -105,12 +105,12 @@ pub section-said-is-refused : (kind : Kind) (k : Known) (s : List ℕ) (at n p :
     (sectionNumber x ≡ n) × (sectionPlace x ≡ p)
 section-said-is-refused kind k s at n p h = let e = stops-refuses kind k s at n p h in (ap sectionNumber e, ap sectionPlace e)
 
--- a file is accepted, refused by 1 at its length, by one of 2 to 6, or by 7
+-- a file is accepted, or refused by refusal number 1 at its length, by one of 2 to 6, or by 7
 pub numbers : (s : List ℕ) → let n = number (reading s .answer) in
     (n ≡ 0) ⊎ (((n ≡ 1) × (place (reading s .answer) ≡ length s)) ⊎ (((2 ≤ n) × (n ≤ 6)) ⊎ (n ≡ 7)))
 numbers s = reading-numbers s
 
--- 7: what stands before the place is a recording, and something after it
+-- refusal number 7: the bytes before the place are a recording, and there are bytes after it
 pub seven-is-spare : (s : List ℕ) → Bytes s → number (reading s .answer) ≡ 7
     → let p = place (reading s .answer) in (p < length s) × Accepted (take p s)
 seven-is-spare s bytes h = before-spare s bytes h
@@ -134,8 +134,8 @@ accepted-length s bytes h =
       omega (arith, len, p .most, e .0 .rows-most),
     )
 
--- both are had: `Lengths` has a recording of each length
+-- both lengths occur: `Lengths` has a recording of each
 
--- bytes longer than that are answered as their first 49,259 are, one more
+-- bytes longer than the longest recording are answered as their first 49,259 are, which is one more than its length
 pub long-as-front : (s : List ℕ) → mostLength < length s → reading s ≡ reading (take (mostLength + 1) s)
 long-as-front = reading-of-front

@@ -26,29 +26,29 @@ use Rattle.exactness.proofs.Exact.{right-at, encoded-at}
 
 -- ## Accepted files
 
--- a refusal's number is not 0
+-- the refusal number of a refusal is not 0
 not-zero : {X : Type 0} (s : List ℕ) (n p : ℕ) → Given s n p ⊎ (n ≡ 7) → n ≡ 0 → X
 not-zero s n p (inl (inl h)) e = absurd (omega (arith, h .0, e))
 not-zero s n p (inl (inr h)) e = absurd (omega (arith, h .0, e))
 not-zero s n p (inr h) e = absurd (omega (arith, h, e))
 
--- so what holds of an acceptance holds of the reading of an accepted file
+-- what holds of an acceptance holds of the reading of an accepted file
 when-accepted : (s : List ℕ) (P : Reading → Type 0) → ((e r : ℕ) → ToEnd s e r (length s) → P (acceptance s e r)) → number (reading s .answer) ≡ 0 → P (reading s)
 when-accepted s P accepts =
     said-or-accepted s (λ x. number (x .answer) ≡ 0 → P x) (λ n p c h. not-zero s n p (file-gives s n p c) h) (λ e r t h. accepts e r t)
 
--- the settings and rows that are read are right
+-- the settings and rows that are read are valid
 pub accepted-right : (s : List ℕ) → number (reading s .answer) ≡ 0 → Right (reading s .settings) (rowsOf s)
 accepted-right s = when-accepted s (λ x. Right (x .settings) (rowsIn (x .answer) s)) (λ e r t. right-at s e r (length s) t)
 
--- and the file is their encoding
+-- an accepted file is the encoding of the settings and rows that are read
 pub accepted-encodes : (s : List ℕ) → Bytes s → number (reading s .answer) ≡ 0 → Right (reading s .settings) (rowsOf s) × (encode (reading s .settings) (rowsOf s) ≡ s)
 accepted-encodes s bytes h = (
   accepted-right s h,
   when-accepted s (λ x. encode (x .settings) (rowsIn (x .answer) s) ≡ s) (λ e r t. encoded-at s e r (length s) t bytes ∙ take-length s) h,
 )
 
--- what is numbered 0 is an acceptance
+-- an answer with refusal number 0 is an acceptance
 pub accepted-case : (s : List ℕ) → number (reading s .answer) ≡ 0
     → reading s .answer ≡ A.Accepted (rowCount (reading s .answer)) (firstRow (reading s .answer)) (rowWidth (reading s .answer))
 accepted-case s = when-accepted s (λ x. x .answer ≡ A.Accepted (rowCount (x .answer)) (firstRow (x .answer)) (rowWidth (x .answer))) (λ e r t. refl)
@@ -59,7 +59,7 @@ first-row-place s =
     when-accepted s (λ x. firstRow (x .answer) ≡ openingLength (x .settings))
     (λ e r t. omega (arith, block-room s e (t .before .block) .0, t .before .effects .next))
 
--- the count that is answered is the number of the rows
+-- the count in the answer is the number of the rows
 pub length-rowsOf : (s : List ℕ) → length (rowsOf s) ≡ rowCount (reading s .answer)
 length-rowsOf s = let a = reading s .answer in length-listOf (rowAt s) (rowWidth a) (rowCount a) (firstRow a)
 

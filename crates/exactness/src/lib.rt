@@ -1,6 +1,7 @@
-// What is promised of recordings (proofs/Theorems): the reader accepts exactly the encodings, refuses as its definitions say of the bytes, and
-// finds the rows at their places. Document 01, "Recordings" and "Refusal numbers". Laws, over the definitions of `recording`: none of
-// its functions needs them, so they stand apart, and a wrong answer that is tried on the reader does not prove them again.
+// What is promised of recordings (proofs/Theorems): the reader accepts exactly the encodings, refuses as its definitions say of the bytes,
+// and finds the rows at their places. Document 01, "Recordings" and "Refusal numbers". These are laws over the definitions of `recording`,
+// on which it rests. No function of `recording` needs them, so they stand apart: a wrong answer that is tried on the reader does not
+// prove them again. How they are proved may change without moving a promise.
 ghost use denote.Ref.{now};
 ghost use Rattle.bits.specs.Numbers.{Bytes};
 
@@ -11,5 +12,5 @@ pub fn each_is_a_byte(s: &[u8])
     look();
 }
 
-// What a lent slice holds is told where a function calls another.
+// Does nothing: the kit tells what a lent slice holds only where a function calls another.
 fn look() {}

@@ -1,5 +1,5 @@
--- The quick test of a row is the test of its number: no bit of it is barred exactly if every word is within its bound, and its last
--- 32 bits have as many ones as the two force words together.
+-- The quick test of a row holds exactly if its refusal number is 0: no bit of it is barred exactly if every word is within its bound,
+-- and its last 32 bits have as many ones as the two force words together.
 use mathlib.Core.Path.{_≡_, refl, sym, ap, ap₂, _∙_}
 use mathlib.Core.Bool.{Bool, true, false, not, _&&_, _||_}
 use mathlib.Core.List.{List}
@@ -36,7 +36,7 @@ sum-none (suc a) b = rw eqb·suc-zero (ne-eqb (suc a * 65536 + b) 0 (λ e. omega
 pair : (a b p q : ℕ) → b < 65536 → q < 65536 → eqb (bitAnd (a * 65536 + b) (p * 65536 + q)) 0 ≡ (eqb (bitAnd a p) 0 && eqb (bitAnd b q) 0)
 pair a b p q h k = ap (λ (x : ℕ). eqb x 0) (and-block 16 a p b q h k) ∙ sum-none (bitAnd a p) (bitAnd b q)
 
--- four words and four masks, word by word
+-- four words share no bit with four masks exactly if no word shares one with its mask
 four-none : (a b c d p q r t : ℕ) → b < 65536 → c < 65536 → d < 65536 → q < 65536 → r < 65536 → t < 65536
     → eqb (bitAnd (fourOf a b c d) (fourOf p q r t)) 0 ≡ (eqb (bitAnd a p) 0 && eqb (bitAnd b q) 0 && eqb (bitAnd c r) 0 && eqb (bitAnd d t) 0)
 four-none a b c d p q r t hb hc hd hq hr ht =
@@ -68,7 +68,7 @@ none-absent w n h = go (leb n 16) refl
 
 -- ## The three numbers of a row
 
--- eight bytes are four words
+-- a number of eight bytes is four words
 eight : (s : List ℕ) (at o : ℕ) → numAt 8 s (at + o) ≡ fourOf (numAt 2 s (at + o)) (numAt 2 s (at + (o + 2))) (numAt 2 s (at + (o + 4))) (numAt 2 s (at + (o + 6)))
 eight s at o =
     go _ _ _ _ _ _ _ (num-parts 4 4 s (at + o)) (num-parts 2 2 s (at + o) ∙ ap (λ (p : ℕ). numAt 2 s (at + o) * 256 ^ 2 + numAt 2 s p) (add-assoc at o 2))
@@ -111,11 +111,11 @@ and-assoc false b c = refl
 absent-lt : (n : ℕ) → absentOf n < 65536
 absent-lt n = omega (arith, pow-pos n)
 
--- what the last two of four words and both together are
+-- the last two of four words, and both as one number
 last-two : (a b c d t : ℕ) → c < 65536 → d < 65536 → t ≡ fourOf a b c d → (t / 65536 % 65536 ≡ c) × (t % 65536 ≡ d) × (t % 2 ^ 32 ≡ c * 65536 + d)
 last-two a b c d t hc hd e = (omega arith, omega arith, omega arith)
 
--- the quick test, of masks and the three numbers of a row
+-- the quick test, by the masks and the three numbers of a row
 abbrev pub quick : (bars : Bars) (f g t : ℕ) → Bool
 quick bars f g t =
     ((leb 1 (f / 2 ^ 32) && leb (f / 2 ^ 32) mostHold) && eqb (bitOr (bitOr (bitAnd f (bars .first)) (bitAnd g (bars .second))) (bitAnd t (bars .third))) 0)

@@ -1,4 +1,4 @@
--- Entries that pass one after the other, for any test of an entry, any width and any count: what is left comes to what all come to.
+-- Entries that pass one after the other, for any test of an entry, any width and any count: those left result in what all result in.
 use mathlib.Core.Path.{_≡_, refl, sym, _∙_}
 use Prim.Native.Nat.{ℕ, zero, suc, _+_, _-_, _*_, _≤_, _<_}
 use native.Mathlib.Omega.{arith}
@@ -13,7 +13,7 @@ module _ (test : ℕ → ℕ) (w len : ℕ) where
   entries-step zero at k p h e b = absurd (omega arith)
   entries-step (suc n) at k p h e b = rw (le-leb (at + w) len h, ← e, b, sub-one)
 
-  -- of n entries none is skipped, and then one more
+  -- no entry is skipped at the start, and an entry that passes is skipped, too
   pub none-skipped : (n at : ℕ) → at ≤ len → Skipped test w len n at 0
   none-skipped n at h =
       let all : n - 0 ≡ n = omega arith in

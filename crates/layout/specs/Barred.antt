@@ -1,6 +1,6 @@
--- The quick test of rows: the bits that no right row has, made once for all rows, and what it answers. A row is three numbers of eight
--- bytes: the hold and two words, four words, four words. Document 01, "Settings, row, state" and "Recordings". No entry point's contract
--- cites this page.
+-- The quick test of rows: the bits that no valid row has, made once for all rows, and what the test answers. A row is three numbers of
+-- eight bytes: the hold and two words, four words, four words. Document 01, "Settings, row, state" and "Recordings". No entry point's
+-- contract cites this page.
 use Prim.Native.Nat.{ℕ, _+_, _*_, _-_, _^_, _≤_}
 use mathlib.Core.Path.{_≡_}
 use Rattle.bits.specs.Words.{bitOf}
@@ -26,7 +26,7 @@ barsOf k =
       several = bitOf (k .options) 2;
     }
 
--- the first r of n entries of w bytes from `at`, in a file of `len` bytes, are whole and right: all come to what the others come to
+-- the first r of n entries of w bytes from `at`, in a file of `len` bytes, are whole and valid: all n result in what the others result in
 pub record Skipped (test : ℕ → ℕ) (w len n at r : ℕ) : Type 0 where
   pub some : r ≤ n
   pub inside : at + w * r ≤ len

@@ -17,12 +17,12 @@ use Rattle.layout.specs.Entries.{blockAt, blockCheck, effectAt, rowAt}
 
 -- ## Any section
 
--- n entries of w bytes from `at`, in a file of `len` bytes: each entry's bytes, then its fields
+-- n entries of w bytes from `at`, in a file of `len` bytes: for each entry its bytes are checked, then its fields
 abbrev pub entries : (test : ℕ → ℕ) (w len n at : ℕ) → Section
 entries test w len zero at = Next at
 entries test w len (suc n) at = cond (leb (at + w) len) (granted (test at) (entries test w len n (at + w)) (λ number. Refused number at)) (Refused 1 len)
 
--- a section at `at`: its count's bytes, its count, its entries
+-- a section at `at`: the bytes of its count are checked, then its count, then its entries
 unfoldable pub section : (test : ℕ → ℕ) (w least most number : ℕ) → List ℕ → (at : ℕ) → Section
 section test w least most number s at =
     cond (leb (at + 2) (length s))
@@ -31,13 +31,13 @@ section test w least most number s at =
 
 -- ## The kinds of section
 
--- the bytes of an entry
+-- the length of an entry, in bytes
 abbrev pub widthOf : Kind → ℕ
 widthOf Block = 4
 widthOf Effects = 6
 widthOf Rows = 24
 
--- the counts
+-- the least count and the most
 abbrev pub leastOf : Kind → ℕ
 leastOf Block = 1
 leastOf Effects = 1
@@ -51,13 +51,13 @@ mostOf Rows = 2048
 abbrev pub countOk : Kind → ℕ → Bool
 countOk kind n = between (leastOf kind) (mostOf kind) n
 
--- the number that refuses a count
+-- the refusal number of a wrong count
 abbrev pub numberOf : Kind → ℕ
 numberOf Block = 2
 numberOf Effects = 3
 numberOf Rows = 4
 
--- the number that refuses an entry, by what is known from the sections before it
+-- the refusal number of an entry, by what is known from the sections before it
 abbrev pub testOf : Kind → Known → List ℕ → ℕ → ℕ
 testOf Block k s at = blockCheck (blockAt s at)
 testOf Effects k s at = effectNumber (k .causes) (effectAt s at)

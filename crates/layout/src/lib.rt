@@ -19,14 +19,14 @@ use settings::Known;
 use settings::Row;
 use settings::Words;
 
-// The kinds of section, in the file's order.
+// The kinds of section, in the order of the file.
 pub enum Kind {
     Block,
     Effects,
     Rows,
 }
 
-// What a section comes to: the place after it, or a refusal.
+// What a section results in: the place after it, or a refusal.
 pub enum Section {
     Next(usize),
     Refused { number: u8, place: usize },
@@ -34,7 +34,7 @@ pub enum Section {
 
 // ---- entries
 
-// A row's bytes, and the most rows of a recording: `widthOf` and `mostOf` of rows.
+// The length of a row in bytes, and the most rows of a recording: `widthOf` and `mostOf` of rows.
 const ROW_BYTES: usize = 24;
 
 const MOST_ROWS: u16 = 2048;
@@ -68,7 +68,7 @@ pub fn words_at(s: &[u8], at: usize) -> Words
     }
 }
 
-// The row at a place that is known to be a row's, as the callers that have read the file know it.
+// The row at a place. A caller that has read the file knows that the place is a row's.
 pub fn row_at(s: &[u8], at: usize) -> Row
     requires { ⌜ at + widthOf Rows ≤ length (now s) ⌝ }
     ensures { λ r. ⌜ r ≡ rowAt (now (s .entry)) at ⌝ }
@@ -102,7 +102,7 @@ pub fn effects_at(s: &[u8], at: usize, n: usize) -> [Effect; 16]
 
 // ---- sections
 
-// The bytes of an entry.
+// The length of an entry, in bytes.
 pub fn width_of(kind: Kind) -> usize
     ensures { λ r. ⌜ r ≡ widthOf kind ⌝ }
 {
@@ -141,7 +141,7 @@ fn most_of(kind: Kind) -> u16
     }
 }
 
-// The number that refuses a count.
+// The refusal number of a wrong count.
 pub fn number_of(kind: Kind) -> u8
     ensures { λ r. ⌜ r ≡ numberOf kind ⌝ }
 {
@@ -158,7 +158,7 @@ pub fn count_ok(kind: Kind, n: u16) -> bool
     (least_of(kind) <= n) & (n <= most_of(kind))
 }
 
-// 0 for an entry that is right, or its refusal's number.
+// 0 for a valid entry, else its refusal number.
 pub fn entry_number(kind: Kind, known: Known, s: &[u8], at: usize) -> u8
     requires { ⌜ at + widthOf kind ≤ length (now s) ⌝ }
     ensures { λ r. ⌜ r ≡ testOf kind known (now (s .entry)) at ⌝ }
@@ -174,7 +174,7 @@ pub fn entry_number(kind: Kind, known: Known, s: &[u8], at: usize) -> u8
     }
 }
 
-// How many of the n entries from `at` a quick test passes before the first that it does not: rows alone have one.
+// How many of the n entries from `at` pass a quick test before the first that does not. Only rows have a quick test.
 pub fn passed_quickly(kind: Kind, known: Known, s: &[u8], n: u16, at: usize) -> u16
     requires { ⌜ at ≤ length (now s) ⌝ }
     ensures { λ r. ⌜ Skipped (testOf kind known (now (s .entry))) (widthOf kind) (length (now (s .entry))) n at r ⌝ }

@@ -1,5 +1,5 @@
-// A quick test of rows, by three numbers of eight bytes a row and by masks that are made once for all rows. It answers no refusal:
-// where it stops, the reader asks for the number.
+// A quick test of rows, by three numbers of eight bytes a row and by masks that are made once for all rows. It gives no refusal
+// number: where it stops, the reader asks for it.
 ghost use mathlib.Core.Path.{_≡_};
 ghost use mathlib.Core.Bool.{_&&_, _||_};
 ghost use Prim.Native.Nat.{_+_, _/_, _%_, _^_, _≤_, _<_};
@@ -18,7 +18,7 @@ use super::ROW_BYTES;
 use settings::Known;
 use settings::Row;
 
-// The bits that no right row has, in each of its three numbers of eight bytes, and whether several effects may be forced.
+// The bits that no valid row has, in each of its three numbers of eight bytes, and whether several effects may be forced.
 struct Bars {
     first: u64,
     second: u64,
@@ -26,7 +26,7 @@ struct Bars {
     several: bool,
 }
 
-// The bits of a word at n and above, with its bound, so that a caller need not show it.
+// The bits of a word at n and above. The bound is in the contract, so that a caller need not show it.
 fn absent(n: u8) -> u64
     ensures { λ r. ⌜ (r ≡ absentOf n) × (r < 65536) ⌝ }
 {
@@ -82,7 +82,7 @@ fn forces_right(several: bool, third: u64) -> bool
         & (several | (u32::count_ones((third % 4294967296) as u32) <= 1))
 }
 
-// The row at `at` is right.
+// The row at `at` is valid.
 fn row_right(b: Bars, s: &[u8], at: usize) -> bool
     requires { ⌜ at + widthOf Rows ≤ length (now s) ⌝ }
     ensures { λ r. ⌜ ((k : Known) → b ≡ barsOf k → r ≡ eqb (rowNumber k (rowAt (now (s .entry)) at)) 0) ⌝ }
@@ -99,7 +99,7 @@ fn least(a: usize, b: usize) -> usize
     if a < b { a } else { b }
 }
 
-// How many of the n rows from `at` are whole and right before the first that is not.
+// How many of the n rows from `at` are whole and valid before the first that is not.
 pub fn right_rows(known: Known, s: &[u8], n: u16, at: usize) -> u16
     requires { ⌜ at ≤ length (now s) ⌝ }
     ensures { λ r. ⌜ Skipped (testOf Rows known (now (s .entry))) (widthOf Rows) (length (now (s .entry))) n at r ⌝ }

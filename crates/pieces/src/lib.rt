@@ -1,5 +1,6 @@
 // The pieces of a recording as bytes: the opening and a row, put at a place where they fit. Document 01, "Recordings". It rests on
-// `layout`, whose table of sections has the widths, on `recording` for the definition of the bytes, on `settings` and `bits`.
+// `layout`, whose table of sections has the widths, on `recording` for the definition of the bytes, on `settings` and `bits`. How the
+// bytes are put may change without moving a contract.
 ghost use mathlib.Core.Path.{_≡_};
 ghost use mathlib.Core.List.{_∷_, [], flatMap};
 ghost use Prim.Native.Nat.{_+_, _*_, _^_, _≤_, _<_};
@@ -25,7 +26,7 @@ fn effects_section() -> usize
     layout::entries_of(0) + layout::width_of(Kind::Block)
 }
 
-// The place of entry i, of those from `at` on that are as wide as effects.
+// The place of entry i, where entries as wide as effects begin at `at`.
 fn effect_place(at: usize, i: usize) -> usize
     requires { ⌜ (i ≤ 16) × (at + 6 * i < 2 ^ 64) ⌝ }
     ensures { λ r. ⌜ r ≡ at + 6 * i ⌝ }
@@ -43,7 +44,7 @@ pub fn rows_section(count: usize) -> usize
 
 // ---- stores
 
-// The first five words of a row, from `at`.
+// Puts the first five words of a row at `at`.
 fn put_first_words(s: &mut [u8], at: usize, w: Words)
     requires { ⌜ at + 10 ≤ length (now s) ⌝ }
     ensures { λ _. ⌜ now (s .exit) ≡ sets (now (s .entry)) at (pack (2 ∷ 2 ∷ 2 ∷ 2 ∷ 2 ∷ []) (w .values ∷ w .bad ∷ w .mask ∷ w .«require_reset» ∷ w .«reset_permit» ∷ [])) ⌝ }
@@ -55,7 +56,7 @@ fn put_first_words(s: &mut [u8], at: usize, w: Words)
     bits::put16(s, at + 8, w.reset_permit);
 }
 
-// And the last five.
+// Puts the last five words of a row at `at`.
 fn put_last_words(s: &mut [u8], at: usize, w: Words)
     requires { ⌜ at + 10 ≤ length (now s) ⌝ }
     ensures { λ _. ⌜ now (s .exit) ≡ sets (now (s .entry)) at (pack (2 ∷ 2 ∷ 2 ∷ 2 ∷ 2 ∷ []) (w .«start_permit» ∷ w .reset ∷ w .«force_permit» ∷ w .«force_trip» ∷ w .«force_normal» ∷ [])) ⌝ }
@@ -85,7 +86,7 @@ fn put_effect(s: &mut [u8], at: usize, e: Effect)
     bits::put32(s, at + 2, e.delay);
 }
 
-// The first n effects from `at`; there are so many.
+// Puts the first n effects at `at`. The contract also says that there are n of them, so that a caller need not show it.
 fn put_effects(s: &mut [u8], at: usize, effects: [Effect; 16], n: usize)
     requires { ⌜ (n ≤ 16) × (at + 6 * n ≤ length (now s)) ⌝ }
     ensures { λ _. ⌜ now (s .exit) ≡ sets (now (s .entry)) at (flatMap putEffect (take n effects)) ⌝ }
@@ -99,7 +100,7 @@ fn put_effects(s: &mut [u8], at: usize, effects: [Effect; 16], n: usize)
     }
 }
 
-// The block section and the effects' count.
+// Puts the block section and the effects' count.
 fn put_block(s: &mut [u8], causes: u8, options: u8, period: u16, count: u16)
     requires { ⌜ 8 ≤ length (now s) ⌝ }
     ensures { λ _. ⌜ now (s .exit) ≡ sets (now (s .entry)) 0 (pack (2 ∷ 1 ∷ 1 ∷ 2 ∷ 2 ∷ []) (1 ∷ causes ∷ options ∷ period ∷ count ∷ [])) ⌝ }
@@ -113,7 +114,7 @@ fn put_block(s: &mut [u8], causes: u8, options: u8, period: u16, count: u16)
     bits::put16(s, e, count);
 }
 
-// The opening piece at the start of `s`, with its length.
+// Puts the opening piece at the start of `s`. The contract also gives its length, so that a caller need not show it.
 pub fn put_opening(s: &mut [u8], st: Settings, rows: u16)
     requires { ⌜ (st .count ≤ 16) × (openingLength st ≤ length (now s)) ⌝ }
     ensures { λ _. ⌜ now (s .exit) ≡ sets (now (s .entry)) 0 (opening st rows) ⌝ }

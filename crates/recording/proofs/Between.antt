@@ -1,4 +1,4 @@
--- What is known as the reader goes from section to section: a section that passes has shown its counts and its entries.
+-- What is known as the reader goes from section to section: a section that passes has shown that its count and its entries are valid.
 use mathlib.Core.Path.{_≡_, _∙_}
 use mathlib.Core.List.{List}
 use Prim.Native.Nat.{ℕ, _+_, _≤_}
@@ -31,7 +31,7 @@ block-room s e w =
     let next : e ≡ 6 = rw one at (w .next) in
     (next, omega (arith, passes-inside Block nothingKnown s 0 e w, next))
 
--- ## The reading, as far as the sections that passed
+-- ## The reading, up to each section that passed
 
 module _ (s : List ℕ) (e : ℕ) (b : sectionOf Block nothingKnown s 0 ≡ S.Next e) where
   pub read-block : reading s ≡ afterBlock s e

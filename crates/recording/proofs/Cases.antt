@@ -1,5 +1,5 @@
--- The five ways that a reading goes: refused in the block, the effects or the rows, bytes left over, or accepted.
--- Each section comes to one of its two cases, and the last test to one of two.
+-- The five ways in which a reading can go: refused in the block, the effects or the rows, bytes left over, or accepted.
+-- Each section results in one of two cases, and so does the last test.
 use mathlib.Core.Path.{_≡_, refl, subst}
 use mathlib.Core.Bool.{Bool, true, false}
 use mathlib.Core.List.{List}

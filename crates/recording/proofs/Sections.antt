@@ -1,4 +1,4 @@
--- What a section comes to, case by case, for any test of an entry, any width and any count: by recursion on the entries left.
+-- What a section results in, case by case, for any test of an entry, any width and any count: by recursion on the entries left.
 use mathlib.Core.Path.{_≡_, refl}
 use mathlib.Core.Bool.{Bool, true, false, _&&_}
 use mathlib.Core.List.{List}
@@ -50,7 +50,7 @@ never : {X : Type 0} (k p e : ℕ) → S.Refused k p ≡ S.Next e → X
 never k p e h = let z : _≡_ {A = ℕ} 0 1 = cc in absurd (omega arith)
 
 module _ (test : ℕ → ℕ) (w len : ℕ) where
-  -- no entry yet, and one that is right before others
+  -- no entry has been seen yet; and a valid entry stands before valid ones
   pub none-yet : (at : ℕ) → at ≤ len → FirstRight test w len at 0
   none-yet at h = record { there = omega (arith, mul-zero w); right = λ j l. absurd (omega arith) }
 
@@ -61,7 +61,7 @@ module _ (test : ℕ → ℕ) (w len : ℕ) where
       go zero l = rw (mul-zero, add-zero) r
       go (suc j) l = let e : at + w * suc j ≡ at + w + w * j = omega (arith, mul-suc w j) in rw e (h .right j (omega arith))
 
-  -- what n entries that pass have shown
+  -- what n entries that pass show
   abbrev Passed : (n at e : ℕ) → Type 0
   Passed n at e = FirstRight test w len at n × (e ≡ at + w * n)
 
@@ -89,14 +89,14 @@ module _ (kind : Kind) (k : Known) (s : List ℕ) (at e : ℕ) where
       let t = entries-next (testOf kind k s) (widthOf kind) (length s) (numAt 2 s at) (at + 2) e room (rw (p, r) at q) in
       record { room = room; count = r; entries = t .0; next = t .1 }
 
-  -- what a section that passes has shown
+  -- what a section that passes shows
   pub section-next : sectionOf kind k s at ≡ S.Next e → Passes kind k s at e
   section-next = count-cases (leb (at + 2) (length s)) refl (countOk kind (numAt 2 s at)) refl
 
   pub passes-inside : Passes kind k s at e → e ≤ length s
   passes-inside h = omega (arith, h .next, h .entries .there)
 
--- a right count is within its limits
+-- a valid count is within its limits
 pub count-within : (kind : Kind) (n : ℕ) → countOk kind n ≡ true → (leastOf kind ≤ n) × (n ≤ mostOf kind)
 count-within kind n h = (
   leb-true (leastOf kind) n (and-left (leb (leastOf kind) n) (leb n (mostOf kind)) h),

@@ -1,4 +1,4 @@
--- What stands at a place, case by case of the definition.
+-- What stands at a place, by the cases of the definition.
 use mathlib.Core.Path.{_≡_, sym, ap, _∙_}
 use mathlib.Core.Bool.{Bool, true, false, not, _&&_}
 use mathlib.Core.List.{List}

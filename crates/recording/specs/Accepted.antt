@@ -16,7 +16,7 @@ use Rattle.recording.specs.Steps.{rowsOf}
 abbrev pub Accepted : List ℕ → Type 0
 Accepted s = number (reading s .answer) ≡ 0
 
--- the answer is these settings and these rows, and where the first row stands and how long a row is
+-- the answer has these settings and these rows, where the first row stands, and how long a row is
 abbrev pub Answers : List ℕ → Settings → List Row → Type 0
 Answers s st rows =
     Accepted s

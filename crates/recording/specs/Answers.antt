@@ -1,4 +1,4 @@
--- Document 01's number, place and values of each case of the enums that answer; 0 where a case has none.
+-- Document 01's refusal number, place and values of each case of the enums that answer; 0 where a case has none.
 -- "Refusal numbers" and "Where each form belongs".
 use Prim.Native.Nat.{ℕ}
 use mathlib.Core.Bool.{Bool, true, false}
@@ -33,7 +33,7 @@ abbrev pub rowWidth : Answer → ℕ
 rowWidth (A.Accepted rows first width) = width
 rowWidth (A.Refused n p) = 0
 
--- ## One of its sections: the place is the one after it, or the refusal's
+-- ## A section: the place after it, or the place of its refusal
 
 abbrev pub sectionNumber : Section → ℕ
 sectionNumber (S.Next at) = 0

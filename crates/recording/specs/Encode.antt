@@ -22,7 +22,7 @@ effectsOf st = take (st .count) (st .effects)
 abbrev pub counted : {A : Type 0} → (A → List ℕ) → List A → List ℕ
 counted put xs = digits 2 (length xs) ++ flatMap put xs
 
--- sections in a fixed order, nothing after the last
+-- the sections in a fixed order, and nothing after the last
 unfoldable pub encode : Settings → List Row → List ℕ
 encode st rows = counted putBlock (blockOf st ∷ []) ++ (counted putEffect (effectsOf st) ++ counted putRow rows)
 
@@ -30,7 +30,7 @@ encode st rows = counted putBlock (blockOf st ∷ []) ++ (counted putEffect (eff
 unfoldable pub opening : Settings → (rows : ℕ) → List ℕ
 opening st rows = counted putBlock (blockOf st ∷ []) ++ (counted putEffect (effectsOf st) ++ digits 2 rows)
 
--- its length, which is the first row's place: three counts and the block's entry are ten bytes, and then there are the effects
+-- the opening's length, which is the first row's place: three counts and the block's entry take ten bytes, and then come the effects
 abbrev pub openingLength : Settings → ℕ
 openingLength st = 10 + widthOf Effects * st .count
 
@@ -41,12 +41,12 @@ leastLength = 40
 abbrev pub mostLength : ℕ
 mostLength = 49258
 
--- nothing refuses any of them
+-- nothing refuses any element
 abbrev pub All : {A : Type 0} → (A → ℕ) → List A → Type 0
 All check [] = Unit {0}
 All check (a ∷ xs) = (check a ≡ 0) × All check xs
 
--- right settings and as many right rows as a recording may have; the settings have their sixteen slots, as the array has
+-- valid settings and as many valid rows as a recording may have; the settings have sixteen slots, as the array in src/ has
 pub record Right (st : Settings) (rows : List Row) : Type 0 where
   pub settings : settingsNumber st ≡ 0
   pub slots : length (st .effects) ≡ 16

@@ -1,4 +1,4 @@
--- What a whole file comes to. Document 01, "Recordings": section by section, stopping at the first refusal.
+-- What a whole file results in. Document 01, "Recordings": section by section, stopping at the first refusal.
 use Prim.Native.Nat.{ℕ, _+_, _-_}
 use mathlib.Core.Bool.{cond}
 use mathlib.Core.List.{List, _++_}
@@ -41,16 +41,16 @@ knownOfBlock s = record { causes = blockAt s 2 .causes; count = 0; options = blo
 
 -- ## The reading
 
--- a refusal returns its number, a place, and zeros
+-- a refusal gives its refusal number, a place, and zeros
 abbrev pub refusal : (number place : ℕ) → Reading
 refusal number place = record { answer = A.Refused number place; settings = noSettings }
 
--- a section that passes is followed by the next
+-- the reading goes on after a section that passes, and stops with its refusal otherwise
 abbrev pub fromSection : Section → (ℕ → Reading) → Reading
 fromSection (S.Next at) next = next at
 fromSection (S.Refused number place) next = refusal number place
 
--- the sections in the file's order, the last first: effects at e, rows at r, nothing after them
+-- the reading after each section of the file, from the last one to the first. The effects are at e, the rows at r
 abbrev pub afterRows : List ℕ → (e r end : ℕ) → Reading
 afterRows s e r end =
     cond (eqb end (length s)) (record { answer = A.Accepted (numAt 2 s r) (r + 2) (widthOf Rows); settings = settingsAt s e }) (refusal 7 end)

@@ -16,15 +16,15 @@ use Rattle.recording.specs.Reader.{reading}
 abbrev pub rowsEnd : Answer → ℕ
 rowsEnd a = firstRow a + rowWidth a * rowCount a
 
--- a row's first byte: whole rows after the first one's, before the end
+-- the place is a row's first byte: a whole number of rows past the first row, and before the end
 abbrev pub isPlace : (first width end at : ℕ) → Bool
 isPlace first width end at = leb first at && ltb at end && eqb ((at - first) % width) 0
 
--- in bytes that the reader answers so, at any place: ended where the place is no row's. Bytes that it refuses have no rows
+-- the row at a place, in bytes with this answer of the reader; ended where the place is no row's. Refused bytes have no rows
 abbrev pub stepIn : Answer → List ℕ → ℕ → Step
 stepIn a s at = cond (isPlace (firstRow a) (rowWidth a) (rowsEnd a) at) (T.Row (rowAt s at) (at + rowWidth a)) T.Ended
 
--- in any bytes, at any place
+-- the row at any place of any bytes
 unfoldable pub stepAt : List ℕ → ℕ → Step
 stepAt s at = stepIn (reading s .answer) s at
 

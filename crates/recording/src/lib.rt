@@ -1,7 +1,7 @@
 // Recordings: the reader, and the row at a place. Document 01, "Recordings" and "Refusal numbers".
-// It rests on `layout` (what stands at a place), `settings` and `bits`; `writing` has the writer. How the bytes are gone through may
-// change without moving a contract, as long as the first refusal is given; a caller takes the first row's place and the width of a row
-// from the answer, and counts on neither.
+// It rests on `layout` (what stands at a place), `settings` and `bits`; `writing` has the writer. How the reader goes through the bytes
+// may change without moving a contract, as long as it gives the first refusal. A caller takes the first row's place and the width of a
+// row from the answer, and assumes neither.
 ghost use mathlib.Core.Path.{_≡_};
 ghost use Prim.Native.Nat.{_+_, _*_, _≤_, _<_};
 ghost use lib.ListN.{length};
@@ -16,7 +16,7 @@ use settings::Known;
 use settings::Row;
 use settings::Settings;
 
-// What a recording comes to: the row count, the first row's place and the width of a row, or a refusal.
+// What a recording results in: the row count, the first row's place and the width of a row, or a refusal.
 pub enum Answer {
     Accepted {
         rows: u16,
@@ -43,7 +43,7 @@ pub enum Step {
 
 // ---- sections
 
-// A section: its count's bytes, its count, then for each entry its bytes and its fields.
+// Reads a section: the bytes of its count, its count, then for each entry its bytes and its fields.
 fn read_section(kind: Kind, known: Known, s: &[u8], at: usize) -> Section
     requires { ⌜ at ≤ length (now s) ⌝ }
     ensures { λ r. ⌜ r ≡ sectionOf kind known (now (s .entry)) at ⌝ }
@@ -150,7 +150,7 @@ fn refused(number: u8, place: usize) -> Reading
     }
 }
 
-// What a recording comes to whose section refused: the section's number and place.
+// The reading of a recording in which a section was refused: the section's refusal number and place.
 fn stopped(part: Section) -> Reading
     ensures { λ r. ⌜ r ≡ fromSection part (refusal 0) ⌝ }
 {
@@ -192,7 +192,7 @@ pub fn read(s: &[u8]) -> Reading
 
 // ---- the row at a place
 
-// A row's first byte: whole rows after the first one's, before the end.
+// Whether a place is a row's first byte: a whole number of rows past the first row, and before the end.
 fn is_place(first: usize, width: usize, end: usize, at: usize) -> bool
     requires { ⌜ 0 < width ⌝ }
     ensures { λ r. ⌜ r ≡ isPlace first width end at ⌝ }
@@ -203,7 +203,7 @@ fn is_place(first: usize, width: usize, end: usize, at: usize) -> bool
     (at < end) & ((at - first) % width == 0)
 }
 
-// In any bytes, at any place: ended where the reader refuses the bytes, or the place is no row's first byte.
+// The row at a place. It is ended where the reader refuses the bytes, or the place is no row's first byte.
 pub fn row_step(s: &[u8], at: usize) -> Step
     ensures { λ r. ⌜ r ≡ stepAt (now (s .entry)) at ⌝ }
 {

@@ -1,4 +1,4 @@
--- The walk in a local is lent by `&mut` to `next`, which is called on it, and comes back moved on: once for every caller.
+-- The walk in a local is lent by `&mut` to `next`, which is called on it, and comes back moved on: proved once, for every caller.
 --     asks     the local's cell ∗ what its walk owns ∗ [κ]_q  ⊢ ⇛ ∃ ν γ. what `next` asks ∗ what the lender keeps (`Lent.antt`)
 --     answers  what `next` leaves ∗ what the lender keeps  ⊢ ⇛ the step that it gave ∗ the cell and what it owns, moved on ∗ [κ]_q
 -- All that is known of `next` is its contract.

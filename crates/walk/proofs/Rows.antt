@@ -1,5 +1,5 @@
 -- A walk at a row's place gives that row and goes on to the next row's place; past the last row it has ended and stays.
--- So n steps from the start give the first n rows: by induction on n, a step being one of these two.
+-- So n steps from the start give the first n rows: by induction on n, where each step is one of these two.
 use mathlib.Core.Path.{_≡_, refl, sym, ap, _∙_}
 use mathlib.Core.Bool.{Bool, true, false, cond}
 use mathlib.Core.List.{List, [], _∷_}
@@ -25,7 +25,7 @@ use Rattle.exactness.proofs.Trips.{length-rowsOf}
 use Rattle.walk.specs.declared.Walk.{Walk}
 use Rattle.walk.specs.Walks.{startOf, nextOf, movedOn, nthOf, walked, withRow, given}
 
--- a step that has ended is that case
+-- a step for which `ended` holds is the case Ended
 has-ended : (x : Step) → ended x ≡ true → x ≡ T.Ended
 has-ended (T.Row row next) e = cc
 has-ended T.Ended e = refl
@@ -43,7 +43,7 @@ module _ (s : RefT (List ℕ)) where
 
   -- ## One step
 
-  -- rows have a width, so none stands past the last
+  -- rows have a width, so no row stands past the last
   past-all : (n : ℕ) → count ≤ n → (i : ℕ) → i < count → rowPlace (now s) n ≡ rowPlace (now s) i → ⊥
   past-all n h i l e =
       let first = firstRow (reading (now s) .answer) in
@@ -55,7 +55,7 @@ module _ (s : RefT (List ℕ)) where
 
   -- ## The step after n others, by whether a row is left
 
-  -- the walk then
+  -- the walk after n steps
   abbrev after : ℕ → Walk
   after n = atRow (min n count)
 
@@ -90,7 +90,7 @@ module _ (s : RefT (List ℕ)) where
   row-of n true q = rw (step-ended n q) (sym (List·getD-eq-default rows noRow {n = n} (rw length-rowsOf (leb-true count n q))))
   row-of n false q = step-row n q .1
 
-  -- it is what stands at the place of row n
+  -- the step after n others gives what stands at the place of row n
   same-step : (n : ℕ) (b : Bool) → leb count n ≡ b → nextOf (after n) ≡ nthOf (now s) n
   same-step n true q = step-ended n q ∙ sym (ended-past n (leb-true count n q))
   same-step n false q =

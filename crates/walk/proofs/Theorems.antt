@@ -26,8 +26,8 @@ use Rattle.walk.proofs.Rows.{count, ends, row-of, place-by, nth-step, r
 
 -- ## From the start
 
--- n steps give the first n of the recording's rows, in order. The one after them has ended exactly if as many were given as the
--- recording has, and gives row n else; the walk then stands past the rows that were given. It holds in any bytes: where the
+-- n steps give the first n of the recording's rows, in order. The step after them has ended exactly if they gave all rows of the
+-- recording, and gives row n otherwise; the walk then stands past the rows that were given. This holds of any bytes: where the
 -- reader refuses, the row count and the place are 0.
 pub walk-gives-the-rows : (s : RefT (List ℕ)) (n : ℕ) → let w = startOf s .walk in let a = reading (now s) .answer in
     (given n w ≡ take n (rowsOf (now s)))
@@ -41,26 +41,26 @@ walk-gives-the-rows s n = (
   place-by s n,
 )
 
--- so as many steps as it has rows give them all
+-- as many steps as the recording has rows give them all
 pub walk-gives-all-rows : (s : RefT (List ℕ)) → given (rowCount (reading (now s) .answer)) (startOf s .walk) ≡ rowsOf (now s)
 walk-gives-all-rows s = rows-given s (count s) ∙ take-all (count s) (rowsOf (now s)) (omega (arith, length-rowsOf (now s)))
 
--- `nth` gives what the walk gives after n others
+-- `nth` gives what the walk gives after n other steps
 pub nth-of-the-walk : (s : RefT (List ℕ)) (n : ℕ) → nthOf (now s) n ≡ nextOf (walked n (startOf s .walk))
 nth-of-the-walk s n = sym (nth-step s n)
 
 -- ## Ended
 
--- an ended walk keeps its place, so it has ended for ever
+-- a walk that has ended keeps its place, so it has ended for good
 pub ended-stays : (w : Walk) → ended (nextOf w) ≡ true → movedOn w ≡ w
 ended-stays w e = rw e
 
--- any walk has ended whose place is no row's first byte
+-- a walk whose place is no row's first byte has ended
 pub walk-elsewhere-has-ended : (w : Walk) → let a = reading (now (w .bytes)) .answer in
     ((i : ℕ) → i < rowCount a → w .place ≡ rowPlace (now (w .bytes)) i → ⊥) → ended (nextOf w) ≡ true
 walk-elsewhere-has-ended w none = ended-elsewhere (now (w .bytes)) (w .place) none
 
--- or whose bytes the reader refuses
+-- a walk whose bytes the reader refuses has ended
 pub walk-on-refused-has-ended : (w : Walk) → (Accepted (now (w .bytes)) → ⊥) → ended (nextOf w) ≡ true
 unfolding stepAt
 walk-on-refused-has-ended w h =
@@ -68,7 +68,7 @@ walk-on-refused-has-ended w h =
     let a = reading s .answer in
     ap (λ (x : Reading). ended (stepIn (x .answer) s (w .place))) (refused-as-said s h .0) ∙ sym (ap ended (refusal-ended s (w .place) (number a) (place a)))
 
--- on those, `start` gives the reader's refusal, and a walk at 0
+-- on bytes that the reader refuses, `start` gives the refusal, and a walk at 0
 pub start-on-refused : (s : RefT (List ℕ)) → (Accepted (now s) → ⊥) → let z = startOf s in let a = reading (now s) .answer in
     (z .answer ≡ a) × Refused (now s) (number a) (place a) × (z .walk ≡ record { bytes = s; place = 0 })
 start-on-refused s h =

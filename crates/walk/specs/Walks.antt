@@ -1,6 +1,6 @@
 -- A walk over a recording. Document 01, "Recordings": it holds the lent bytes and its place, and gives one row at a time.
--- The reader's answer (`reading`) and what stands at a place (`stepAt`) are the recording's own definitions, and Answers
--- there gives the number, place and row of each case.
+-- The reader's answer (`reading`) and what stands at a place (`stepAt`) are definitions of `recording`, whose page Answers
+-- gives the refusal number, place and row of each case.
 use Prim.Native.Nat.{ℕ, zero, suc}
 use mathlib.Core.Bool.{cond}
 use mathlib.Core.List.{List, [], _∷_}
@@ -15,21 +15,21 @@ use Rattle.walk.specs.declared.Begun.{Begun}
 use Rattle.walk.specs.declared.Walk.{Walk}
 use Rattle.walk.specs.declared.Started.{Started}
 
--- the place after the row; one that has ended stays
+-- the place after the row; where the step has ended, the place stays
 abbrev pub placeAfter : Step → ℕ → ℕ
 placeAfter step place = cond (ended step) place (nextPlace step)
 
 -- ## The walk
 
--- the reader's answer, and the walk at the first row, or at 0, where no row is
+-- the reader's answer, and the walk at the first row, or at 0, where no row stands
 abbrev pub startOf : RefT (List ℕ) → Started
 startOf s = record { answer = reading (now s) .answer; walk = record { bytes = s; place = firstRow (reading (now s) .answer) } }
 
--- the row at its place, or ended
+-- the row at the walk's place, or ended
 abbrev pub nextOf : Walk → Step
 nextOf w = stepAt (now (w .bytes)) (w .place)
 
--- the same lent bytes, at the place after that row
+-- the walk on the same lent bytes, at the place after its row
 abbrev pub movedOn : Walk → Walk
 movedOn w = record { bytes = w .bytes; place = placeAfter (nextOf w) (w .place) }
 
@@ -44,7 +44,7 @@ abbrev pub walked : (n : ℕ) → Walk → Walk
 walked zero w = w
 walked (suc n) w = movedOn (walked n w)
 
--- the rows that n steps give, in their order; one that has ended gives none
+-- the rows that n steps give, in their order; a step that has ended gives none
 abbrev pub withRow : Step → List Row → List Row
 withRow step rows = cond (ended step) rows (stepRow step ∷ rows)
 
@@ -52,7 +52,7 @@ abbrev pub given : (n : ℕ) → Walk → List Row
 given zero w = []
 given (suc n) w = withRow (nextOf w) (given n (movedOn w))
 
--- ## What the covered functions answer on a slice and a place. No entry point's contract cites it
+-- ## What the covered functions answer on a slice and a place. No entry point's contract cites these two
 
 abbrev pub strideAt : List ℕ → ℕ → Stride
 strideAt s place = record { step = stepAt s place; place = placeAfter (stepAt s place) place }

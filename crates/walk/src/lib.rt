@@ -33,7 +33,7 @@ pub struct Started<'a> {
 
 // ---- on a slice and a place
 
-// The place after the row; one that has ended stays.
+// The place after the row; where the step has ended, the place stays.
 fn place_after(step: Step, place: usize) -> usize
     ensures { λ r. ⌜ r ≡ placeAfter step place ⌝ }
 {
@@ -53,7 +53,7 @@ fn stride_at(bytes: &[u8], place: usize) -> Stride
     }
 }
 
-// The first row's place, or 0, where no row is.
+// The first row's place, or 0 for a refusal, where no row stands.
 fn first_place(answer: Answer) -> usize
     ensures { λ r. ⌜ r ≡ firstRow answer ⌝ }
 {
@@ -83,7 +83,7 @@ fn begin(bytes: &[u8]) -> Begun
 
 // ---- on a walk, proved by hand
 
-// On bytes that the reader refuses: its refusal, and a walk at 0, which has ended.
+// Starts a walk at the first row. On bytes that the reader refuses, it gives the refusal and a walk at 0, which has ended.
 pub fn start<'a>(bytes: &'a [u8]) -> Started<'a>
     ensures { λ r. ⌜ r ≡ startOf (bytes .entry) ⌝ }
 {
@@ -98,7 +98,7 @@ pub fn start<'a>(bytes: &'a [u8]) -> Started<'a>
 }
 
 impl<'a> Walk<'a> {
-    // The row at the walk's place, or that it has ended; the walk moves on. It asks the reader each time.
+    // Gives the row at the walk's place, or that the walk has ended, and moves the walk on. It asks the reader each time.
     pub fn next(&mut self) -> Step
         ensures { λ r. ⌜ (r ≡ nextOf (now (self .entry))) × (now (self .exit) ≡ movedOn (now (self .entry))) ⌝ }
     {
@@ -108,9 +108,9 @@ impl<'a> Walk<'a> {
     }
 }
 
-// ---- with plain parameters: whoever calls it needs no walk by hand
+// ---- with plain parameters: a caller's proof needs no walk by hand
 
-// Row n of a recording, counted from 0, or ended: what a walk gives after n others.
+// Row n of a recording, counted from 0, or ended: what a walk gives after n other steps.
 pub fn nth(bytes: &[u8], n: u16) -> Step
     ensures { λ r. ⌜ r ≡ nthOf (now (bytes .entry)) n ⌝ }
 {

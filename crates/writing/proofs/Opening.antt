@@ -1,4 +1,4 @@
--- The opening of settings that are right: how many effects it has, and its length.
+-- The opening of valid settings: how many effects it has, and its length.
 use mathlib.Core.Path.{_≡_}
 use Prim.Native.Nat.{ℕ, _≤_}
 use native.Mathlib.Omega.{arith}
@@ -19,7 +19,7 @@ pub opening-count : (st : Settings) (rows : ℕ) → openingNumber st rows ≡ 0
 unfolding openingNumber
 opening-count st rows h = count-few st (or-else-none (settingsNumber st) (unless (rowsOk Rows rows) (numberOf Rows)) h .0)
 
--- the opening of settings that are right, as the writer counts it
+-- the opening of valid settings has the length that the writer computes
 pub right-length : (st : Settings) (rows : ℕ) → openingNumber st rows ≡ 0 → length (st .effects) ≡ 16 → length (opening st rows) ≡ openingLength st
 right-length st rows h sixteen =
     opening-length st rows (length-take-le (st .count) (st .effects) (omega (arith, opening-count st rows h, sixteen)))

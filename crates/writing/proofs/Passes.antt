@@ -1,4 +1,4 @@
--- What the writer asks of the pieces is that the settings and rows are right.
+-- The writer refuses no piece exactly if the settings and rows are valid.
 use mathlib.Core.Path.{_≡_}
 use mathlib.Core.List.{List, [], _∷_}
 use borrow.Author.Tests.{leb-true, le-leb}

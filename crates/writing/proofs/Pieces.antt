@@ -1,4 +1,4 @@
--- Writing a piece: refused by its own number, refused for want of room, or written. A case each of the definition.
+-- Writing a piece: refused by its own refusal number, refused for want of room, or written. Each is a case of the definition.
 use mathlib.Core.Path.{_≡_, refl, ap, sym, _∙_}
 use mathlib.Core.List.{List, _++_}
 use Prim.Native.Nat.{ℕ, _≤_, _<_}
@@ -32,7 +32,7 @@ module _ (num res : ℕ) (piece out : List ℕ) (is : res ≡ num) where
         answers-granted num (length piece) out (piece ++ drop (length piece) out) (W.Bytes (length piece)) (λ k. W.Refused k) res is _ l
         (rw len) (e ∙ whole) right (omega (arith, len))
 
--- ## What each case comes to
+-- ## What each case results in
 
 pub number-of : (n : ℕ) (piece : List ℕ) (room : ℕ) → writtenNumber (written n piece room) ≡ orElse n (roomNumber (length piece) room)
 number-of n piece room = granted-number (W.Bytes (length piece)) (λ k. W.Refused k) writtenNumber (orElse n (roomNumber (length piece) room)) (λ z. refl) (λ k. refl)

@@ -39,18 +39,18 @@ pub read-as-written : (st : Settings) (rows : List Row) → length (st .effects)
     → Answers (opening st (length rows) ++ flatMap putRow rows) st rows
 read-as-written st rows sixteen h each = rw (← encoding-in-pieces st rows) (encoding-is-accepted st rows (passes-right st rows sixteen h each))
 
--- ## The writer, of any piece that `n` refuses if it is not 0
+-- ## The writer, of any piece with refusal number n (0 for none)
 
--- the number is the piece's own, and 10 last, exactly if it doesn't fit
+-- the refusal number is the piece's own, or last 10, exactly if the piece does not fit
 pub written-number : (n : ℕ) (piece : List ℕ) (room : ℕ) → writtenNumber (written n piece room) ≡ orElse n (roomNumber (length piece) room)
 written-number = number-of
 
--- without refusal the piece stands at the front, and the bytes past it as they were
+-- without refusal the piece stands at the front, and the bytes past it stay as they were
 pub written-piece : (n : ℕ) (piece out : List ℕ) → writtenNumber (written n piece (length out)) ≡ 0
     → (writtenLength (written n piece (length out)) ≡ length piece) × (after n piece out ≡ piece ++ drop (length piece) out)
 written-piece = stands
 
--- on refusal the place is 0, as it is outside the reader, the length is 0, and no byte is touched
+-- after a refusal the place is 0, as it is outside the reader, the length is 0, and no byte is touched
 pub refused-piece : (n : ℕ) (piece out : List ℕ) → let a = written n piece (length out) in (writtenNumber a ≡ 0 → ⊥)
     → (writtenPlace a ≡ 0) × (writtenLength a ≡ 0) × (after n piece out ≡ out)
 refused-piece = untouched

@@ -1,5 +1,5 @@
--- Document 01's number, place and length of each case of the writer's enum: a refusal's place is 0 outside the reader, and its
--- length too. "Refusal numbers" and "Where each form belongs".
+-- Document 01's refusal number, place and length of each case of the writer's enum. A refusal's place is 0 outside the reader, and so
+-- is its length. "Refusal numbers" and "Where each form belongs".
 use Prim.Native.Nat.{ℕ}
 use Rattle.writing.specs.declared.Written.{Written}
 use Rattle.writing.specs.declared.Written.the-variants as W

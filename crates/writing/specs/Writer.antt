@@ -1,4 +1,4 @@
--- What writing a piece comes to, and what the lent bytes are after it. Document 01, "Recordings" and "Refusal numbers".
+-- What writing a piece results in, and what the lent bytes are after it. Document 01, "Recordings" and "Refusal numbers".
 use Prim.Native.Nat.{ℕ}
 use mathlib.Core.List.{List, _++_}
 use lib.ListN.{length, drop}
@@ -13,22 +13,22 @@ use Rattle.layout.specs.Entries.{putRow}
 use Rattle.layout.specs.Sections.{countOk, numberOf}
 use Rattle.recording.specs.Encode.{opening}
 
--- ## Which number refuses a piece, before its room is looked at
+-- ## The refusal number of a piece, before its room is checked
 
--- the opening: 2, 3, then 4 for a wrong row count
+-- the opening's refusal numbers: 2, 3, then 4 for a wrong row count
 unfoldable pub openingNumber : Settings → (rows : ℕ) → ℕ
 openingNumber st rows = orElse (settingsNumber st) (unless (countOk Rows rows) (numberOf Rows))
 
--- a row: 2, 3, then its own
+-- a row's refusal numbers: 2, 3, then the row's own
 unfoldable pub rowPieceNumber : Settings → Row → ℕ
 rowPieceNumber st row = orElse (settingsNumber st) (rowNumber (knownOf st) row)
 
--- ## A piece that `number` refuses if it is not 0, into `room` bytes; 10 last, exactly if it doesn't fit
+-- ## A piece with this refusal number (0 for none), into `room` bytes; refusal number 10 last, exactly if the piece does not fit
 
 abbrev pub written : (number : ℕ) (piece : List ℕ) (room : ℕ) → Written
 written number piece room = granted (orElse number (roomNumber (length piece) room)) (W.Bytes (length piece)) (λ n. W.Refused n)
 
--- bytes past the piece stay as they were, and all of them on refusal
+-- the lent bytes after it: bytes past the piece stay as they were, and so do all of them after a refusal
 abbrev pub after : (number : ℕ) (piece out : List ℕ) → List ℕ
 after number piece out = granted (orElse number (roomNumber (length piece) (length out))) (piece ++ drop (length piece) out) (λ n. out)
 

@@ -1,6 +1,6 @@
-// The writer: the opening piece and a row, each into a lent buffer. Document 01, "Recordings" and "Refusal numbers". How a piece
-// is put may change without moving a contract, as long as nothing is put before it is known to fit. It rests on `pieces` for the
-// stores, on `layout`, whose table of sections has the widths, the counts and the numbers, and on `settings`.
+// The writer: the opening piece and a row, each into a lent buffer. Document 01, "Recordings" and "Refusal numbers". How a piece is put
+// may change without moving a contract, as long as nothing is put before it is known to fit. It rests on `pieces` for the stores, on
+// `layout`, whose table of sections has the widths, the counts and the refusal numbers, and on `settings`.
 ghost use mathlib.Core.Path.{_≡_};
 ghost use lib.ListN.{length};
 ghost use Rattle.writing.specs.Writer.{openingNumber, rowPieceNumber, openingWritten, openingAfter, rowWritten, rowAfter};
@@ -8,13 +8,13 @@ use layout::Kind;
 use settings::Row;
 use settings::Settings;
 
-// What writing a piece comes to: the bytes written, or the refusal's number.
+// What writing a piece results in: the number of bytes written, or the refusal number.
 pub enum Written {
     Bytes(usize),
     Refused(u8),
 }
 
-// ---- which number refuses a piece
+// ---- the refusal number of a piece
 
 fn opening_number(st: Settings, rows: u16) -> u8
     ensures { λ r. ⌜ r ≡ openingNumber st rows ⌝ }

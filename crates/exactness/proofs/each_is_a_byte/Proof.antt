@@ -1,4 +1,4 @@
--- `exactness::each_is_a_byte` meets its contract: that each element of a lent slice is a value of its type is known of every slice.
+-- `exactness::each_is_a_byte` meets its contract: of every lent slice it is known that each element is a value of its type.
 use borrow.Author.Needs.{needs}
 use Rattle.exactness.proofs.each_is_a_byte.Statement.{statement}
 use Rattle.exactness.proofs.each_is_a_byte.Tie as tie

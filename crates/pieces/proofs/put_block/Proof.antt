@@ -1,4 +1,4 @@
--- `pieces::put_block` meets its contract: its stores, one after the other, at the places that the table gives.
+-- `pieces::put_block` meets its contract: its stores follow each other at the places that the table gives.
 use mathlib.Core.List.{_++_}
 use mathlib.Core.Path.{refl}
 use denote.Ref.{now}

@@ -1,4 +1,4 @@
--- `pieces::put_effects` meets its contract. The loop's invariant: with the effects that are left the bytes would be whole.
+-- `pieces::put_effects` meets its contract. The loop's invariant: the bytes written so far and the effects that are left make the whole.
 use borrow.Author.Needs.{needs}
 use native.Mathlib.Omega.{arith}
 use Prim.Native.Nat.{_+_, _*_, _≤_, _-_}

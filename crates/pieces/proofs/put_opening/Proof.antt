@@ -1,4 +1,4 @@
--- `pieces::put_opening` meets its contract: its pieces, one after the other, at the places that the table gives.
+-- `pieces::put_opening` meets its contract: its pieces follow each other at the places that the table gives.
 use mathlib.Core.Path.{ap, _∙_}
 use Prim.Native.Nat.{ℕ, _+_}
 use denote.Ref.{now}

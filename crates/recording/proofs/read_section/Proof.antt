@@ -1,4 +1,4 @@
--- `recording::read_section` meets its contract. The loop's invariant: the entries left from the place come to what all come to.
+-- `recording::read_section` meets its contract. The loop's invariant: the entries left from the place result in what all result in.
 use borrow.Author.Needs.{needs}
 use borrow.Author.Tests.{not-true, not-false}
 use native.Mathlib.Omega.{arith}
@@ -27,7 +27,7 @@ returns-2 c =
     let k = c .before .before .count-ok in
     rw (c .number-of .ensures) (sym (section-count _ _ _ _ _ _ _ (n .result) (omega arith) (n .ensures) (sym (k .ensures) ∙ not-true (k .result) (c .before .if2 .taken))))
 
--- the bytes of the entries that passed, as the code and as the definition has them
+-- the length of the entries that passed is the same in the code and in the definition
 mul-place : tie.Need-mul-place Inv-loop μ-loop
 mul-place c = rw (c .before .width-of .ensures) (omega (arith, c .passed-quickly .ensures .inside))
 

@@ -1,6 +1,6 @@
--- `walk::nth` meets its contract: a walk of its MIR, by hand, with a loop. The walk that `start` returns is held in a local, which
--- is lent by `&mut` to `next` in each turn and once after the loop, and comes back moved on each time (`Asked.antt`).
--- The loop's invariant is the whole context, the walk being i steps on; the variant is n - i. What the walk gives after n steps is
+-- `walk::nth` meets its contract: the proof goes through its MIR by hand, with a loop. The walk that `start` returns is held in a
+-- local, which is lent by `&mut` to `next` in each turn and once after the loop, and comes back moved on each time (`Asked.antt`).
+-- The loop's invariant is the whole context, with the walk i steps on; the variant is n - i. What the walk gives after n steps is
 -- row n, by `Rows.antt`. All that the proof knows of `start` and of `next` is that each meets its contract.
 -- Assumes nothing.
 use mathlib.Core.Path.{_≡_, refl, ap, sym, _∙_}

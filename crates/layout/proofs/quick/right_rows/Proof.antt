@@ -1,5 +1,5 @@
--- `layout::quick::right_rows` meets its contract. The loop's invariant: by anything known that the masks are made of, the rows
--- before the place are right.
+-- `layout::quick::right_rows` meets its contract. The loop's invariant: whatever is known, if the masks are made of it, the rows
+-- before the place are valid.
 use denote.Ref.{now}
 use mathlib.Core.Path.{_≡_, sym, _∙_}
 use Prim.Native.Nat.{_+_, _*_, _-_, _≤_}

@@ -1,4 +1,4 @@
--- `layout::quick::row_right` meets its contract: the quick test holds exactly if the row's number is 0.
+-- `layout::quick::row_right` meets its contract: the quick test holds exactly if the row's refusal number is 0.
 use denote.Ref.{now}
 use mathlib.Core.Path.{ap₂, _∙_}
 use mathlib.Core.Bool.{_&&_}

@@ -1,6 +1,6 @@
--- `walk::Walk::next` meets its contract: a walk of its MIR, by hand. The borrow is opened; the bytes and the place are copied out
--- and `stride_at` is called on them; the place that it gave is stored; the borrow is closed at the walk moved on; the step is
--- returned.
+-- `walk::Walk::next` meets its contract: the proof goes through its MIR by hand. The borrow is opened; the bytes and the place are
+-- copied out and `stride_at` is called on them; the place that it gave is stored; the borrow is closed at the walk moved on; the step
+-- is returned.
 -- The walk holds a `&` alone, so what it owns is had twice: once for the callee, and once for the exit. All that the proof knows of
 -- `stride_at` is that it meets its contract.
 -- Assumes nothing.
@@ -66,7 +66,7 @@ use Rattle.walk.proofs.Walk.next as next
 use Rattle.walk.proofs.Walk.next.Statement as stated
 use Rattle.walk.proofs.Walk.next.Code as code
 
--- 'a, and the walk's type at it
+-- 'a, and the type of the walk at it
 abbrev α : Lft → NamedLft
 α κ′ = record { mir = named 1; lft = κ′ }
 
@@ -140,7 +140,7 @@ module _ {M : Type 1} (𝓤 : URA M) (H : Heap 𝓤) (A : Atoms 𝓤) (W : Given
       move ! (1 ∷ []) $ drop ! $ nothing ! $ owned ! usize (Is usize) (uint-makes 𝓤 H A W w64) (h .place) _ (refl, fits) $ fjoin ! $ move ! (1 ∷ 0 ∷ []) $ fjoin ! $
       move ! (2 ∷ 0 ∷ []) $ use2 W (raw (StrideAt 𝓤 H A at-mem run .pre to)) asked $ frame ! $ done !)
 
-  -- of the callee's `ensured`, the clause alone
+  -- of the callee's `ensured`, only the clause is needed
   said : (r : Stride) → ent 𝓤 (ensured 𝓤 H A step.ended (step.clauses 𝓤 H A at-mem run) (κ′, tt) (h .bytes, (h .place, tt)) tt r) (fact 𝓤 (r ≡ found))
   said r = exE 𝓤 _ (λ ws. snd∗ 𝓤 (sem 𝓤 H A (lasts step.ended (κ′, tt) (h .bytes, (h .place, tt)) ws)) (fact 𝓤 (r ≡ found)))
 
