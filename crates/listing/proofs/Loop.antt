@@ -1,4 +1,4 @@
--- What a caller's loop over the rows has after each of them: it goes on, ends after the last row, or stops at a refusal.
+-- What a caller's loop over the rows knows after each of them: it goes on, ends after the last row, or stops at a refusal.
 use mathlib.Core.Path.{_≡_, refl, sym, ap, _∙_}
 use mathlib.Core.Bool.{true, false}
 use mathlib.Core.List.{List, []}
@@ -20,7 +20,7 @@ use Rattle.listing.specs.Printed.{hasRoom, rowLines, PrintedRow, Last}
 use Rattle.text.proofs.Puts.{Put}
 
 module _ {s : List ℕ} {run : Run} {array : List ℕ} (g : Going s run array) where
-  -- no row is left
+  -- where no row is left, the loop ends
   pub ends : run .rows ≡ rowCount (reading s .answer) → Last s (record { number = 0; records = 0; run = run })
   ends e =
       let o = turns.ends g e in
@@ -31,7 +31,7 @@ module _ {s : List ℕ} {run : Run} {array : List ℕ} (g : Going s run array) w
       }
 
   module _ {at : ℕ} {out : List ℕ} {r : Printed} {array′ out′ : List ℕ} (p : PrintedRow s run at out r array′ out′) where
-    -- ## The buffer was full: all is as it was
+    -- ## The buffer was full: nothing has changed
 
     module _ (h : r .full ≡ true) where
       pub no-room : hasRoom (length out) at ≡ false
@@ -52,14 +52,14 @@ module _ {s : List ℕ} {run : Run} {array : List ℕ} (g : Going s run array) w
       room : hasRoom (length out) at ≡ true
       room = not-false (hasRoom (length out) at) (sym (p .full-is) ∙ h)
 
-      -- its lines were put
+      -- the lines of the row were put
       pub lines-put : Put out out′ at (r .at) (rowLines s (run .rows))
       lines-put = (rw room at (p .at-is), rw room at (p .text))
 
       pub put-within : r .at ≤ length out
       put-within = p .within (omega (arith, leb-true (at + mostPiece) (length out) room))
 
-      -- what it came to, in a space of no bytes
+      -- what the row results in, with a space of no bytes for its records
       done : RowDone s run [] (r .turn) array′ (rowInto s (run .rows) 0 [])
       done =
           record {
@@ -71,7 +71,7 @@ module _ {s : List ℕ} {run : Run} {array : List ℕ} (g : Going s run array) w
           }
 
       module _ (more : run .rows < rowCount (reading s .answer)) where
-        -- without refusal the loop goes on, by one row, whose lines are those of its records
+        -- without refusal the loop goes on with the next row
         pub one-row : r .turn .number ≡ 0 → r .turn .run .rows ≡ run .rows + 1
         one-row = turns.one-row g more done
 
@@ -83,7 +83,7 @@ module _ {s : List ℕ} {run : Run} {array : List ℕ} (g : Going s run array) w
           pub no-lines : rowLines s (run .rows) ≡ []
           no-lines = granted-refused (lines (rowRun s (run .rows) .events)) (λ n. []) (firstRows s (run .rows + 1) .number) (λ z. refused (done .number-is ∙ z))
 
-          -- it is the last
+          -- a refused row is the last
           pub stops : Last s (r .turn)
           stops =
               let o = turns.stops g more done refused in

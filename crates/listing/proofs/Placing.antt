@@ -24,7 +24,7 @@ use Rattle.text.proofs.Puts.{Put}
 
 -- ## The test
 
--- fewer bytes than a piece may take
+-- a buffer with fewer bytes than a piece may take has no room
 pub too-short : (n at : ℕ) → n < mostPiece → false ≡ hasRoom n at
 too-short n at h = sym (lt-leb (at + mostPiece) n (omega arith))
 
@@ -52,14 +52,14 @@ module _ (out : List ℕ) (at : ℕ) (b : Bool) (is : b ≡ hasRoom (length out)
   -- ## A row
 
   module _ {s : List ℕ} {run : Run} where
-    -- it was not run
+    -- where the buffer is full, the row is not run
     pub full-row : {array : List ℕ} → Going s run array → not b ≡ true
         → PrintedRow s run at out (record { full = true; at = at; turn = record { number = 0; records = 0; run = run } }) array out
     full-row g h =
         let e = sym is ∙ not-true b h in
         record { full-is = rw e; at-is = rw e; within = λ l. l; text = rw e; number-is = rw e; records-are = rw e; going = g; rows-are = rw e }
 
-    -- it came to u
+    -- where there is room, the row is run, and results in u
     pub whole-row : {space space′ array′ out′ : List ℕ} {u : Turn} {r : ℕ} → RowDone s run space u array′ space′ → not b ≡ false
         → Put out out′ at r (rowLines s (run .rows)) → r ≤ length out → PrintedRow s run at out (record { full = false; at = r; turn = u }) array′ out′
     whole-row d h p l =
@@ -77,7 +77,7 @@ module _ (out : List ℕ) (at : ℕ) (b : Bool) (is : b ≡ hasRoom (length out)
 
 -- ## The records that a row leaves in the space that it was lent
 
--- those of some events, whose lines the row has
+-- the records are those of some events, and the row has their lines
 left-in : (n : ℕ) (es : List Event) (space : List ℕ) → recordLength * granted n (length es) (λ k. 0) ≤ length space
     → (us : List Event) × (length us ≡ granted n (length es) (λ k. 0)) × StandFrom (granted n (sets space 0 (bytes es)) (λ k. space)) 0 us × (lines us ≡ granted n (lines es) (λ k. []))
 unfolding flatMap

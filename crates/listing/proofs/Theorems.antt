@@ -1,6 +1,6 @@
 -- What is promised of a listing: the pieces that the code gives, joined, are the listing of the definition. Document 01, "One
--- session, whole". `Loop` has the laws for a caller's loop: it goes on, ends and stops with the answer that the closing is
--- made of.
+-- session, whole". `Loop` has the laws for a caller's loop: it goes on, ends and stops with the answer of which the closing is
+-- made.
 use mathlib.Core.Path.{_≡_, refl, sym, ap, ap₂, _∙_}
 use mathlib.Core.List.{List, [], _++_, flatMap}
 use Prim.Native.Nat.{ℕ}
@@ -21,7 +21,7 @@ use Rattle.text.specs.Text.{header, line, lines, refusalLine}
 use Rattle.listing.specs.Listing.{closing, listing}
 use Rattle.listing.specs.Printed.{opening, rowLines, rowsLines, Last}
 
--- a refused file: the opening is all
+-- the listing of a refused file is its opening
 pub a-refused-file-is-its-opening : (s : List ℕ) → (Accepted s → ⊥) → opening (reading s .answer) ≡ listing s
 unfolding listing
 a-refused-file-is-its-opening s h =
@@ -33,12 +33,12 @@ module _ (s : List ℕ) (accepted : Accepted s) where
   abbrev Joined : Outcome → Type 0
   Joined o = rowsLines s (o .replay .rows) ≡ lines (o .replay .events)
 
-  -- no row yet
+  -- before the first row there are no lines
   starts : Joined (whole started)
   unfolding flatMap
   starts = refl
 
-  -- one row more
+  -- one row more adds the lines of its records
   runs : (i : ℕ) → Before s Joined starts i → numberAt s i ≡ 0 → Joined (whole (joined (firstRows s i .replay) (rowRun s i)))
   runs i b z =
       let r = firstRows s i .replay in
@@ -48,7 +48,7 @@ module _ (s : List ℕ) (accepted : Accepted s) where
       in
       ap (rowsLines s) (add-one (r .rows)) ∙ ap₂ (λ (a b : List ℕ). a ++ b) (b .3) last ∙ sym (flatMap-append line (r .events) (rowRun s i .events))
 
-  -- the lines of the rows, joined, are those of the records of the whole
+  -- the lines of the rows, joined, are those of all records of the replay
   pub rows-joined : rowsLines s (replay s .replay .rows) ≡ lines (replay s .replay .events)
   rows-joined =
       rw (all-the-rows s accepted) (by-rows s Joined starts runs (λ i b h. b .3) (rowCount (reading s .answer)) (omega arith))

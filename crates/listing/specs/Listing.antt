@@ -9,12 +9,12 @@ use Rattle.rerun.specs.declared.Replayed.{Replayed}
 use Rattle.rerun.specs.Replay.{Outcome, replay, answered}
 use Rattle.text.specs.Text.{header, lines, lastLine, refusalLine}
 
--- what stands behind the records' lines: the last line; or on a refusal its line, with the row's first byte, and no last line
+-- what stands behind the records' lines: the last line; or, after a refusal, the line of the refusal, and no last line
 unfoldable pub closing : Replayed → List ℕ
 closing r =
     granted (r .number) (lastLine (r .rows) (r .scans) (r .live) (r .exercised)) (λ n. refusalLine n (r .place))
 
--- a refused file gives only its refusal's line; any other the header, the lines of its records, and the closing
+-- a refused file has only the line of its refusal; any other has the header, the lines of its records, and the closing
 abbrev pub listed : Answer → Outcome → List ℕ
 listed a o =
     granted (number a) (header ++ lines (o .replay .events) ++ closing (answered o)) (λ n. refusalLine n (place a))

@@ -22,7 +22,7 @@ use Rattle.text.specs.Text.{header, lines, refusalLine}
 
 -- ## The pieces
 
--- by what the reader answers: the header, or the refusal's line
+-- the opening, from the reader's answer: the header, or the line of the refusal
 abbrev pub opening : Answer → List ℕ
 opening a = granted (number a) header (λ n. refusalLine n (place a))
 
@@ -37,19 +37,19 @@ rowsLines s (suc n) = rowsLines s n ++ rowLines s n
 
 -- ## A piece at a place
 
--- of n bytes so many are left from a place on that any piece fits
+-- in a buffer of n bytes, any piece fits from this place on
 abbrev pub hasRoom : (n at : ℕ) → Bool
 hasRoom n at = leb (at + mostPiece) n
 
--- the lent bytes after it
+-- the lent bytes after a piece
 abbrev pub placed : List ℕ → ℕ → List ℕ → List ℕ
 placed out at text = cond (hasRoom (length out) at) (sets out at text) out
 
--- the answer: whether the buffer was full, and the place after the piece
+-- the answer for a piece: whether the buffer was full, and the place after the piece
 abbrev pub written : (n at : ℕ) → List ℕ → Piece
 written n at text = cond (hasRoom n at) (record { full = false; at = at + length text }) (record { full = true; at = at })
 
--- a row's lines at a place, and what the row came to. Where the buffer was full the row was not run
+-- the lines of a row at a place, and what the row results in. If the buffer was full, the row was not run
 pub record PrintedRow (s : List ℕ) (run : Run) (at : ℕ) (out : List ℕ) (r : Printed) (array′ out′ : List ℕ) : Type 0 where
   pub full-is : r .full ≡ not (hasRoom (length out) at)
   pub at-is : r .at ≡ cond (hasRoom (length out) at) (at + length (rowLines s (run .rows))) at
@@ -63,7 +63,7 @@ pub record PrintedRow (s : List ℕ) (run : Run) (at : ℕ) (out : List ℕ) (r 
 
 -- ## All pieces
 
--- what a caller's loop over the rows ends with: number, rows and answer are those of the whole replay
+-- what a caller's loop over the rows ends with: refusal number, rows and answer are those of the whole replay
 pub record Last (s : List ℕ) (t : Turn) : Type 0 where
   pub number-is : t .number ≡ replay s .number
   pub rows-are : t .run .rows ≡ replay s .replay .rows

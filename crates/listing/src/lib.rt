@@ -1,8 +1,8 @@
 // The listing of a replay, piece by piece: the opening, the lines of each row, and the closing. Document 01, "One session,
 // whole". Each piece goes to a place of a lent buffer. A buffer with fewer than MOST_PIECE bytes left is full: then nothing is
 // written, and the caller goes on with more room. A place within the buffer stays within it, so that a caller need not show it.
-// It rests on `rerun` and what that rests on. How lines are put, and the records that a row leaves on the way, may change without
-// moving a contract; the text is specs/Text, and when a buffer is full is part of every contract.
+// It rests on `rerun` and `text`, and on what those rest on. How lines are put, and the records that a row leaves on the way, may change
+// without moving a contract; the text is specs/Text of `text`, and when a buffer is full is part of every contract.
 ghost use mathlib.Core.Path.{_≡_};
 ghost use Prim.Native.Nat.{_+_, _<_, _≤_};
 ghost use lib.ListN.{length};
@@ -25,7 +25,7 @@ pub struct Piece {
     pub at: usize,
 }
 
-// The same of a row's lines, with what the row came to; where the buffer was full the row was not run.
+// Whether the buffer was full, the place after a row's lines, and the row's turn. Where the buffer was full, no row was run.
 pub struct Printed {
     pub full: bool,
     pub at: usize,
@@ -72,8 +72,8 @@ fn put_opening(out: &mut [u8], at: usize, answer: Answer) -> usize
     }
 }
 
-// The opening of a listing, by what the reader answers: the header, or of a refused file all there is, the refusal's line. Number 0
-// refuses nothing.
+// The opening of a listing, from the reader's answer: the header; or, for a refused file, the line of the refusal, which is then the whole
+// listing. Refusal number 0 refuses nothing.
 pub fn opening(reading: Reading, out: &mut [u8], at: usize) -> Piece
     ensures { λ r. ⌜ r ≡ written (length (now (out .entry))) at (openingOf (reading .answer)) ⌝ }
     ensures { λ _. ⌜ now (out .exit) ≡ placed (now (out .entry)) at (openingOf (reading .answer)) ⌝ }
@@ -90,7 +90,7 @@ pub fn opening(reading: Reading, out: &mut [u8], at: usize) -> Piece
     }
 }
 
-// The lines of the row that the run has come to.
+// Runs the run's next row, and puts its lines.
 pub fn row(s: &[u8], run: Run, board: &mut [u32; 64], out: &mut [u8], at: usize) -> Printed
     requires { ⌜ Going (now s) run (now board) × (run .rows < rowCount (readingOf (now s) .answer)) ⌝ }
     ensures { λ r. ⌜ PrintedRow (now (s .entry)) run at (now (out .entry)) r (now (board .exit)) (now (out .exit)) ⌝ }
@@ -129,7 +129,7 @@ fn put_closing(out: &mut [u8], at: usize, end: Replayed) -> usize
     }
 }
 
-// The closing of a listing, by what the replay came to: the last line, or the line of a refusal.
+// The closing of a listing, from the answer of the replay: the last line, or the line of a refusal.
 pub fn closing(end: Replayed, out: &mut [u8], at: usize) -> Piece
     ensures { λ r. ⌜ r ≡ written (length (now (out .entry))) at (closingOf end) ⌝ }
     ensures { λ _. ⌜ now (out .exit) ≡ placed (now (out .entry)) at (closingOf end) ⌝ }

@@ -1,4 +1,4 @@
--- The rows of an accepted file, replayed row by row: what the first rows come to, and that the replay is what they come to.
+-- The rows of an accepted file, replayed row by row: what the first rows result in, and that all rows result in the replay.
 use mathlib.Core.Path.{_≡_, refl, sym, ap, _∙_}
 use mathlib.Core.List.{List, [], _∷_, _++_}
 use mathlib.Core.Logic.{_⊎_, inl, inr}
@@ -51,11 +51,11 @@ module _ (s : List ℕ) where
   length-first : (i : ℕ) → i ≤ count → length (take i (rowsOf s)) ≡ i
   length-first i l = length-take-le i (rowsOf s) (omega (arith, length-rowsOf s))
 
-  -- the first j rows are the first i and those between
+  -- the first j rows are the first i rows and those between
   in-two : (i j : ℕ) → i ≤ j → take j (rowsOf s) ≡ take i (rowsOf s) ++ take (j - i) (drop i (rowsOf s))
   in-two i j l = let sum : j ≡ i + (j - i) = omega arith in ap (λ (n : ℕ). take n (rowsOf s)) sum ∙ take-add i (j - i) (rowsOf s)
 
-  -- one row more
+  -- one row more runs from what the first i rows left, or is refused at its first byte
   pub one-row-more : (i : ℕ) → i < count → firstRows s i .number ≡ 0
       → let r = firstRows s i .replay in
       firstRows s (i + 1) ≡ granted (scansNumber (r .state .«scans_done») (rowOf s i .hold)) (whole (joined r (rowRun s i))) (refusedAt (rowPlace s i) r)
@@ -72,18 +72,18 @@ module _ (s : List ℕ) where
   unfolding replay
   accepted-replay a = granted-none (replayRows s (rowsOf s)) (refusedAt (place (reading s .answer)) started) (number (reading s .answer)) a
 
-  -- a refusal's number is not 0
+  -- the refusal number of a refusal is not 0
   pub refusal-number : (n p : ℕ) → reading s .answer ≡ A.Refused n p → n ≡ 0 → ⊥
   refusal-number n p e z = not-accepted n p _ _ _ (sym e ∙ accepted-case s (ap number e ∙ z))
 
-  -- that of a refused file has run nothing
+  -- the replay of a refused file has run nothing
   pub refused-replay : (n p : ℕ) → reading s .answer ≡ A.Refused n p → replay s ≡ refusedAt p started n
   unfolding replay
   refused-replay n p e =
       granted-refused (replayRows s (rowsOf s)) (refusedAt (place (reading s .answer)) started) (number (reading s .answer)) (λ z. refusal-number n p e (sym (ap number e) ∙ z))
       ∙ (λ j. refusedAt (place (e j)) started (number (e j)))
 
-  -- a refused row ends it
+  -- a refused row ends the replay
   pub ends-at-refusal : number (reading s .answer) ≡ 0 → (i : ℕ) → (firstRows s i .number ≡ 0 → ⊥) → replay s ≡ firstRows s i
   unfolding firstRows
   ends-at-refusal a i h =
@@ -106,7 +106,7 @@ module _ (s : List ℕ) where
   unfolding firstRows
   whole-so-far i z = none-refused-whole st width (take i (rowsOf s)) first started z
 
-  -- more rows after first rows that none refused keep the events of these
+  -- where none of the first i rows is refused, more rows keep their events
   pub events-grow : (i j : ℕ) → i ≤ j → firstRows s i .number ≡ 0 → length (firstRows s i .replay .events) ≤ length (firstRows s j .replay .events)
   unfolding firstRows
   events-grow i j l z =
@@ -116,14 +116,14 @@ module _ (s : List ℕ) where
       in
       rw all (events-stay st width others _ (firstRows s i .replay))
 
-  -- after a refused row nothing changes
+  -- after a refused row nothing more changes
   pub stays-refused : (i j : ℕ) → i ≤ j → (firstRows s i .number ≡ 0 → ⊥) → firstRows s j ≡ firstRows s i
   unfolding firstRows
   stays-refused i j l h =
       ap (replayRows s) (in-two i j l)
       ∙ refusal-ends st width (take i (rowsOf s)) (take (j - i) (drop i (rowsOf s))) first started h
 
-  -- ## One row more, by its number
+  -- ## One row more, by its refusal number
 
   abbrev pub numberAt : ℕ → ℕ
   numberAt i = scansNumber (firstRows s i .replay .state .«scans_done») (rowOf s i .hold)
@@ -141,18 +141,18 @@ module _ (s : List ℕ) where
     pub next-runs : numberAt i ≡ 0 → firstRows s (i + 1) ≡ ran
     next-runs z = one-row-more i l none ∙ granted-none ran stopped-at (numberAt i) z
 
-    -- its events are joined to those before
+    -- the events of a row that runs are joined to those before
     pub events-join : firstRows s (i + 1) .number ≡ 0 → firstRows s (i + 1) .replay .events ≡ firstRows s i .replay .events ++ rowRun s i .events
     events-join z = ap (λ (o : Outcome). o .replay .events) (next-runs (sym next-number ∙ z))
 
     pub next-refused : (numberAt i ≡ 0 → ⊥) → firstRows s (i + 1) ≡ stopped-at (numberAt i)
     next-refused h = one-row-more i l none ∙ granted-refused ran stopped-at (numberAt i) h
 
-    -- and that ends the replay
+    -- a row that is refused ends the replay
     pub stops-there : number (reading s .answer) ≡ 0 → (numberAt i ≡ 0 → ⊥) → replay s ≡ stopped-at (numberAt i)
     stops-there a h = ends-at-refusal a (i + 1) (λ z. h (sym next-number ∙ z)) ∙ next-refused h
 
-  -- where a row is not refused none before it is
+  -- where a row is not refused, no row before it is
   none-before : (i n : ℕ) → firstRows s i .number ≡ n → firstRows s (i + 1) .number ≡ 0 → n ≡ 0
   none-before i zero e z = refl
   none-before i (suc n) e z = sym e ∙ sym (ap (λ (o : Outcome). o .number) (stays-refused i (i + 1) (omega arith) (λ k. omega (arith, e, k)))) ∙ z
@@ -184,7 +184,7 @@ module _ (s : List ℕ) where
       by-rows zero l = rw no-rows at-start
       by-rows (suc i) l = rw (← add-one i) (next-row i (omega arith) (by-rows i (omega arith)) (firstRows s i .number) refl (numberAt i) refl)
 
-  -- what first rows come to, by its number and by how many of them ran
+  -- what first rows result in, by the refusal number and by how many of them ran
   abbrev Told : Outcome → Type 0
   Told o = o ≡ record { number = o .number; place = granted (o .number) 0 (λ n. rowPlace s (o .replay .rows)); replay = firstRows s (o .replay .rows) .replay }
 
@@ -199,7 +199,7 @@ module _ (s : List ℕ) where
       let r = ap (λ (n : ℕ). firstRows s n .replay) (sym (b .2)) in
       λ j. refusedAt (p j) (r j) (numberAt i))
 
-  -- ## How it ends
+  -- ## How a replay ends
 
   abbrev Stopped : Outcome → Type 0
   Stopped o =
@@ -252,7 +252,7 @@ module _ (s : List ℕ) where
     started-sound : Sound st started
     started-sound = record { state = a-fresh-state-is-right st; slots = refl; events = omega arith; live = omega arith; exercised = omega arith }
 
-    -- the state that any of the first rows leave is right
+    -- the state that any of the first rows leave is valid
     pub sound : (i : ℕ) → Sound st (firstRows s i .replay)
     unfolding firstRows
     sound i =
@@ -264,7 +264,7 @@ module _ (s : List ℕ) where
         rw (accepted-replay a)
         (λ z. done-is-holds st (right .settings) width first (rowsOf s) (right .each-row) started started-sound z ∙ zero-add _)
 
-    -- and so is the one that row i leaves, where its scans can be counted
+    -- the state that row i leaves is valid, where its scans can be counted
     module _ (i : ℕ) (l : i < count) (z : numberAt i ≡ 0) where
       pub sound-next : Sound st (joined (firstRows s i .replay) (rowRun s i))
       unfolding rowRun

@@ -40,7 +40,7 @@ part-back vs out at h =
     ∙ sym (sets-eq vs out at h)
 
 module _ (s : List ℕ) where
-  -- so a part that comes back with a row's records at its front
+  -- a part that comes back with a row's records at its front: they are stored at the place
   pub part-into : (i at : ℕ) (out part : List ℕ) → at ≤ length out → Fits s i (length out - at)
       → part ≡ rowInto s i 0 (take (length out - at) (drop at out)) → putMid at (length out - at) out part ≡ rowInto s i at out
   part-into i at out part l f e = ap (putMid at (length out - at) out) e ∙ of (firstRows s (i + 1) .number) refl
@@ -62,7 +62,7 @@ module _ (s : List ℕ) where
       granted-either (sets before at vs) (λ k. before) (λ l. length l ≡ length before) (firstRows s (i + n + 1) .number) (λ z. length-sets before at vs) (λ k. refl)
       ∙ length-into keep i n out
 
-  -- one row more
+  -- the lent bytes after one row more
   pub row-into : (keep : Bool) (i k : ℕ) → i ≤ k → (out : List ℕ)
       → rowInto s k (placeOf keep (length (firstRows s k .replay .events))) (rowsInto s keep i (k - i) out) ≡ rowsInto s keep i (k + 1 - i) out
   unfolding rowsInto
@@ -88,7 +88,7 @@ module _ (s : List ℕ) where
 
   -- ## Records that are kept
 
-  -- those of a row go behind those so far
+  -- the records of a row go behind those so far
   kept-next : (i : ℕ) → i < rowCount (reading s .answer) → (out : List ℕ) (n : ℕ) → firstRows s (i + 1) .number ≡ n
       → let so-far = firstRows s i .replay .events in
       granted n (sets (sets out 0 (bytes so-far)) (recordLength * length so-far) (bytes (rowRun s i .events))) (λ k. sets out 0 (bytes so-far)) ≡ sets out 0 (bytes (firstRows s (i + 1) .replay .events))
@@ -121,7 +121,7 @@ module _ (s : List ℕ) where
         of true h = omega (arith, h, events-grow s i until l none)
         of false h = omega arith
 
-    -- and there is room for them
+    -- the records of row i fit in the buffer from their place on
     pub next-fits : i < until → i < rowCount (reading s .answer) → Fits s i mostRowBytes → Fits s i (room - placeOf keep (length (firstRows s i .replay .events)))
     next-fits l more f z = of keep enough
       where

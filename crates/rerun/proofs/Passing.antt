@@ -1,4 +1,4 @@
--- The loop of `go`: what it has come to, that one row more can be run there, and that it goes on, stops and ends as the definitions
+-- The loop of `go`: what it has reached, that one row more can be run there, and that it goes on, stops and ends as the definitions
 -- say.
 use mathlib.Core.Path.{_≡_, refl, sym, ap, _∙_}
 use mathlib.Core.Bool.{Bool}
@@ -33,7 +33,7 @@ module _ {s : List ℕ} {from : Run} {until : ℕ} {keep : Bool} {first out : Li
   unfolding rowsInto
   begins = record { going = ready .going; onward = omega arith; within = ready .onward; stored = rw sub-self }
 
-  -- the buffer stays as long as it was
+  -- the buffer keeps its length
   pub length-done : {r : Turn} {array buf : List ℕ} → RowsDone s from until keep out r array buf → length buf ≡ length out
   length-done d = ap length (d .laid) ∙ length-into s keep (from .rows) (until - from .rows) out
 
@@ -41,7 +41,7 @@ module _ {s : List ℕ} {from : Run} {until : ℕ} {keep : Bool} {first out : Li
     pub length-passed : length buf ≡ length out
     length-passed = ap length (p .stored) ∙ length-into s keep (from .rows) (run .rows - from .rows) out
 
-    -- no row is left
+    -- where no row is left, the loop ends
     pub ends : until ≤ run .rows → RowsDone s from until keep out (record { number = 0; records = 0; run = run }) array buf
     ends l =
         let e : run .rows ≡ until = omega (arith, p .within) in
@@ -81,11 +81,11 @@ module _ {s : List ℕ} {from : Run} {until : ℕ} {keep : Bool} {first out : Li
         abbrev buf′ : List ℕ
         buf′ = putMid at (length buf - at) buf part′
 
-        -- its records are at their place
+        -- the records of the row are at their place
         into : buf′ ≡ rowInto s (run .rows) at buf
         into = part-into s (run .rows) at buf part′ at-within fits (d .laid)
 
-        -- a row fewer is left
+        -- after a row that runs, one row fewer is left
         pub less : r .number ≡ 0 → until - r .run .rows < until - run .rows
         less z = omega (arith, one-row (p .going) in-file d z, more)
 

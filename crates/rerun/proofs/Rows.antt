@@ -1,5 +1,5 @@
--- Laws of rows that are replayed one after the other: what follows rows that were all replayed, that a refusal ends it, and
--- what stays so from row to row (the state is right, and the counts are small).
+-- Laws of rows that are replayed one after the other: what follows rows that were all replayed, that a refusal ends the replay, and
+-- what holds from row to row (the state is valid, and the counts are small).
 use mathlib.Core.Path.{_≡_, refl, ap, _∙_}
 use mathlib.Core.Bool.{Bool, true, false}
 use mathlib.Core.List.{List, [], _∷_, _++_}
@@ -26,10 +26,10 @@ use Rattle.block.proofs.Theorems.{right-input-is-accepted, a-held-run-keeps-rig
 use Rattle.recording.specs.Encode.{All}
 use Rattle.rerun.specs.Replay.{Replay, Outcome, whole, afterRow, refusedAt, rowsFrom, sumOfHolds}
 
--- ## Rows and those after them
+-- ## Rows, and the rows after them
 
 module _ (st : Settings) (w : ℕ) where
-  -- nothing is refused: neither the first row nor one after it
+  -- where nothing is refused, neither the first row nor one after it is
   none-refused : (x : Row) (xs : List Row) (at : ℕ) (r : Replay) → rowsFrom st w at (x ∷ xs) r .number ≡ 0
       → (scansNumber (r .state .«scans_done») (x .hold) ≡ 0) × (rowsFrom st w (at + w) xs (afterRow st x r) .number ≡ 0)
   none-refused x xs at r = of (scansNumber (r .state .«scans_done») (x .hold)) (rowsFrom st w (at + w) xs (afterRow st x r))
@@ -38,7 +38,7 @@ module _ (st : Settings) (w : ℕ) where
       of zero o h = (refl, h)
       of (suc k) o h = absurd (omega (arith, h))
 
-  -- rows that are all replayed are followed by the others, from what they have given
+  -- after rows that are all replayed, the others are replayed from what they have given
   pub then-the-others : (xs ys : List Row) (at : ℕ) (r : Replay) → rowsFrom st w at xs r .number ≡ 0
       → rowsFrom st w at (xs ++ ys) r ≡ rowsFrom st w (at + w * length xs) ys (rowsFrom st w at xs r .replay)
   then-the-others [] ys at r h = rw (mul-zero, add-zero)
@@ -47,7 +47,7 @@ module _ (st : Settings) (w : ℕ) where
       let place : at + w + w * length xs ≡ at + w * suc (length xs) = omega (arith, mul-suc w (length xs)) in
       rw (p .0, ← place) (then-the-others xs ys (at + w) (afterRow st x r) (p .1))
 
-  -- a refusal among the first ends it
+  -- a refusal among the first rows ends the replay
   pub refusal-ends : (xs ys : List Row) (at : ℕ) (r : Replay) → (rowsFrom st w at xs r .number ≡ 0 → ⊥) → rowsFrom st w at (xs ++ ys) r ≡ rowsFrom st w at xs r
   refusal-ends [] ys at r h = absurd (h refl)
   refusal-ends (x ∷ xs) ys at r h =
@@ -56,14 +56,14 @@ module _ (st : Settings) (w : ℕ) where
       granted-alike o (refusedAt at r) n (rowsFrom st w (at + w) (xs ++ ys) (afterRow st x r))
       (λ z. refusal-ends xs ys (at + w) (afterRow st x r) (λ q. h (ap (λ (v : Outcome). v .number) (granted-none o (refusedAt at r) n z) ∙ q)))
 
-  -- where no row is refused the place is 0 too
+  -- where no row is refused, the place is 0
   pub none-refused-whole : (xs : List Row) (at : ℕ) (r : Replay) → rowsFrom st w at xs r .number ≡ 0 → rowsFrom st w at xs r ≡ whole (rowsFrom st w at xs r .replay)
   none-refused-whole [] at r h = refl
   none-refused-whole (x ∷ xs) at r h =
       let p = none-refused x xs at r h in
       rw (p .0) (none-refused-whole xs (at + w) (afterRow st x r) (p .1))
 
-  -- events stay, and grow
+  -- more rows never remove events
   pub events-stay : (xs : List Row) (at : ℕ) (r : Replay) → length (r .events) ≤ length (rowsFrom st w at xs r .replay .events)
   events-stay [] at r = omega arith
   events-stay (x ∷ xs) at r =
@@ -71,14 +71,14 @@ module _ (st : Settings) (w : ℕ) where
       (λ z. omega (arith, length-append (r .events) (run st x (r .state) .events), events-stay xs (at + w) (afterRow st x r)))
       (λ k. omega arith)
 
-  -- the rows are counted
+  -- where no row is refused, each row is counted
   pub rows-counted : (xs : List Row) (at : ℕ) (r : Replay) → rowsFrom st w at xs r .number ≡ 0 → rowsFrom st w at xs r .replay .rows ≡ r .rows + length xs
   rows-counted [] at r h = omega arith
   rows-counted (x ∷ xs) at r h =
       let p = none-refused x xs at r h in
       rw (p .0) (omega (arith, rows-counted xs (at + w) (afterRow st x r) (p .1)))
 
--- ## What stays so
+-- ## What holds from row to row
 
 pub record Sound (st : Settings) (r : Replay) : Type 0 where
   pub state : stateNumber st (r .state) ≡ 0
@@ -105,7 +105,7 @@ module _ (st : Settings) (right : settingsNumber st ≡ 0) where
     live-few : run st row (r .state) .live ≤ 32
     live-few = omega (arith, live-at-most-twice-the-effects st row (r .state) right (sound .state) right-row scans, count-few st right)
 
-    -- two records an effect
+    -- a row gives at most two records an effect
     pub records-few : length (run st row (r .state) .events) ≤ 2 * st .count
     records-few = due-few st row (r .state) (right-input-is-accepted st row (r .state) right (sound .state) right-row scans)
 
@@ -114,7 +114,7 @@ module _ (st : Settings) (right : settingsNumber st ≡ 0) where
         rw add-one
         (omega (arith, length-append (r .events) (run st row (r .state) .events), records-few, sound .events, mul-suc (2 * st .count) (r .rows)))
 
-    -- one row more, and what the counts then come to
+    -- what holds before a row holds after it
     pub sound-after : Sound st (afterRow st row r)
     sound-after =
         record {
@@ -135,7 +135,7 @@ module _ (st : Settings) (right : settingsNumber st ≡ 0) where
       (λ z. sound-rows w (at + w) xs (all .1) (afterRow st x r) (sound-after x (all .0) r sound z))
       (λ k. sound)
 
-  -- the scans done are the holds of the rows
+  -- the scans done are the sum of the holds of the rows
   pub done-is-holds : (w at : ℕ) (xs : List Row) → All (rowNumber (knownOf st)) xs → (r : Replay) → Sound st r → rowsFrom st w at xs r .number ≡ 0
       → rowsFrom st w at xs r .replay .state .«scans_done» ≡ r .state .«scans_done» + sumOfHolds xs
   done-is-holds w at [] all r sound h = omega arith
@@ -144,7 +144,7 @@ module _ (st : Settings) (right : settingsNumber st ≡ 0) where
       let e = done-is-holds w (at + w) xs (all .1) (afterRow st x r) (sound-after x (all .0) r sound (p .0)) (p .1) in
       rw (p .0) (omega (arith, e, done-after x (all .0) r sound (p .0)))
 
--- ## Of all rows, some
+-- ## What holds of all rows holds of some
 
 module _ {A : Type 0} (check : A → ℕ) where
   pub all-take : (i : ℕ) (xs : List A) → All check xs → All check (take i xs)

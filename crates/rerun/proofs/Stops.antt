@@ -1,4 +1,4 @@
--- Where a replay stops, by the holds alone: what a loop that only sums them has of each row.
+-- Where a replay stops, by the holds alone: what a loop that only sums the holds knows at each row.
 use mathlib.Core.Path.{_≡_, sym, ap, _∙_}
 use mathlib.Core.List.{List}
 use Prim.Native.Nat.{ℕ, _+_, _≤_, _<_}
@@ -23,7 +23,7 @@ use Rattle.rerun.specs.Replay.{Outcome, replay, firstRows, rowOf}
 use Rattle.rerun.specs.Turn.{stopOf}
 use Rattle.rerun.proofs.Files.{no-rows, all-the-rows, whole-so-far, numberAt, next-runs, stops-there, done-next}
 
--- in an accepted file with rows of this width: none of the first i was refused, their scans are done, and the next stands here
+-- in an accepted file with rows of this width, the first i were not refused, their scans are done, and the next row stands here
 pub record Reached (s : List ℕ) (width done place i : ℕ) : Type 0 where
   pub accepted : number (reading s .answer) ≡ 0
   pub wide : width ≡ rowWidth (reading s .answer)
@@ -42,7 +42,7 @@ begins s rows first width a =
     }
 
 module _ (s : List ℕ) (width done place i : ℕ) (g : Reached s width done place i) where
-  -- no row is left
+  -- where no row is left, the replay stops without refusal
   pub ends : i ≡ rowCount (reading s .answer) → _≡_ {A = Stop} (record { number = 0; place = 0 }) (stopOf (replay s))
   ends e = sym (ap stopOf (all-the-rows s (g .accepted) ∙ ap (firstRows s) (sym e) ∙ whole-so-far s i (g .none-refused)))
 
@@ -60,13 +60,13 @@ module _ (s : List ℕ) (width done place i : ℕ) (g : Reached s width done pla
       same-number : numberAt s i ≡ v
       same-number = (λ j. scansNumber (g .scans j) (sym row-is j .hold)) ∙ sym number-is
 
-      -- a refused row
+      -- a refused row stops the replay
       pub stops : (v ≡ 0 → ⊥) → _≡_ {A = Stop} (record { number = v; place = place }) (stopOf (replay s))
       stops h =
           (λ j. record { number = sym same-number j; place = g .here j })
           ∙ sym (ap stopOf (stops-there s i more (g .none-refused) (g .accepted) (λ z. h (sym same-number ∙ z))))
 
-      -- a row that runs
+      -- a row that runs: the loop goes on
       module _ (z : v ≡ 0) where
         pub few-scans : done + row .hold ≤ mostScans
         few-scans = limit-kept (done + row .hold) mostScans 8 (sym number-is ∙ z)

@@ -1,5 +1,5 @@
 -- What is promised of a whole replay, each theorem stated once by what it says. Document 01, "One session, whole". `replay s` is
--- what the bytes s come to; `firstRows s i` and `rowRun s i` are what the code gives row by row (`Turns` has the laws for a
+-- what the bytes s result in; `firstRows s i` and `rowRun s i` are what the code gives row by row (`Turns` has the laws for a
 -- caller's loop: it begins, goes on, stops and ends).
 use mathlib.Core.Path.{_≡_, refl, ap, _∙_}
 use mathlib.Core.List.{List, _++_}
@@ -27,16 +27,16 @@ use Rattle.rerun.proofs.Files.{by-rows}
 
 -- ## Row by row
 
--- a refused file: the reader's number and place, and nothing has run
+-- the replay of a refused file has the reader's refusal number and place, and nothing has run
 pub a-refused-file-is-not-run : (s : List ℕ) → (Accepted s → ⊥) → replay s ≡ refusedAt (place (reading s .answer)) started (number (reading s .answer))
 unfolding replay
 a-refused-file-is-not-run s h = granted-refused (replayRows s (rowsOf s)) (refusedAt (place (reading s .answer)) started) (number (reading s .answer)) h
 
--- an accepted one: all its rows
+-- the replay of an accepted file is all its rows
 pub a-replay-is-all-its-rows : (s : List ℕ) → Accepted s → replay s ≡ firstRows s (rowCount (reading s .answer))
 a-replay-is-all-its-rows = files.all-the-rows
 
--- no row gives nothing; each row more runs from where those before it left off, or is refused at its first byte
+-- zero rows give nothing; each row more runs from the state that the rows before it left, or is refused at its first byte
 pub no-rows-give-nothing : (s : List ℕ) → firstRows s 0 ≡ whole started
 no-rows-give-nothing = files.no-rows
 
@@ -50,7 +50,7 @@ pub a-refused-row-ends-the-replay : (s : List ℕ) → Accepted s → (i : ℕ) 
 a-refused-row-ends-the-replay = files.ends-at-refusal
 
 module _ (s : List ℕ) (accepted : Accepted s) where
-  -- the replay, by what holds of its first rows
+  -- what holds of the first rows, however many, holds of the replay
   of-all : (P : Outcome → Type 0) → ((i : ℕ) → i ≤ rowCount (reading s .answer) → P (firstRows s i)) → P (replay s)
   of-all P h = rw (a-replay-is-all-its-rows s accepted) (h (rowCount (reading s .answer)) (omega arith))
 
@@ -64,8 +64,8 @@ module _ (s : List ℕ) (accepted : Accepted s) where
 
   -- ## What refuses a row
 
-  -- with the room of any row, every row gets the answer of a held run that is right and has room: 9 is all that can refuse it, and
-  -- neither 8 nor 10 nor 2 to 6 comes up
+  -- with the room of any row, every row gets the answer of a valid held run that has room: refusal number 9 is the only one that can occur,
+  -- and neither 8 nor 10 nor 2 to 6 can
   pub a-row-is-refused-by-9-alone : (i : ℕ) → i < rowCount (reading s .answer)
       → let st = reading s .settings in let x = firstRows s i .replay .state in
       (stateNumber st x ≡ 0) × (heldOf st (rowOf s i) x mostRowBytes ≡ granted (scansNumber (x .«scans_done») (rowOf s i .hold)) (grantedHeld st (rowOf s i) x) (refusedHeld x))
@@ -91,7 +91,7 @@ module _ (s : List ℕ) (accepted : Accepted s) where
   pub the-state-is-right : stateNumber (reading s .settings) (replay s .replay .state) ≡ 0
   the-state-is-right = of-all (λ o. stateNumber (reading s .settings) (o .replay .state) ≡ 0) (λ i l. files.sound s accepted i .state)
 
-  -- two records an effect and row
+  -- a replay gives at most two records an effect and row
   pub two-records-an-effect-and-row : length (replay s .replay .events) ≤ 2 * reading s .settings .count * rowCount (reading s .answer)
   two-records-an-effect-and-row =
       let n = 2 * reading s .settings .count in
@@ -111,6 +111,6 @@ module _ (s : List ℕ) (accepted : Accepted s) where
   pub exercised-at-most-the-scans : replay s .replay .exercised ≤ replay s .replay .state .«scans_done»
   exercised-at-most-the-scans = of-all (λ o. o .replay .exercised ≤ o .replay .state .«scans_done») (λ i l. files.sound s accepted i .exercised)
 
-  -- the scans done at the end are the holds of the rows
+  -- the scans done at the end are the sum of the holds of the rows
   pub scans-are-the-holds : replay s .number ≡ 0 → replay s .replay .state .«scans_done» ≡ sumOfHolds (rowsOf s)
   scans-are-the-holds = files.scans-done s accepted

@@ -61,7 +61,7 @@ begins {s} {rows} {first} {width} {r} b a =
       totals = b .totals ∙ (λ j. totalsAt (reading s .settings .count) (p j) started) ∙ sym (ap (λ (v : Outcome). totalsOf s (v .replay)) o);
     }
 
--- and all its rows can be run
+-- at the beginning all rows of the file can be run
 pub ready-all : {s : List ℕ} {rows first width : ℕ} {r : Begun} → Begins (reading s .settings) rows first width r → reading s .answer ≡ A.Accepted rows first width
     → {room : ℕ} {keep : Bool} → roomOf s rows keep ≤ room → RowsReady s (r .run) rows (r .board) room keep
 ready-all b a enough =
@@ -72,7 +72,7 @@ abbrev soFar : List ℕ → Run → Replay
 soFar s run = firstRows s (run .rows) .replay
 
 module _ {s : List ℕ} {run : Run} {array : List ℕ} (g : Going s run array) where
-  -- the records so far are its events
+  -- the number of records so far is the number of events so far
   pub records-so-far : run .records ≡ length (soFar s run .events)
   records-so-far = ap (λ (u : Totals). u .records) (g .totals)
 
@@ -82,7 +82,7 @@ module _ {s : List ℕ} {run : Run} {array : List ℕ} (g : Going s run array) w
   pub place-is : run .place ≡ rowPlace s (run .rows)
   place-is = ap (λ (u : Totals). u .place) (g .totals) ∙ ap (λ (n : ℕ). rowPlace s n) rows-so-far
 
-  -- the answer with a number, at the run's place
+  -- the answer with a refusal number, at the run's place
   answered-by : (n k : ℕ) → answerOf (record { number = n; records = k; run = run }) ≡ answered (refusedAt (run .place) (soFar s run) n)
   answered-by n k =
       λ j. granted n
@@ -117,28 +117,28 @@ module _ {s : List ℕ} {run : Run} {array : List ℕ} (g : Going s run array) w
   pub ends : run .rows ≡ rowCount answer → replay s ≡ whole so-far
   ends e = all-the-rows s (g .accepted) ∙ ap (firstRows s) (sym e) ∙ whole-so-far s (run .rows) (g .none-refused)
 
-  -- and the run is the answer
+  -- where no row is left, the answer of the run is that of the replay
   pub ends-answered : (k : ℕ) → run .rows ≡ rowCount answer → answerOf (record { number = 0; records = k; run = run }) ≡ answered (replay s)
   ends-answered k e = answered-by g 0 k ∙ ap answered (sym (ends e))
 
   -- ## One row more
 
   module _ (more : run .rows < rowCount answer) where
-    -- its bytes are in the file
+    -- the bytes of the next row are in the file
     pub row-there : run .place + widthOf Rows ≤ length s
     row-there = rw (place-is g) (row-in-the-file s (run .rows) more .0)
 
     number-next : firstRows s (run .rows + 1) .number ≡ numberAt s (run .rows)
     number-next = next-number s (run .rows) more (g .none-refused)
 
-    -- where it runs, its records fit in the room of any row, two an effect
+    -- if the next row runs, its records fit in the room of any row, two an effect
     pub fits-any : Fits s (run .rows) mostRowBytes
     fits-any none = omega (arith, records-next s (g .accepted) (run .rows) more (sym number-next ∙ none), most-effects s (g .accepted))
 
-    -- ## What a caller has after it
+    -- ## What a caller knows after one row
 
     module _ {buf : List ℕ} {r : Turn} {array′ buf′ : List ℕ} (d : RowDone s run buf r array′ buf′) where
-      -- its records are few
+      -- the records of a row are few
       pub few-records : r .records ≤ mostRecords
       few-records =
           rw (d .records-are)
@@ -146,11 +146,11 @@ module _ {s : List ℕ} {run : Run} {array : List ℕ} (g : Going s run array) w
           (λ z. omega (arith, fits-any z))
           (λ k. omega arith))
 
-      -- without refusal the loop goes on, by one row
+      -- without refusal the loop goes on with the next row
       pub one-row : r .number ≡ 0 → r .run .rows ≡ run .rows + 1
       one-row z = d .rows-are ∙ granted-none (run .rows + 1) (λ n. run .rows) (firstRows s (run .rows + 1) .number) (sym (d .number-is) ∙ z)
 
-      -- a refusal is 9, at the row's first byte, and the replay is what the rows before have given
+      -- a refusal has refusal number 9, at the row's first byte, and the replay is what the rows before have given
       module _ (h : r .number ≡ 0 → ⊥) where
         refuses : numberAt s (run .rows) ≡ 0 → ⊥
         refuses z = h (d .number-is ∙ number-next ∙ z)
@@ -175,7 +175,7 @@ module _ {s : List ℕ} {run : Run} {array : List ℕ} (g : Going s run array) w
             ∙ (λ j. answered (refusedAt (r .run .place) (firstRows s (unchanged j) .replay) (stops-number j)))
             ∙ ap answered (sym stops)
 
-    -- ## What the code reads and computes of it
+    -- ## What the code reads and computes of a row
 
     module _ (row : Row) (is : row ≡ rowAt s (run .place)) (v : ℕ) (number-is : v ≡ scansNumber (run .mark .«scans_done») (row .hold)) where
       row-is : row ≡ rowOf s (run .rows)
@@ -206,13 +206,13 @@ module _ {s : List ℕ} {run : Run} {array : List ℕ} (g : Going s run array) w
         board-is : boardAt (run .mark) array ≡ boardOf (st .count) (startOf (so-far .state))
         board-is = ap (λ (u : Totals). u .board) (g .totals)
 
-        -- the words show the slots of the state
+        -- the words of the state show its slots
         slots-shown : slotsOf (st .count) (tableOf (st .count) (so-far .state .slots)) ≡ so-far .state .slots
         slots-shown =
             let x = sound s (g .accepted) (run .rows) in
             shows st (so-far .state) (x .state) (x .slots) (settings-right s (g .accepted))
 
-        -- so they show the state
+        -- the run's words show the state
         state-is : keptState st (run .mark) array ≡ so-far .state
         state-is = ap (reachedBy (st .count)) board-is ∙ (λ j. record { «scans_done» = so-far .state .«scans_done»; next = so-far .state .next; slots = slots-shown j })
 
@@ -228,7 +228,7 @@ module _ {s : List ℕ} {run : Run} {array : List ℕ} (g : Going s run array) w
             right-input-is-accepted st row (keptState st (run .mark) array) (settings-right s (g .accepted)) (rw state-is (sound s (g .accepted) (run .rows) .state))
             (rw row-is (row-right s (g .accepted) (run .rows) more)) (limit-kept (run .mark .«scans_done» + row .hold) mostScans 8 (sym number-is ∙ z))
 
-        -- it can run, with its records in the room of the row's
+        -- the row can run, if there is room for its records
         pub row-runs : (room : ℕ) → Fits s (run .rows) room → Runs st (run .plan) row (run .mark) array room
         row-runs room f =
             let table = ap (λ (b : Board). b .table) board-is in
@@ -255,7 +255,7 @@ module _ {s : List ℕ} {run : Run} {array : List ℕ} (g : Going s run array) w
           exercised-is : row .hold * one (ran .exercised) ≡ given .exercised
           exercised-is = x .exercised ∙ ap (λ (r : Stepped). r .exercised) run-is
 
-          -- the counts stay small
+          -- the sums after the row stay small
           pub sums : SmallSums run (row .hold) ran
           sums =
               let kept = sound-next s (g .accepted) (run .rows) more none in
@@ -330,7 +330,7 @@ module _ {s : List ℕ} {run : Run} {array : List ℕ} (g : Going s run array) w
                     ∙ sym (granted-none (sets buf 0 (bytes (given .events))) (λ k. buf) n zero-is);
               }
 
--- ## What a caller has after some rows
+-- ## What a caller knows after some rows
 
 module _ {s : List ℕ} {run : Run} {until : ℕ} {keep : Bool} {buf : List ℕ} {r : Turn} {array′ buf′ : List ℕ} (d : RowsDone s run until keep buf r array′ buf′) where
   pub answered-until : until ≤ rowCount (reading s .answer) → answerOf r ≡ answered (firstRows s until)
@@ -349,7 +349,7 @@ module _ {s : List ℕ} {run : Run} {until : ℕ} {keep : Bool} {buf : List ℕ}
     all-rows : firstRows s until ≡ replay s
     all-rows = ap (firstRows s) all ∙ sym (all-the-rows s (d .going .accepted))
 
-    -- its records are those of the whole file
+    -- after all rows, the number of records is that of the whole file
     pub counted-all : r .run .records ≡ length (replay s .replay .events)
     counted-all =
         records-so-far (d .going)
@@ -357,11 +357,11 @@ module _ {s : List ℕ} {run : Run} {until : ℕ} {keep : Bool} {buf : List ℕ}
         ∙ sym (ap (λ (o : Outcome). length (o .replay .events)) (told s until (omega (arith, all))))
         ∙ ap (λ (o : Outcome). length (o .replay .events)) all-rows
 
-    -- the answer is that of the whole file
+    -- after all rows, the answer is that of the whole file
     pub answered-all : answerOf r ≡ answered (replay s)
     answered-all = answered-until (omega (arith, all)) ∙ ap answered all-rows
 
-    -- and the records that were kept from the first row on are all
+    -- after all rows, the records that were kept from the first row on are those of the whole file
     pub kept-all : keep ≡ true → run .rows ≡ 0 → buf′ ≡ sets buf 0 (bytes (replay s .replay .events))
     kept-all kept none =
         let n : until - run .rows ≡ until = omega (arith, none) in

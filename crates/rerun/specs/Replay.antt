@@ -1,5 +1,5 @@
 -- A whole recording, replayed from a fresh state: row after row, each a held run. Document 01, "One session, whole" and, for
--- 9, "Refusal numbers".
+-- refusal number 9, "Refusal numbers".
 use Prim.Native.Nat.{ℕ, zero, suc, _+_}
 use mathlib.Core.List.{List, [], _∷_, _++_}
 use lib.ListN.{getD, length, take}
@@ -17,7 +17,7 @@ use Rattle.recording.specs.Reader.{reading}
 use Rattle.recording.specs.Steps.{rowsOf}
 use Rattle.rerun.specs.declared.Replayed.{Replayed}
 
--- what the rows so far have given; the scans done are the state's
+-- what the rows so far have given; the state has the scans done
 pub record Replay : Type 0 where
   pub state : State
   pub rows : ℕ
@@ -28,7 +28,7 @@ pub record Replay : Type 0 where
 abbrev pub started : Replay
 started = record { state = fresh; rows = 0; events = []; live = 0; exercised = 0 }
 
--- one row more, which ran so
+-- what the rows have given with one row more, whose run gave `ran`
 abbrev pub joined : Replay → Stepped → Replay
 joined r ran =
     record {
@@ -42,7 +42,7 @@ joined r ran =
 abbrev pub afterRow : Settings → Row → Replay → Replay
 afterRow st row r = joined r (run st row (r .state))
 
--- what a replay comes to: 0 and 0 where every row was replayed, or the refusal's number and place, and what the rows before
+-- what a replay results in: 0 and 0 where every row was replayed, or the refusal number and its place; and what the rows before
 -- it have given
 pub record Outcome : Type 0 where
   pub number : ℕ
@@ -55,18 +55,18 @@ whole r = record { number = 0; place = 0; replay = r }
 abbrev pub refusedAt : ℕ → Replay → ℕ → Outcome
 refusedAt at r n = record { number = n; place = at; replay = r }
 
--- the rows from `at` on, each `width` bytes: 9 at the first byte of the row whose scans cannot be counted. Settings, rows and state are
--- right here, so that of a held run's numbers no other can come (`a-row-is-refused-by-9-alone`, proofs/Theorems)
+-- the rows from `at` on, each `width` bytes: refusal number 9 at the first byte of the row whose scans cannot be counted. Settings, rows
+-- and state are valid here, so no other refusal number of a held run can occur (`a-row-is-refused-by-9-alone`, proofs/Theorems)
 abbrev pub rowsFrom : Settings → (width at : ℕ) → List Row → Replay → Outcome
 rowsFrom st width at [] r = whole r
 rowsFrom st width at (row ∷ rows) r =
     granted (scansNumber (r .state .«scans_done») (row .hold)) (rowsFrom st width (at + width) rows (afterRow st row r)) (refusedAt at r)
 
--- these rows of a file, from its first row's place
+-- these rows of a file, replayed from its first row's place
 abbrev pub replayRows : List ℕ → List Row → Outcome
 replayRows s rows = rowsFrom (reading s .settings) (rowWidth (reading s .answer)) (firstRow (reading s .answer)) rows started
 
--- an accepted file: all its rows; a refused one: the reader's number and place, and nothing has run
+-- an accepted file: all its rows; a refused one: the reader's refusal number and place, and nothing has run
 unfoldable pub replay : List ℕ → Outcome
 replay s = granted (number (reading s .answer)) (replayRows s (rowsOf s)) (refusedAt (place (reading s .answer)) started)
 
@@ -85,7 +85,7 @@ counts r =
       exercised = r .exercised;
     }
 
--- a refusal returns its number, a place, and zeros; what the rows before 9 have given is in the listing alone
+-- a refusal gives its refusal number, a place, and zeros; what the rows before refusal number 9 have given is in the listing alone
 abbrev pub refusal : (place number : ℕ) → Replayed
 refusal place number = record { number = number; place = place; records = 0; rows = 0; scans = 0; live = 0; exercised = 0 }
 
@@ -94,7 +94,7 @@ answered o = granted (o .number) (counts (o .replay)) (refusal (o .place))
 
 -- ## Row by row
 
--- what the first i rows of an accepted file come to
+-- what the first i rows of an accepted file result in
 unfoldable pub firstRows : List ℕ → ℕ → Outcome
 firstRows s i = replayRows s (take i (rowsOf s))
 
@@ -110,7 +110,7 @@ abbrev pub eventsOf : List ℕ → ℕ → List Event
 eventsOf s zero = []
 eventsOf s (suc i) = eventsOf s i ++ rowRun s i .events
 
--- the scans of all rows
+-- the sum of the holds of all rows
 abbrev pub sumOfHolds : List Row → ℕ
 sumOfHolds [] = 0
 sumOfHolds (row ∷ rows) = row .hold + sumOfHolds rows

@@ -1,4 +1,4 @@
--- What the code carries from row to row, and what one row more comes to. No entry point's contract
+-- What the code carries from row to row, and what one row more results in. No entry point's contract
 -- cites this page.
 use Prim.Native.Nat.{ℕ, zero, suc, _+_, _-_, _*_, _/_, _≤_, _<_}
 use mathlib.Core.Bool.{Bool, cond}
@@ -36,7 +36,7 @@ pub record Totals : Type 0 where
   pub live : ℕ
   pub exercised : ℕ
 
--- of n effects
+-- the totals of n effects, with the next row at this place
 abbrev pub totalsAt : (n place : ℕ) → Replay → Totals
 totalsAt n place r =
     record {
@@ -48,11 +48,11 @@ totalsAt n place r =
       exercised = r .exercised;
     }
 
--- in a file
+-- the totals in a file
 abbrev pub totalsOf : List ℕ → Replay → Totals
 totalsOf s r = totalsAt (reading s .settings .count) (rowPlace s (r .rows)) r
 
--- as the code carries them, with the array that is lent beside
+-- the totals as the code carries them, with the array that is lent beside
 abbrev pub totalsIn : Run → (array : List ℕ) → Totals
 totalsIn run array =
     record {
@@ -81,7 +81,7 @@ pub record Begun : Type 0 where
   pub run : Run
   pub board : List ℕ
 
--- by the settings, and the rows' number, first place and width
+-- a run that begins with these settings, and with this number of rows, first row's place and width of a row
 pub record Begins (st : Settings) (rows first width : ℕ) (r : Begun) : Type 0 where
   pub wired : Wired st (r .run .plan) (r .board)
   pub wide : r .run .width ≡ width
@@ -104,11 +104,11 @@ pub record RowReady (s : List ℕ) (run : Run) (array : List ℕ) (room : ℕ) :
 abbrev pub recordsOf : List ℕ → ℕ → ℕ
 recordsOf s i = granted (firstRows s (i + 1) .number) (length (rowRun s i .events)) (λ n. 0)
 
--- the lent bytes after it, whose records go to a place
+-- the lent bytes after row i, whose records go to a place
 abbrev pub rowInto : List ℕ → (i at : ℕ) → List ℕ → List ℕ
 rowInto s i at buf = granted (firstRows s (i + 1) .number) (sets buf at (bytes (rowRun s i .events))) (λ n. buf)
 
--- what row number run .rows comes to; a refused row leaves the run as it was: its place is the row's first byte
+-- what row number run .rows results in; a refused row leaves the run as it was: its place is the row's first byte
 pub record RowDone (s : List ℕ) (run : Run) (buf : List ℕ) (r : Turn) (array′ buf′ : List ℕ) : Type 0 where
   pub number-is : r .number ≡ firstRows s (run .rows + 1) .number
   pub records-are : r .records ≡ recordsOf s (run .rows)
@@ -116,7 +116,7 @@ pub record RowDone (s : List ℕ) (run : Run) (buf : List ℕ) (r : Turn) (array
   pub rows-are : r .run .rows ≡ granted (firstRows s (run .rows + 1) .number) (run .rows + 1) (λ n. run .rows)
   pub laid : buf′ ≡ rowInto s (run .rows) 0 buf
 
--- the run after a row of this hold that ran so
+-- the run after a row of this hold, whose run resulted in `ran`
 abbrev pub runAfter : Run → (hold : ℕ) → Struck → Run
 runAfter run hold ran =
     record {
@@ -131,7 +131,7 @@ runAfter run hold ran =
       exercised = run .exercised + hold * one (ran .exercised);
     }
 
--- whose sums are no more than the scans that are counted, which every number of the code can hold
+-- the sums of the run after a row are at most the scans that can be counted, so every integer of the code can hold them
 pub record SmallSums (run : Run) (hold : ℕ) (ran : Struck) : Type 0 where
   pub place : run .place + run .width ≤ mostScans
   pub rows : run .rows ≤ mostScans
@@ -141,7 +141,7 @@ pub record SmallSums (run : Run) (hold : ℕ) (ran : Struck) : Type 0 where
 
 -- ## Some rows
 
--- where the records of a row go, after so many
+-- where the records of a row go, after so many records
 abbrev pub placeOf : (keep : Bool) → (records : ℕ) → ℕ
 placeOf keep records = cond keep (recordLength * records) 0
 
@@ -151,7 +151,7 @@ rowsInto s keep i zero buf = buf
 rowsInto s keep i (suc n) buf =
     rowInto s (i + n) (placeOf keep (length (firstRows s (i + n) .replay .events))) (rowsInto s keep i n buf)
 
--- the room of all rows before one: that of their records where they are kept, one after the other, and else that of any one row
+-- the room that the rows before one need: that of all their records where they are kept, and else that of any one row
 abbrev pub roomOf : List ℕ → (until : ℕ) → (keep : Bool) → ℕ
 roomOf s until keep = cond keep (recordLength * length (firstRows s until .replay .events)) mostRowBytes
 
@@ -161,7 +161,7 @@ pub record RowsReady (s : List ℕ) (run : Run) (until : ℕ) (array : List ℕ)
   pub within : until ≤ rowCount (reading s .answer)
   pub fits : roomOf s until keep ≤ room
 
--- the rows before `until`, up to a refused one
+-- what the rows before `until`, up to a refused one, result in
 pub record RowsDone (s : List ℕ) (run : Run) (until : ℕ) (keep : Bool) (buf : List ℕ) (r : Turn) (array′ buf′ : List ℕ) : Type 0 where
   pub number-is : r .number ≡ firstRows s until .number
   pub records-are : r .records ≡ 0
@@ -171,7 +171,7 @@ pub record RowsDone (s : List ℕ) (run : Run) (until : ℕ) (keep : Bool) (buf 
 
 -- ## The answer
 
--- of rows that all ran
+-- the answer for rows that all ran
 abbrev pub countsIn : Run → Replayed
 countsIn run =
     record {
@@ -184,10 +184,10 @@ countsIn run =
       exercised = run .exercised;
     }
 
--- of a replay that ended so
+-- the answer of a replay that ended with this turn
 abbrev pub answerOf : Turn → Replayed
 answerOf t = granted (t .number) (countsIn (t .run)) (refusal (t .run .place))
 
--- where a replay stops: its number and place alone
+-- where a replay stops: its refusal number and place alone
 abbrev pub stopOf : Outcome → Stop
 stopOf o = record { number = o .number; place = o .place }

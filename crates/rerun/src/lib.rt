@@ -1,8 +1,8 @@
 // A whole recording, replayed row by row from a fresh state. Document 01, "One session, whole". What the reader has checked
-// is not checked again: settings and rows are right, and so is every state that a replay comes to.
+// is not checked again: settings and rows are valid, and so is every state that a replay reaches.
 // It rests on `recording` for the reader, on `layout` for the rows and on `block` for the runs. What is carried from row to row (`Run`,
-// and the array that is lent beside it) may change without moving the contract of `replay`; callers that go row by row see it through `Going`
-// and the laws of proofs/Turns alone.
+// and the array that is lent beside it) may change without moving the contract of `replay`. A caller that replays row by row uses only
+// `Going` and the laws of proofs/Turns.
 ghost use mathlib.Core.Path.{_≡_};
 ghost use Prim.Native.Nat.{_≤_};
 ghost use lib.ListN.{length, replicate};
@@ -17,7 +17,7 @@ use recording::Answer;
 use settings::Settings;
 use wiring::Struck;
 
-// What is carried from row to row: what stays the same, how far the effects have come, the width and number of the file's rows, the
+// What is carried from row to row: what stays the same, how far the effects have got, the width and number of the file's rows, the
 // place of the next row, and what the rows so far have given. Associations, delays, timers and first-outs are in one array that is
 // lent beside it and changed in place.
 pub struct Run {
@@ -32,15 +32,15 @@ pub struct Run {
     pub exercised: u32,
 }
 
-// What one row more, or some, come to: 0 and the run after them; or 9 and the run before the row that is refused, whose place is that
-// row's first byte. records: those of the last row.
+// What one row more, or some rows, result in: 0 and the run after them; or refusal number 9 and the run before the row that is refused,
+// whose place is that row's first byte. records: the number of records of the one row; 0 after some rows.
 pub struct Turn {
     pub number: u8,
     pub records: usize,
     pub run: Run,
 }
 
-// What a whole file comes to: 0, 0 and what its rows have given; or the refusal's number and place, and zeros.
+// What a whole file results in: 0, 0 and what its rows have given; or the refusal number, its place, and zeros.
 pub struct Replayed {
     pub number: u8,
     pub place: usize,
@@ -51,7 +51,7 @@ pub struct Replayed {
     pub exercised: u32,
 }
 
-// Where a replay stops: 0 and 0 where every row is replayed, or the refusal's number and place.
+// Where a replay stops: 0 and 0 where every row is replayed, or the refusal number and its place.
 pub struct Stop {
     pub number: u8,
     pub place: usize,
@@ -59,7 +59,7 @@ pub struct Stop {
 
 // ---- row by row
 
-// A replay before its first row, by what the reader has answered: the run, and the array, which is 0 before.
+// The run before the first row, from what the reader has answered. The array has to be 0 before.
 pub fn begin(st: Settings, rows: u16, first: usize, width: usize, board: &mut [u32; 64]) -> Run
     requires { ⌜ (st .count ≤ 16) × (now board ≡ replicate arrayLength 0) ⌝ }
     ensures { λ r. ⌜ Begins st rows first width (record { run = r; board = now (board .exit) }) ⌝ }
@@ -79,7 +79,7 @@ pub fn begin(st: Settings, rows: u16, first: usize, width: usize, board: &mut [u
     }
 }
 
-// The run after a row of this hold that ran so.
+// The run after a row of this hold, whose run resulted in `ran`.
 fn after_row(run: Run, hold: u32, ran: Struck) -> Run
     requires { ⌜ SmallSums run hold ran ⌝ }
     ensures { λ r. ⌜ r ≡ runAfter run hold ran ⌝ }
@@ -99,7 +99,7 @@ fn after_row(run: Run, hold: u32, ran: Struck) -> Run
     }
 }
 
-// One row more: the one at the run's place. Its records go to the front of `buf`.
+// Replays one row more, the one at the run's place. Its records go to the front of `buf`.
 pub fn row(s: &[u8], run: Run, board: &mut [u32; 64], buf: &mut [u8]) -> Turn
     requires { ⌜ RowReady (now s) run (now board) (length (now buf)) ⌝ }
     ensures { λ r. ⌜ RowDone (now (s .entry)) run (now (buf .entry)) r (now (board .exit)) (now (buf .exit)) ⌝ }
@@ -124,7 +124,7 @@ pub fn row(s: &[u8], run: Run, board: &mut [u32; 64], buf: &mut [u8]) -> Turn
     }
 }
 
-// Where the records of the next row go: after those so far where they are kept, else over them.
+// Where the records of the next row go: after those so far if they are kept, else over them.
 fn place_of(keep: bool, records: u32) -> usize
     ensures { λ r. ⌜ r ≡ placeOf keep records ⌝ }
 {
@@ -135,10 +135,9 @@ fn place_of(keep: bool, records: u32) -> usize
     }
 }
 
-// The rows from the one that the run has come to, before row `until` or up to one that is refused. Their records go to the front of
-// `buf`, one after the other, if they are to be kept; else each row's go over those of the row before. A caller starts at the
-// beginning, stops at a row and goes on. This is the one loop that runs rows without text, so that all below it is compiled
-// into it.
+// Replays the rows from the run's next one to the one before `until`, or up to one that is refused. Their records go to the front of
+// `buf`, one after the other, if they are to be kept; else the records of each row go over those of the row before. A caller may stop
+// at a row and go on from there. This is the one loop that runs rows without text, so that all below it is compiled into it.
 pub fn go(s: &[u8], run: Run, until: u32, board: &mut [u32; 64], buf: &mut [u8], keep: bool) -> Turn
     requires { ⌜ RowsReady (now s) run until (now board) (length (now buf)) keep ⌝ }
     ensures { λ r. ⌜ RowsDone (now (s .entry)) run until keep (now (buf .entry)) r (now (board .exit)) (now (buf .exit)) ⌝ }
@@ -160,9 +159,9 @@ pub fn go(s: &[u8], run: Run, until: u32, board: &mut [u32; 64], buf: &mut [u8],
     }
 }
 
-// ---- where it stops
+// ---- where a replay stops
 
-// Where the rows of an accepted file stop, known before any of them is run: the scans done are the holds so far.
+// Where the rows of an accepted file stop. This is known before any of them is run: the scans done are the sum of the holds so far.
 pub fn stop_of(s: &[u8], rows: u16, first: usize, width: usize) -> Stop
     requires { ⌜ reading (now s) .answer ≡ Accepted rows first width ⌝ }
     ensures { λ r. ⌜ r ≡ stopOf (wholeReplay (now (s .entry))) ⌝ }
@@ -191,7 +190,7 @@ pub fn stop_of(s: &[u8], rows: u16, first: usize, width: usize) -> Stop
 
 // ---- a whole file
 
-// A refusal: its number, its place and zeros.
+// A refusal: its refusal number, its place and zeros.
 pub fn refused(number: u8, place: usize) -> Replayed
     ensures { λ r. ⌜ r ≡ refusal place number ⌝ }
 {
@@ -222,7 +221,7 @@ fn counts_of(run: Run) -> Replayed
     }
 }
 
-// The answer of a replay that ended so: what its rows have given, or the refusal at the row after them.
+// The answer of a replay that ended with this turn: what its rows have given, or the refusal of the row after them.
 pub fn answer_of(turn: Turn) -> Replayed
     ensures { λ r. ⌜ r ≡ answerOf turn ⌝ }
 {
@@ -233,7 +232,7 @@ pub fn answer_of(turn: Turn) -> Replayed
     refused(turn.number, run.place)
 }
 
-// A file that the reader accepted.
+// Replays a file that the reader accepted.
 fn replay_accepted(s: &[u8], st: Settings, rows: u16, first: usize, width: usize) -> Replayed
     requires { ⌜ (reading (now s) .answer ≡ Accepted rows first width) × (st ≡ reading (now s) .settings) ⌝ }
     ensures { λ r. ⌜ r ≡ answered (wholeReplay (now (s .entry))) ⌝ }
@@ -245,7 +244,7 @@ fn replay_accepted(s: &[u8], st: Settings, rows: u16, first: usize, width: usize
     answer_of(end)
 }
 
-// Replays a whole recording: what it gave, or its refusal. Its records go nowhere.
+// Replays a whole recording, and answers what its rows gave, or the refusal. The records are not kept.
 pub fn replay(s: &[u8]) -> Replayed
     ensures { λ r. ⌜ r ≡ answered (wholeReplay (now (s .entry))) ⌝ }
 {

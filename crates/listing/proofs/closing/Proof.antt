@@ -1,4 +1,4 @@
--- `listing::closing` meets its contract: nothing where the buffer is full, and else the closing.
+-- `listing::closing` meets its contract: it puts nothing where the buffer is full, and else the closing.
 use native.Mathlib.Omega.{arith}
 use denote.Ref.{now}
 use borrow.Author.Needs.{needs}

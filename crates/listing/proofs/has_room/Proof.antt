@@ -1,4 +1,4 @@
--- `listing::has_room` meets its contract: by its two ways.
+-- `listing::has_room` meets its contract: by the two cases of its test.
 use Rattle.listing.proofs.Placing.{too-short, less-a-piece}
 use Rattle.listing.proofs.has_room.Statement.{statement}
 use Rattle.listing.proofs.has_room.Tie as tie

@@ -1,4 +1,4 @@
--- `listing::opening` meets its contract: nothing where the buffer is full, and else the opening.
+-- `listing::opening` meets its contract: it puts nothing where the buffer is full, and else the opening.
 use native.Mathlib.Omega.{arith}
 use denote.Ref.{now}
 use borrow.Author.Needs.{needs}

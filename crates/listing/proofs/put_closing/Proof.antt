@@ -1,4 +1,4 @@
--- `listing::put_closing` meets its contract: by the two ways of its test.
+-- `listing::put_closing` meets its contract: by the two cases of its test.
 use borrow.Author.Needs.{needs}
 use Rattle.settings.proofs.Refusals.{granted-refused}
 use Rattle.listing.specs.Listing.{closing}

@@ -1,4 +1,4 @@
--- `listing::put_opening` meets its contract: by the two answers of the reader, and the number of a refusal.
+-- `listing::put_opening` meets its contract: by the two cases of the reader's answer, and by the refusal number.
 use mathlib.Core.Path.{_≡_}
 use Prim.Native.Nat.{ℕ}
 use borrow.Author.Needs.{needs}

@@ -1,4 +1,4 @@
--- `listing::row` meets its contract: nothing where the buffer is full, and else the lines of the records that the row leaves.
+-- `listing::row` meets its contract: it puts nothing where the buffer is full, and else the lines of the records that the row leaves.
 use Prim.Native.Nat.{_+_, _≤_}
 use native.Mathlib.Omega.{arith}
 use denote.Ref.{now}

@@ -1,10 +1,10 @@
--- `rerun::after_row` meets its contract: its sums fit, and are the definition's.
+-- `rerun::after_row` meets its contract: its sums fit, and are those of the definition.
 use native.Mathlib.Omega.{arith}
 use borrow.Author.Needs.{needs}
 use Rattle.rerun.proofs.after_row.Statement.{statement}
 use Rattle.rerun.proofs.after_row.Tie as tie
 
--- where the effects' words are ready for the next row, from where the live scans are summed
+-- from where the live scans are summed, back to where the effects' words are ready for the next row
 abbrev ready : tie.After-struct-known6 → tie.After-begin
 ready k = k .before .before .before .before .before .before
 

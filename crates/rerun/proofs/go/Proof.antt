@@ -1,4 +1,4 @@
--- `rerun::go` meets its contract: the loop's invariant is what `Passed` says, and the laws of `Passing` are those of its turns.
+-- `rerun::go` meets its contract: `Passed` is the loop's invariant, and the laws of `Passing` are those of its turns.
 use Prim.Native.Nat.{_-_}
 use native.Mathlib.Omega.{arith}
 use borrow.Author.Needs.{needs}
@@ -13,14 +13,14 @@ Inv-loop s until board₀ buf₀ keep t₀ board buf t = Passed s t₀ until kee
 abbrev μ-loop : tie.MeasureT-loop
 μ-loop s until board₀ buf₀ keep t₀ board buf t = until - t .rows
 
--- the start, from a turn of the loop
+-- from a turn of the loop, back to the start
 abbrev start : tie.At-loop Inv-loop μ-loop → tie.Start Inv-loop μ-loop
 start k = k .before .before .before
 
 loop-holds : tie.Need-loop-holds Inv-loop μ-loop
 loop-holds c = passing.begins (c .before .before .pre)
 
--- the turn, from where the place of its records is known
+-- from where the place of the records is known, back to the turn
 abbrev turn : tie.After-place-of Inv-loop μ-loop → tie.At-loop Inv-loop μ-loop
 turn k = k .before .before .before
 

@@ -1,4 +1,4 @@
--- `rerun::replay` meets its contract: a file is accepted, and its rows are replayed, or refused, and nothing is.
+-- `rerun::replay` meets its contract: an accepted file has its rows replayed, and a refused one has none.
 use mathlib.Core.Path.{sym, ap, _∙_}
 use borrow.Author.Needs.{needs}
 use denote.Ref.{now}

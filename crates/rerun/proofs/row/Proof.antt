@@ -1,4 +1,4 @@
--- `rerun::row` meets its contract: the row that stands at the run's place is the next one, and its turn is the definition's.
+-- `rerun::row` meets its contract: the row that stands at the run's place is the next one, and its turn is that of the definition.
 use borrow.Author.Needs.{needs}
 use denote.Ref.{now}
 use lib.ListN.{length}
@@ -11,7 +11,7 @@ use Rattle.rerun.proofs.row.Tie as tie
 row-at-requires : tie.Need-row-at-requires
 row-at-requires c κs = let p = c .before .before .pre in row-there (p .going) (p .more)
 
--- the start, from where the row's number is known
+-- from where the row's refusal number is known, back to the start
 abbrev start : tie.After-scans-number → tie.Start
 start k = k .before .before .before .before .before
 

@@ -21,7 +21,7 @@ loop-holds c =
     let a = c .before .args in
     (begins (now (a .s)) (a .rows) (a .first) (a .width) (c .before .pre), omega arith)
 
--- the turn of the loop has a row to take
+-- in a turn of the loop, a row is left
 more : (k : tie.In-loop Inv-loop μ-loop) → k .before .loop .passed < rowCount (reading (now (k .before .before .before .args .s)) .answer)
 more k = omega (arith, ap rowCount (k .before .before .before .pre), k .loop-test .taken)
 
