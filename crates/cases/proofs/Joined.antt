@@ -12,12 +12,12 @@ use Rattle.bits.proofs.Numbers.{sets-then}
 use Rattle.rules.specs.declared.Slot.{Slot}
 use Rattle.cases.specs.Answers.{slotBytes, hexByte, pairBytes, lineBytes}
 
--- a slot takes 7 bytes, an element like every other
+-- every slot takes 7 bytes
 pub length-slot : (x : Slot) → length (slotBytes x) ≡ 7
 unfolding slotBytes
 length-slot x = refl
 
--- digits, a space, and digits
+-- digits, a space and digits, stored one after the other, are a pair
 pub pair-is : (l l₁ l₂ l₃ : List ℕ) (at : ℕ) (a b : List ℕ) → l₁ ≡ sets l at (flatMap hexByte a) → l₂ ≡ sets l₁ (at + 2 * length a) (digits 1 32)
     → l₃ ≡ sets l₂ (at + 2 * length a + 1) (flatMap hexByte b) → l₃ ≡ sets l at (pairBytes a b)
 unfolding pairBytes
@@ -29,7 +29,7 @@ length-pair : (a b : List ℕ) → length (pairBytes a b) ≡ 2 * length a + 1 +
 unfolding pairBytes
 length-pair a b = rw length-append (omega (arith, length-flatMap hexByte 2 (λ x. refl) a, length-flatMap hexByte 2 (λ x. refl) b))
 
--- and what stands behind them
+-- a pair, and bytes stored behind it, are one run of stores
 pub line-is : (l l₁ l₂ : List ℕ) (n : ℕ) (a b x : List ℕ) → l₁ ≡ sets l 0 (pairBytes a b) → n ≡ 0 + 2 * length a + 1 + 2 * length b
     → l₂ ≡ sets l₁ n x → l₂ ≡ sets l 0 (pairBytes a b ++ x)
 line-is l l₁ l₂ n a b x p e q = sets-then l l₁ l₂ 0 n (pairBytes a b) x p (rw zero-add q) (omega (arith, length-pair a b))

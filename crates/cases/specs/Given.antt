@@ -12,7 +12,7 @@ use Rattle.settings.specs.declared.Settings.{Settings}
 use Rattle.block.specs.declared.State.{State}
 use Rattle.layout.specs.Entries.{effectAt}
 
--- cause count 1, options 1, period 2, effect count 1, and sixteen effects as in a recording
+-- settings: cause count 1, options 1, period 2, effect count 1, and sixteen effects as in a recording
 unfoldable pub settingsAt : List ℕ → ℕ → Settings
 settingsAt s at =
     record {
@@ -27,17 +27,17 @@ settingsAt s at =
 abbrev pub codeAt : List ℕ → ℕ → ℕ
 codeAt s at = min (numAt 1 s at) mostCode
 
--- slot i of those that stand from `at` on: state code 1, timer 4, first-out 2
+-- slot i of the slots that stand from `at` on: state code 1, timer 4, first-out 2
 pub record SlotAt (s : List ℕ) (at i : ℕ) (x : Slot) : Type 0 where
   pub state : code (x .state) ≡ codeAt s (at + 7 * i)
   pub timer : x .timer ≡ numAt 4 s (at + 7 * i + 1)
   pub first-out : x .«first_out» ≡ numAt 2 s (at + 7 * i + 5)
 
--- the first n of them
+-- the first n of the slots that stand from `at` on
 abbrev pub SlotsAt : List ℕ → (at n : ℕ) → List Slot → Type 0
 SlotsAt s at n xs = (i : ℕ) → i < n → SlotAt s at i (getD xs i noSlot)
 
--- scans done 4, next sequence number 2, and sixteen slots
+-- a state: scans done 4, next sequence number 2, and sixteen slots
 pub record StateAt (s : List ℕ) (at : ℕ) (x : State) : Type 0 where
   pub scans-done : x .«scans_done» ≡ numAt 4 s at
   pub next : x .next ≡ numAt 2 s (at + 4)

@@ -41,7 +41,7 @@ pub fn settings_at(s: &[u8], at: usize) -> Settings
 // The highest state code.
 const MOST_CODE: u8 = 5;
 
-// The state code that stands at `at`; a byte that is none is taken for the highest.
+// The state code that stands at `at`; a byte above the highest code is taken for the highest.
 fn code_at(s: &[u8], at: usize) -> u8
     requires { ⌜ at + 1 ≤ length (now s) ⌝ }
     ensures { λ r. ⌜ (r ≡ codeAt (now (s .entry)) at) × (r ≤ mostCode) ⌝ }
@@ -50,7 +50,7 @@ fn code_at(s: &[u8], at: usize) -> u8
     if code < MOST_CODE { code } else { MOST_CODE }
 }
 
-// Slot i of those that stand from `at` on.
+// Slot i of the slots that stand from `at` on.
 fn slot_at(s: &[u8], at: usize, i: usize) -> Slot
     requires { ⌜ (i < 16) × (at + 112 ≤ length (now s)) ⌝ }
     ensures { λ r. ⌜ SlotAt (now (s .entry)) at i r ⌝ }
@@ -95,7 +95,7 @@ pub fn state_at(s: &[u8], at: usize) -> State
 
 // ---- the lent buffer before the call
 
-// The room that stands at `at`, or `most` where it is more; with its bound, so that a caller need not show it.
+// The room that stands at `at`, at most `most`. The bound is in the contract, so that a caller need not show it.
 pub fn room_at(s: &[u8], at: usize, most: usize) -> usize
     requires { ⌜ at + 2 ≤ length (now s) ⌝ }
     ensures { λ r. ⌜ (r ≡ min (numAt 2 (now (s .entry)) at) most) × (r ≤ most) ⌝ }
@@ -133,7 +133,7 @@ fn put_slot(out: &mut [u8], at: usize, x: Slot)
     bits::put16(out, at + 5, x.first_out);
 }
 
-// The slots; with the number of their bytes, so that a caller need not show it. So does put_state.
+// Puts the slots. The contract also gives the number of their bytes, as that of put_state does, so that a caller need not show it.
 fn put_slots(out: &mut [u8], at: usize, xs: [Slot; 16])
     requires { ⌜ at + 112 ≤ length (now out) ⌝ }
     ensures { λ _. ⌜ now (out .exit) ≡ sets (now (out .entry)) at (flatMap slotBytes xs) ⌝ }
@@ -175,7 +175,7 @@ fn put_words(out: &mut [u8], effect: u16, latent: u16, records: usize)
     bits::put16(out, 127, (records % 65536) as u16);
 }
 
-// The 129 bytes that answer a scan, at the front of `out`.
+// Puts the 129 bytes that answer a scan at the front of `out`.
 pub fn put_answer(out: &mut [u8], r: Scanned)
     requires { ⌜ 129 ≤ length (now out) ⌝ }
     ensures { λ _. ⌜ now (out .exit) ≡ sets (now (out .entry)) 0 (answerBytes r) ⌝ }
@@ -229,7 +229,7 @@ fn put_pair(a: &[u8], b: &[u8], out: &mut [u8], at: usize) -> usize
     gap + 1 + 2 * b.len()
 }
 
-// Writes a line at the front of `out`, the digits of a, a space, those of b and a last byte, and answers its length.
+// Writes a line at the front of `out` (the digits of a, a space, the digits of b and a last byte), and answers its length.
 fn put_line(a: &[u8], b: &[u8], last: u8, out: &mut [u8]) -> usize
     requires { ⌜ 2 * length (now a) + 2 * length (now b) + 2 ≤ length (now out) ⌝ }
     ensures { λ r. ⌜ r ≡ 2 * length (now (a .entry)) + 2 * length (now (b .entry)) + 2 ⌝ }
@@ -240,14 +240,14 @@ fn put_line(a: &[u8], b: &[u8], last: u8, out: &mut [u8]) -> usize
     n + 1
 }
 
-// Writes such a line to standard output; false if it takes no more.
+// Writes a line, as put_line makes it, to standard output; false if standard output takes no more.
 fn write_line(a: &[u8], b: &[u8], last: u8, text: &[u8]) -> bool
     requires { ⌜ now text ≡ lineBytes (now a) (now b) last ⌝ }
 {
     io::write_all(1, text)
 }
 
-// Writes such a line at the front of `line`, and from there to standard output; false if it takes no more.
+// Makes a line at the front of `line`, and writes it to standard output; false if standard output takes no more.
 pub fn print_line(a: &[u8], b: &[u8], last: u8, line: &mut [u8]) -> bool
     requires { ⌜ 2 * length (now a) + 2 * length (now b) + 2 ≤ length (now line) ⌝ }
     ensures { λ _. ⌜ now (line .exit) ≡ sets (now (line .entry)) 0 (lineBytes (now (a .entry)) (now (b .entry)) last) ⌝ }

@@ -19,7 +19,7 @@ use Rattle.writing.specs.Writer.{after, rowPieceNumber, rowAfter}
 use Rattle.writing.proofs.Theorems.{written-as-read}
 use Rattle.demands.specs.Back.{writtenBack}
 
--- a piece that nothing refuses, in a buffer that it fills, is what stands there
+-- a piece that nothing refuses, in a buffer that it fills, is all that stands there
 filled : (n : ℕ) (piece out : List ℕ) → n ≡ 0 → length out ≡ length piece → after n piece out ≡ piece
 filled n piece out z e =
     let none : drop (length piece) out ≡ [] = rw e at (drop-length out) in

@@ -1,4 +1,4 @@
--- The demands hold: each field of their records from the law that says it.
+-- The demands hold: each field of their records follows from the law that says it.
 use mathlib.Core.Path.{_≡_, refl, sym, ap, _∙_}
 use mathlib.Core.Bool.{Bool, true, false}
 use mathlib.Core.List.{List}
@@ -141,12 +141,12 @@ demand-1 =
 
 -- ## Demand 2
 
--- a state of which all is right is not refused
+-- a valid state is not refused
 state-right : (st : Settings) (x : State) → stateOk st x ≡ true → stateNumber st x ≡ 0
 unfolding stateNumber
 state-right st x h = rw h
 
--- after as many steps as it has rows
+-- after as many steps as the recording has rows, a walk has ended
 ends : (s : RefT (List ℕ)) → let n = rowCount (reading (now s) .answer) in let w = walked n (startOf s .walk) in
     (ended (stepAt (now s) (rowPlace (now s) n)) ≡ true) × (ended (nextOf w) ≡ true) × (movedOn w ≡ w)
 ends s =

@@ -28,13 +28,13 @@ use Rattle.rerun.specs.Turn.{Totals, totalsIn, totalsOf, Going}
 ap₃ : {A B C D : Type 0} (g : A → B → C → D) {a a′ : A} {b b′ : B} {c c′ : C} → a ≡ a′ → b ≡ b′ → c ≡ c′ → g a b c ≡ g a′ b′ c′
 ap₃ {A} {B} {C} g {a} {a′} {b} {b′} {c} {c′} x y z = ap₂ (λ (p : B) (q : C). g a p q) y z ∙ ap (λ (p : A). g p b′ c′) x
 
--- two things that are lent
+-- two things that are lent are equal if each is
 pub lent : {xs ys us vs : List ℕ} → xs ≡ ys → us ≡ vs → _≡_ {A = List ℕ × List ℕ} (xs, us) (ys, vs)
 lent h k = ap₂ (λ (x u : List ℕ). (x, u)) h k
 
 -- ## An array is its parts
 
--- what stands from a place on is the part there, and what stands after it
+-- what stands from a place on is the part there, and then what stands after the part
 part-then : (at : ℕ) (xs : List ℕ) → drop at xs ≡ part at xs ++ drop (at + partLength) xs
 unfolding part
 part-then at xs = sym (take-append-drop partLength (drop at xs)) ∙ ap (λ (l : List ℕ). part at xs ++ l) (drop-drop partLength at xs)
@@ -47,7 +47,7 @@ parts-joined xs long =
     part-then delaysAt xs ∙ ap (λ (l : List ℕ). delaysIn xs ++ l) (part-then timersAt xs ∙ ap (λ (l : List ℕ). timersIn xs ++ l) last)
     )
 
--- so two arrays whose parts are the same are the same
+-- two arrays whose parts are equal are equal
 module _ {xs ys : List ℕ} (long : length xs ≡ arrayLength) (long′ : length ys ≡ arrayLength) where
   same-parts : associationsIn xs ≡ associationsIn ys → delaysIn xs ≡ delaysIn ys → timersIn xs ≡ timersIn ys → firstsIn xs ≡ firstsIn ys → xs ≡ ys
   same-parts a d t f =
@@ -57,11 +57,11 @@ module _ {xs ys : List ℕ} (long : length xs ≡ arrayLength) (long′ : length
 
   -- ## A mark and its array
 
-  -- timers and first-outs are the board's
+  -- a mark's array is determined by the board, which has its timers and first-outs, and by what the settings gave
   pub same-array : {x y : Mark} → boardAt x xs ≡ boardAt y ys → associationsIn xs ≡ associationsIn ys → delaysIn xs ≡ delaysIn ys → xs ≡ ys
   same-array e a d = same-parts a d (ap (λ (b : Board). b .table .timers) e) (ap (λ (b : Board). b .table .firsts) e)
 
--- and so is the mark
+-- a mark is determined by its board
 markOf : Board → Mark
 markOf b = record { «scans_done» = b .«scans_done»; next = b .next; at = b .at; live = b .live; planes = b .table .planes }
 
@@ -69,7 +69,7 @@ pub same-mark : {x y : Mark} (xs ys : List ℕ) → boardAt x xs ≡ boardAt y y
 unfolding markOf
 same-mark xs ys e = ap markOf e
 
--- where the board is that of the run that starts there, with its records and live scans beside
+-- a mark is determined by the board of the run that starts there, and by its records and live scans
 endedBy : Mark → (at live : ℕ) → Mark
 endedBy x at live = record { «scans_done» = x .«scans_done»; next = x .next; at = at; live = live; planes = x .planes }
 
@@ -77,7 +77,7 @@ pub same-end : {x y : Mark} (xs ys : List ℕ) → boardAt (begun x) xs ≡ boar
 unfolding endedBy
 same-end xs ys e at live = ap₃ endedBy (same-mark xs ys e) at live
 
--- ## By the settings
+-- ## What the settings determine
 
 module _ {st : Settings} {plan plan′ : Plan} {xs ys : List ℕ} (h : Wired st plan xs) (k : Wired st plan′ ys) where
   pub same-plan : plan ≡ plan′
@@ -88,7 +88,7 @@ module _ {st : Settings} {plan plan′ : Plan} {xs ys : List ℕ} (h : Wired st 
 
 -- ## A run of rows
 
--- what is carried of it: what the totals show, and three things beside
+-- a run of rows is what the totals show, and three things beside
 runBy : Totals → Plan → (width many : ℕ) → Run
 runBy t plan width many =
     record {
@@ -111,7 +111,7 @@ same-run {run} {run′} xs ys t p w m =
     ∙ ap (λ (v : Plan). runBy (totalsIn run′ ys) v (run .width) (run .«row_count»)) p
     ∙ ap₂ (λ (v n : ℕ). runBy (totalsIn run′ ys) (run′ .plan) v n) w m
 
--- two that have come equally far in one file
+-- two runs that have done equally many rows of one file are equal
 module _ {s : List ℕ} {run run′ : Run} {xs ys : List ℕ} (h : Going s run xs) (k : Going s run′ ys) (rows : run .rows ≡ run′ .rows) where
   totals : totalsIn run xs ≡ totalsIn run′ ys
   totals = h .totals ∙ ap (λ (n : ℕ). totalsOf s (firstRows s n .replay)) rows ∙ sym (k .totals)

@@ -1,4 +1,4 @@
--- The inner functions' contracts allow one answer only, where what they ask is met (`Unique` has the entry points, and says what
+-- The contracts of inner functions allow one answer only, where what they ask is met (`Unique` has the entry points, and says what
 -- `Learnt` is). Document 01, "What each contract has to exclude".
 use mathlib.Core.Path.{_≡_, refl, sym, ap, ap₂, _∙_}
 use mathlib.Core.List.{List}
@@ -235,7 +235,7 @@ cells-slots-of κs = by-equation (cells·slots-of.Learnt κs) _ (λ a r e h. h)
 pub engine-begin : (κs : Lfts 0) → Unique (engine·begin.Learnt κs) none
 engine-begin κs = by-equation (engine·begin.Learnt κs) _ (λ a r e h. h)
 
--- (two things are lent: the array, and then the buffer)
+-- two things are lent: the array, and then the buffer
 pub engine-stroke : (κs : Lfts 2) → Unique (engine·stroke.Learnt κs) (both (λ e. now (e .1 .0)) (λ e. now (e .0)))
 engine-stroke κs a r q e f h k =
     let shown = h .board ∙ sym (k .board) in (
@@ -252,9 +252,9 @@ plans-wire κs = by-equations (plans·wire.Learnt κs) (λ e. now (e .0)) (λ a.
 pub plans-plan-of : (κs : Lfts 0) → Unique (plans·plan-of.Learnt κs) none
 plans-plan-of κs = by-equation (plans·plan-of.Learnt κs) _ (λ a r e h. h)
 
--- ## What a row gives to them (`wiring`)
+-- ## What a row gives to the words of effects (`wiring`)
 
--- (the contract speaks for any settings by which the row can run, and there are some)
+-- the contract speaks of any settings with which the row can run, and there are some
 pub wiring-stroke : (κs : Lfts 2) → UniqueWhereAsked (wiring·stroke.Asked κs) (wiring·stroke.Learnt κs) (both (λ e. now (e .1 .0)) (λ e. now (e .0)))
 wiring-stroke κs a r q e f asked h k =
     let x = h (asked .st) (asked .runs) in

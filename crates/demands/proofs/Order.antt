@@ -1,4 +1,4 @@
--- The numbers that the crates below give are those of the tables: of the first case that applies.
+-- The refusal numbers that the crates below give are those of the tables: of the first case that applies.
 use mathlib.Core.Path.{_≡_, refl, ap, ap₂, sym, _∙_}
 use mathlib.Core.Bool.{Bool, true, false, cond, not, _&&_, _||_}
 use mathlib.Core.List.{List, [], _∷_, _++_}
@@ -31,17 +31,17 @@ use Rattle.demands.specs.Order.{Case, _when_, firstOf, InOrder, settings
 
 -- ## Any table
 
--- every case has a number, which is not 0
+-- every case has a refusal number that is not 0
 abbrev Numbered : List Case → Type 0
 Numbered [] = Unit {0}
 Numbered (c ∷ cs) = (0 < c .number) × Numbered cs
 
--- n is the number of this table
+-- n is the refusal number that this table gives
 pub record Table (n : ℕ) (cs : List Case) : Type 0 where
   pub first : n ≡ firstOf cs
   pub numbered : Numbered cs
 
--- a number that is given before others
+-- a refusal number that is not 0 is given before others
 given-first : (n m : ℕ) → 0 < n → n ≡ orElse n m
 given-first zero m h = absurd (omega arith)
 given-first (suc n) m h = refl
@@ -59,7 +59,7 @@ numbered-append : (xs ys : List Case) → Numbered xs → Numbered ys → Number
 numbered-append [] ys h k = k
 numbered-append (c ∷ cs) ys h k = (h .0, numbered-append cs ys (h .1) k)
 
--- one number or else another: one table and then the other
+-- one refusal number, or else another, is that of one table and then the other
 then : {a b : ℕ} {xs ys : List Case} → Table a xs → Table b ys → Table (orElse a b) (xs ++ ys)
 then {xs = xs} {ys = ys} s t =
     record { first = ap₂ orElse (s .first) (t .first) ∙ sym (first-append xs ys (s .numbered)); numbered = numbered-append xs ys (s .numbered) (t .numbered) }
@@ -76,25 +76,25 @@ not-leb a b = go (leb a b) refl
     go true e = let h = leb-true a b e in sym (le-ltb b a (omega arith))
     go false e = let h = leb-false a b e in sym (lt-ltb b a (omega arith))
 
--- a limit that is passed
+-- the check of a limit is a table of one case: the limit is passed
 beyond : (a most k : ℕ) → Table (unless (leb a most) (suc k)) (suc k when ltb most a ∷ [])
 beyond a most k = rw (← not-leb a most) (check (leb a most) k)
 
 -- ## An answer in order
 
--- what is granted where n is 0, and else refused by n, with the lent bytes as they were
+-- an answer is granted where n is 0, and else refused by n, with the lent bytes as they were
 module _ {A : Type 0} (num : A → ℕ) (yes : A) (no : ℕ → A) (left out : List ℕ) (none : num yes ≡ 0) (own : (k : ℕ) → num (no k) ≡ k) where
   pub granted-in-order : (n : ℕ) (cs : List Case) → Table n cs → let a = granted n yes no in
       InOrder cs (num a) ((a ≡ no (num a)) × (granted n left (λ k. out) ≡ out))
   granted-in-order zero cs t = record { first = none ∙ t .first; otherwise = λ h. absurd (h none) }
   granted-in-order (suc n) cs t = record { first = own (suc n) ∙ t .first; otherwise = λ h. (ap no (sym (own (suc n))), refl) }
 
--- a piece that the writer writes
+-- the writer's answer for a piece is in order
 pub piece-in-order : (n : ℕ) (piece out : List ℕ) (cs : List Case) → Table (orElse n (roomNumber (length piece) (length out))) cs
     → let a = written n piece (length out) in InOrder cs (writtenNumber a) ((writtenPlace a ≡ 0) × (writtenLength a ≡ 0) × (after n piece out ≡ out))
 piece-in-order n piece out cs t = record { first = written-number n piece (length out) ∙ t .first; otherwise = refused-piece n piece out }
 
--- ## Its parts
+-- ## The parts of the tables
 
 pub settings-in-order : (st : Settings) → Table (settingsNumber st) (settingsCases st)
 unfolding settingsNumber
@@ -124,7 +124,7 @@ scans-in-order x row = beyond (x .«scans_done» + row .hold) mostScans 8
 
 -- ## The order at each entry point
 
--- the input, and then the room for so many bytes
+-- the input is checked first, and then the room for so many bytes
 run-in-order : (st : Settings) (row : Row) (x : State) (due room : ℕ) → Table (orElse (inputNumber st x row) (roomNumber due room))
     (settingsCases st ++ stateCases st x ++ rowCases (knownOf st) row ++ scansCases x row ++ roomCases due room)
 unfolding inputNumber

@@ -1,4 +1,4 @@
--- One scan effect by effect, many scans by their last, and what makes a scan live or exercised.
+-- One scan, effect by effect; many scans, by their last; and what makes a scan live or exercised.
 use mathlib.Core.Path.{_≡_, refl, ap, ap₂, subst, sym, _∙_}
 use mathlib.Core.Bool.{Bool, true, false, not, _||_}
 use mathlib.Core.List.{List, [], _∷_, _++_, append-nil}
@@ -56,14 +56,14 @@ module _ (st : Settings) (w : Words) where
   unfolding after
   slot-past x i h = step-past ss (x .slots) i noSlot (omega (arith, count))
 
-  -- its bit of the latent word
+  -- the bit of effect i in the latent word
   pub latent-bit : (i : ℕ) → i < st .count → bitOf (latentWord ss) i ≡ isLatent (signalsOf st w i)
   latent-bit i h = bit-wordOf (λ j. isLatent (getD ss j noSignals)) (length ss) i (omega (arith, count)) ∙ ap isLatent (getD-tabulate (signalsOf st w) (st .count) i noSignals h)
 
   pub latent-inside : latentWord ss < 2 ^ st .count
   latent-inside = subst (λ (n : ℕ). latentWord ss < 2 ^ n) count (wordOf-lt (λ j. isLatent (getD ss j noSignals)) (length ss))
 
--- a scan of what is right, with room for its records, is granted
+-- a scan of valid input, with room for its records, is granted
 pub scan-granted : (st : Settings) (w : Words) (x : State) (out : List ℕ) → settingsNumber st ≡ 0 → stateNumber st x ≡ 0 → wordsNumber (knownOf st) w ≡ 0
     → x .«scans_done» + 1 ≤ mostScans → 12 * length (events st w x) ≤ length out
     → (scanOf st w x (length out) ≡ grantedScan st w x) × (scanInto st w x out ≡ atFront (events st w x) out)
@@ -77,7 +77,7 @@ scan-granted st w x out right state words scans fits =
 
 -- ## Many scans
 
--- right words with a hold of 1 to 1,000,000 are a right row
+-- valid words with a hold of 1 to 1,000,000 are a valid row
 pub row-accepted : (k : Known) (w : Words) (hold : ℕ) → wordsNumber k w ≡ 0 → 1 ≤ hold → hold ≤ mostHold → rowNumber k (record { hold = hold; words = w }) ≡ 0
 unfolding rowNumber
 row-accepted k w hold words some most = rw (le-leb 1 hold some, le-leb hold mostHold most, words)
@@ -93,7 +93,7 @@ or-true : (a : Bool) → (a || true) ≡ true
 or-true true = refl
 or-true false = refl
 
--- an effect whose state is another has moved, and one whose state is the same has not
+-- an effect whose state differs has moved, and one whose state is the same has not
 has-moved : (s : Signals) (x : Slot) → (next s x .state ≡ x .state → ⊥) → moved s x ≡ true
 has-moved s x h = go (same (next s x .state) (x .state)) refl
   where
@@ -147,7 +147,7 @@ module _ (st : Settings) (w : Words) where
   unfolding after
   live-no x h = none-moved (signals st w) (x .slots) (λ i l. h i (omega (arith, count st w, l)))
 
-  -- ## A single scan of what is right
+  -- ## A single scan of valid input
 
   pub scan-more : (y : Stepped) → settingsNumber st ≡ 0 → stateNumber st (y .state) ≡ 0 → wordsNumber (knownOf st) w ≡ 0 → y .state .«scans_done» + 1 ≤ mostScans
       → OneScanMore st w y (single st w (y .state)) (step st w y)

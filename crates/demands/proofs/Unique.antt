@@ -22,7 +22,7 @@ module _ {A R E : Type 0} where
   pub by-equation : (allows : A → R → E → Type 0) (result : A → R) → ((a : A) (r : R) (e : E) → allows a r e → r ≡ result a) → Unique allows none
   by-equation allows result is = by-equations allows none result none (λ a r e h. (is a r e h, refl))
 
--- so each contract of `EntryPoints` allows one answer only
+-- each contract of `EntryPoints` allows one answer only
 pub one-answer : {A R E B : Type 0} {asked : A → Type 0} {allows : A → R → E → Type 0} {result : A → R} {left : E → B} {leaves : A → B}
     → Gives asked allows result left leaves → Unique allows left
 one-answer {allows = allows} {result = result} {left = left} {leaves = leaves} g = by-equations allows left result leaves (g .says)
@@ -71,7 +71,7 @@ entry-points κ0 κ1 κ2 κ3 =
 pub answers : Answers
 answers = record { entry-points = entry-points; walk-calls = λ 𝓤 H A mem run κ1 κ2. record { start = λ a r e. (refl, refl); next = λ a r e. (refl, refl) } }
 
--- and what the clauses of a walk say allows one answer only
+-- the clauses of a walk allow one answer only
 pub walk-start : (κs : Lfts 1) → Unique (λ (a : Args walk.start.signature κs) (r : Res walk.start.signature κs) (e : AtExit walk.start.ended κs). r ≡ startOf (a .0)) none
 walk-start κs = by-equation _ _ (λ a r e h. h)
 

@@ -1,7 +1,7 @@
--- What a call of each entry point gives. Its contract asks nothing of a caller (`Asked`), and what a caller learns of the result and
--- of the parameters at exit (`Learnt`) is that they are those of the definitions named here. Rattle makes `Asked` and `Learnt` from the
+-- What a call of each entry point gives. Its contract asks nothing of a caller (`Asked`), and a caller learns that the result and
+-- the parameters at exit (`Learnt`) are those of the definitions named here. Rattle makes `Asked` and `Learnt` from the
 -- clauses in src/ and proves that they are what a call gives (`known` beside them), so this page is about the contracts themselves.
--- Arguments stand in the order of src/; what is behind the last is `_`. Document 01, "What each contract has to exclude".
+-- Arguments stand in the order of src/, and `_` is what follows the last. Document 01, "What each contract has to exclude".
 use mathlib.Core.Path.{_≡_}
 use mathlib.Core.Bool.{cond}
 use Prim.Native.Nat.{_-_, _^_}
@@ -100,15 +100,15 @@ pub record EntryPoints (κ0 : Lfts 0) (κ1 : Lfts 1) (κ2 : Lfts 2) (κ3 : Lfts 
   pub pick16 : Returns (bits.pick16.Reads.Asked κ0) (bits.pick16.Reads.Learnt κ0) (λ (b, (x, (y, _))). cond b x y)
   pub pick32 : Returns (bits.pick32.Reads.Asked κ0) (bits.pick32.Reads.Learnt κ0) (λ (b, (x, (y, _))). cond b x y)
 
--- `start` and `next` have no such reading, since a walk holds a reference. In every model of the logic their clauses ask nothing and are
--- the plain facts that follow
+-- `start` and `next` have no `Asked` and `Learnt`, because a walk holds a reference. In every model of the logic their clauses ask
+-- nothing and are the plain facts that follow
 pub record WalkCalls {M : Type 1} (𝓤 : URA M) (H : Heap 𝓤) (A : Atoms 𝓤) (mem : Memory → SProp 𝓤) (run : Routine → Fun 𝓤) (κ1 : Lfts 1) (κ2 : Lfts 2) : Type 2 where
   pub start : (a : Args walk.start.signature κ1) (r : Res walk.start.signature κ1) (e : AtExit walk.start.ended κ1) → let c = walk.start.clauses 𝓤 H A mem run κ1 a in
       (c .requires tt ≡ emp 𝓤) × (c .ensures tt r e ≡ fact 𝓤 (r ≡ startOf (a .0)))
   pub next : (a : Args walk.Walk.next.signature κ2) (r : Res walk.Walk.next.signature κ2) (e : AtExit walk.Walk.next.ended κ2) → let c = walk.Walk.next.clauses 𝓤 H A mem run κ2 a in
       (c .requires tt ≡ emp 𝓤) × (c .ensures tt r e ≡ fact 𝓤 ((r ≡ nextOf (now (a .0))) × (now (e .0) ≡ movedOn (now (a .0)))))
 
--- whatever is lent, and for however long
+-- what every entry point gives, whatever is lent, and for however long
 pub record Answers : Type 3 where
   pub entry-points : (κ0 : Lfts 0) (κ1 : Lfts 1) (κ2 : Lfts 2) (κ3 : Lfts 3) → EntryPoints κ0 κ1 κ2 κ3
   pub walk-calls : {M : Type 1} (𝓤 : URA M) (H : Heap 𝓤) (A : Atoms 𝓤) (mem : Memory → SProp 𝓤) (run : Routine → Fun 𝓤) (κ1 : Lfts 1) (κ2 : Lfts 2)

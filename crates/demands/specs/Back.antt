@@ -12,7 +12,7 @@ use Rattle.recording.specs.Steps.{rowsOf}
 use Rattle.recording.specs.Encode.{encode, opening, Right}
 use Rattle.writing.specs.Writer.{openingAfter, rowAfter}
 
--- a recording: the bytes of right settings and 1 to 2,048 right rows, section by section, nothing after the last
+-- a recording: the bytes of valid settings and 1 to 2,048 valid rows, section by section, nothing after the last
 abbrev pub Recording : List ℕ → Type 0
 Recording s = (st : Settings) × (rows : List Row) × Right st rows × (encode st rows ≡ s)
 

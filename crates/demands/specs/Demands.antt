@@ -1,6 +1,6 @@
--- What the user demanded, in the user's words and order: a record of propositions a demand. They are about the definitions that the
--- contracts of the entry points cite; that the contracts say so is `Answers`. `demand-1`, `demand-2` and `demand-3` (proofs/Demands)
--- prove them, so who believes the definitions need read no proof: docs/PROMISES.md lists them, "What has to be believed".
+-- What the user demanded, in the user's words and order: one record of propositions for each demand. They are about the definitions that
+-- the contracts of the entry points cite; that the contracts say so is `Answers`. `demand-1`, `demand-2` and `demand-3` (proofs/Demands)
+-- prove them, so a reader who believes the definitions need read no proof: docs/PROMISES.md lists them, "What has to be believed".
 mod Names
 use Names.*
 
@@ -15,20 +15,20 @@ pub record Demand1 : Type 3 where
   pub scan-refuses-in-order : (st : Settings) (w : Words) (x : State) (out : List ℕ) → let a = scanOf st w x (length out) in
       InOrder (scanCases st w x (length out)) (a .number)
       ((a ≡ record { number = a .number; place = 0; state = x; effect = 0; latent = 0; records = 0 }) × (scanInto st w x out ≡ out))
-  -- a held run (`State::held`)
+  -- a held run (`State::held`), of any settings, row, state and lent bytes
   pub held-refuses-in-order : (st : Settings) (row : Row) (x : State) (out : List ℕ) → let a = heldOf st row x (length out) in
       InOrder (heldCases st row x (length out)) (a .number)
       ((a ≡ record { number = a .number; place = 0; state = x; effect = 0; latent = 0; records = 0; live = 0; exercised = 0 }) × (heldInto st row x out ≡ out))
-  -- the reader (`read`), of any bytes: a refusal has the number and the place that `Refused` says of the bytes, and zeros; and each
-  -- case that `Refused` says is refused so
+  -- the reader (`read`), of any bytes: a refusal has the refusal number and the place that `Refused` says of the bytes, and zeros; and
+  -- each case of `Refused` is refused so
   pub reader-refuses-in-order : (s : List ℕ) → let n = number (reading s .answer) in let p = place (reading s .answer) in
       ((n ≡ 0 → ⊥) → (reading s ≡ refusal n p) × Refused s n p) × ((m q : ℕ) → Refused s m q → (n ≡ m) × (p ≡ q))
-  -- the writer (`write_opening`, `write_row`): place 0, and no byte
+  -- the writer (`write_opening`, `write_row`): a refusal has place 0, and touches no byte
   pub opening-refused-in-order : (st : Settings) (rows : ℕ) (out : List ℕ) → let a = openingWritten st rows (length out) in
       InOrder (openingCases st rows (length out)) (writtenNumber a) ((writtenPlace a ≡ 0) × (writtenLength a ≡ 0) × (openingAfter st rows out ≡ out))
   pub row-refused-in-order : (st : Settings) (row : Row) (out : List ℕ) → let a = rowWritten st row (length out) in
       InOrder (rowPieceCases st row (length out)) (writtenNumber a) ((writtenPlace a ≡ 0) × (writtenLength a ≡ 0) × (rowAfter st row out ≡ out))
-  -- what checks alone (`settings_number`, `words_number`, `row_number`), of any settings and anything known of them
+  -- the functions that only check (`settings_number`, `words_number`, `row_number`), of any settings and anything known of them
   pub settings-checked-in-order : (st : Settings) → settingsNumber st ≡ firstOf (settingsCases st)
   pub words-checked-in-order : (k : Known) (w : Words) → wordsNumber k w ≡ firstOf (wordsCases k w)
   pub row-checked-in-order : (k : Known) (row : Row) → rowNumber k row ≡ firstOf (rowCases k row)
@@ -36,17 +36,17 @@ pub record Demand1 : Type 3 where
   -- and stays as it is
   pub walk-has-ended : (w : Walk) → let s = now (w .bytes) in
       (Accepted s → ⊥) ⊎ ((i : ℕ) → i < rowCount (reading s .answer) → w .place ≡ rowPlace s i → ⊥) → (ended (nextOf w) ≡ true) × (movedOn w ≡ w)
-  -- and one that is started on refused bytes (`start`): the reader's refusal, and a walk that has ended
+  -- a walk that is started on refused bytes (`start`): the reader's refusal, and a walk that has ended
   pub start-has-ended : (s : RefT (List ℕ)) → (Accepted (now s) → ⊥) → let a = reading (now s) .answer in
       (startOf s .answer ≡ a) × Refused (now s) (number a) (place a) × (ended (nextOf (startOf s .walk)) ≡ true)
-  -- the row at a place (`row_step`), of any bytes and any place: where no row begins it has ended
+  -- the row at a place (`row_step`), of any bytes and any place: where no row begins, it has ended
   pub row-step-has-ended : (s : List ℕ) (at : ℕ) → ((i : ℕ) → i < rowCount (reading s .answer) → at ≡ rowPlace s i → ⊥) → ended (stepAt s at) ≡ true
-  -- a piece of a listing (`opening`, `closing`) in a buffer without room for any piece: it is full, and no byte is touched
+  -- a piece of a listing (`opening`, `closing`) in a buffer without room for any piece: the buffer is full, and no byte is touched
   pub full-buffer-is-left : (out : List ℕ) (at : ℕ) (text : List ℕ) → hasRoom (length out) at ≡ false
       → (written (length out) at text ≡ record { full = true; at = at }) × (placed out at text ≡ out)
-  -- a whole file (`replay`): a refused one gives the reader's number and place, and nothing has run; an accepted one is replayed whole,
-  -- or stops by 9 at the first byte of the row whose scans cannot be counted. Either refusal is answered with zeros: what the rows
-  -- before 9 have given stands in the listing alone
+  -- a whole file (`replay`): a refused one gives the reader's refusal number and place, and nothing has run; an accepted one is replayed
+  -- whole, or stops by refusal number 9 at the first byte of the row whose scans cannot be counted. Either refusal is answered with zeros:
+  -- what the rows before refusal number 9 have given stands in the listing alone
   pub replay-refuses-in-order : (s : List ℕ) → let o = replay s in let r = replay s .replay in let a = reading s .answer in
       ((Accepted s → ⊥) → o ≡ refusedAt (place a) started (number a))
       × (Accepted s
@@ -86,27 +86,27 @@ pub record ByTheRules (st : Settings) (w : Words) (x : State) (out : List ℕ) (
   pub effect-word : (i : ℕ) → i < st .count → bitOf (a .effect) i ≡ isOn (slot (a .state) i .state)
   pub latent-word : (i : ℕ) → i < st .count → bitOf (a .latent) i ≡ isLatent (signalsOf st w i)
   pub no-other-bit : (a .effect < 2 ^ st .count) × (a .latent < 2 ^ st .count)
-  -- the event records, and the bytes past the last as they were
+  -- the event records, and the bytes past the last record as they were
   pub records : (a .records ≡ length (events st w x)) × (after ≡ bytes (events st w x) ++ drop (12 * length (events st w x)) out)
-  -- the scans done, and the sequence number: one on for each record, and after 65,535 comes 0
+  -- the scans done, and the sequence number: one higher for each record, and after 65,535 comes 0
   pub scans-done : a .state .«scans_done» ≡ x .«scans_done» + 1
   pub sequence : a .state .next ≡ seqAfter (x .next) (signals st w) (x .slots)
 
 pub record Demand2 : Type 0 where
-  -- every slice of bytes has what `Bytes` says, each number below 256: a function that is lent one, and does nothing, learns it
+  -- `Bytes` holds of every slice of bytes, each number below 256: a function that is lent a slice, and does nothing, learns it
   pub slices-hold-bytes : (κ : Lfts 1) (s : RefT (List ℕ)) (e : _) → each-is-a-byte.Asked κ (s, tt) × (each-is-a-byte.Learnt κ (s, tt) tt e → Bytes (now s))
   -- bytes are accepted if and only if they are a recording
   pub accepts-exactly : (s : List ℕ) → Bytes s → Accepted s ↔ Recording s
-  -- and the answer is the settings and the rows that it is of
+  -- the answer to a recording is the settings and the rows of which it is made
   pub reads-what-is-there : (st : Settings) (rows : List Row) → Right st rows → AnswersOf (encode st rows) st rows
-  -- row by row: the step at each row's place gives it and the place of the next (`row_step`), and so do the steps of a walk (`start`, `next`)
+  -- row by row: the step at a row's place gives the row and the next place (`row_step`), and so do the steps of a walk (`start`, `next`)
   pub gives-its-rows : (s : List ℕ) (i : ℕ) → i < rowCount (reading s .answer) → let x = stepAt s (rowPlace s i) in
       (ended x ≡ false) × (stepRow x ≡ rowOf s i) × (nextPlace x ≡ rowPlace s (suc i))
   pub walk-gives-its-rows : (s : RefT (List ℕ)) → given (rowCount (reading (now s) .answer)) (startOf s .walk) ≡ rowsOf (now s)
-  -- after the last row it says that it has ended, and stays so
+  -- after the last row a walk has ended, and stays so
   pub ends-after-the-last : (s : RefT (List ℕ)) → let n = rowCount (reading (now s) .answer) in let w = walked n (startOf s .walk) in
       (ended (stepAt (now s) (rowPlace (now s) n)) ≡ true) × (ended (nextOf w) ≡ true) × (movedOn w ≡ w)
-  -- the writer gives the opening piece and each row: a piece that nothing refuses stands at the front of the lent bytes, and those past it stay
+  -- the writer gives the opening piece and each row: a piece that is not refused stands at the front of the lent bytes; those past it stay
   pub opening-is-written : (st : Settings) (rows : ℕ) (out : List ℕ) → firstOf (openingCases st rows (length out)) ≡ 0
       → (writtenLength (openingWritten st rows (length out)) ≡ length (opening st rows)) × (openingAfter st rows out ≡ opening st rows ++ drop (length (opening st rows)) out)
   pub row-is-written : (st : Settings) (row : Row) (out : List ℕ) → firstOf (rowPieceCases st row (length out)) ≡ 0
@@ -132,22 +132,22 @@ pub record Equals (a : Held) (out after : List ℕ) (r : Stepped) : Type 0 where
 
 -- stepping singly goes from y to z by one scan, of words w, whose answer is a
 pub record OneScanMore (st : Settings) (w : Words) (y : Stepped) (a : Scanned) (z : Stepped) : Type 0 where
-  -- a scan of the state that those before it left, which nothing refuses: its state and words
+  -- it is a scan of the state that the scans before it left, which nothing refuses: its state and words
   pub accepted : a .number ≡ 0
   pub state : z .state ≡ a .state
   pub words : (z .effect ≡ a .effect) × (z .latent ≡ a .latent)
-  -- the records are those that it leaves in a buffer just as long as they are, behind those before
+  -- its records are those that it leaves in a buffer just as long as they are, behind the records before
   pub records : (out : List ℕ) → length out ≡ 12 * a .records → bytes (z .events) ≡ bytes (y .events) ++ scanInto st w (y .state) out
   -- it is live exactly if some effect's state in its answer differs from before
   pub live : (i : ℕ) → i < st .count → (slot (a .state) i .state ≡ slot (y .state) i .state → ⊥) → z .live ≡ y .live + 1
   pub not-live : ((i : ℕ) → i < st .count → slot (a .state) i .state ≡ slot (y .state) i .state) → z .live ≡ y .live
 
--- of a hold of the words w, from the state x
+-- the demand, for a hold of the words w from the state x
 pub record OneStroke (st : Settings) (x : State) (w : Words) (hold : ℕ) : Type 0 where
   -- with room for its records, the one-stroke answer equals stepping those scans singly
   pub equals : let r = stepped st w hold (start x) in let row : Row = record { hold = hold; words = w } in
       (out : List ℕ) → 12 * length (r .events) ≤ length out → Equals (heldOf st row x (length out)) out (heldInto st row x out) r
-  -- singly is by the rules of demand 2, the reset word as given in the first and zero after (`wordsAt`): from x, and then scan k + 1
+  -- singly means by the rules of demand 2, the reset word as given in the first scan and zero after (`wordsAt`): from x, and then scan k + 1
   pub at-first : stepped st w 0 (start x) ≡ start x
   pub singly : (k : ℕ) → k < hold → let y = stepped st w k (start x) in
       OneScanMore st (wordsAt k w) y (single st (wordsAt k w) (y .state)) (stepped st w (k + 1) (start x))
@@ -157,6 +157,6 @@ pub record OneStroke (st : Settings) (x : State) (w : Words) (hold : ℕ) : Type
   -- the scans in which an effect changes state never outnumber twice the effects
   pub few-live : stepped st w hold (start x) .live ≤ 2 * st .count
 
--- for every accepted setting, state and row, and every such hold
+-- for every accepted setting, state and row, and every hold that the demand names
 abbrev pub Demand3 : Type 0
 Demand3 = (st : Settings) (x : State) (w : Words) (hold : ℕ) → RightInput st x w hold → OneStroke st x w hold

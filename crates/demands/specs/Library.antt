@@ -1,5 +1,5 @@
--- The static library's refusals, in order: its `answer` and `totals` carry the refusal itself, and here is what they hold. Document 01,
--- "Refusal numbers", as far as it reaches a caller in another language.
+-- The static library's refusals, in order. Its `answer` and `totals` carry the refusal itself, and here stands what they hold. Document
+-- 01, "Refusal numbers", as far as it reaches a caller in another language.
 use mathlib.Core.Path.{_≡_}
 use mathlib.Core.List.{List, [], _∷_}
 use mathlib.Core.Logic.{_⊎_}
@@ -16,18 +16,18 @@ use Rattle.rerun.specs.Replay.{counts, replay, rowOf}
 use Rattle.numbers.specs.Numbers.{numbers, crossing}
 use Rattle.embed.specs.Crossing.{checkNumber, checkInto, recordsInto, totalsInto}
 
--- A check (`pohandira_check`) refuses by the reader's number, whatever the room, and last by 10: room below 24 bytes
+-- A check (`pohandira_check`) refuses by the reader's refusal number, whatever the room, and last by 10: room below 24 bytes
 pub record CheckInOrder (s answer : List ℕ) : Type 0 where
   pub the-readers : (Accepted s → ⊥) → let a = reading s .answer in
       (checkNumber s (length answer) ≡ number a) × Refused s (number a) (place a) × (rowCount a ≡ 0)
   pub ten : Accepted s → length answer < 24 → checkNumber s (length answer) ≡ 10
   pub right : Accepted s → 24 ≤ length answer → checkNumber s (length answer) ≡ 0
-  -- with that room the answer begins with number, place and rows, and without it no byte is touched
+  -- with that room the answer begins with refusal number, place and rows, and without it no byte is touched
   pub in-room : 24 ≤ length answer → let a = reading s .answer in checkInto s answer ≡ sets answer 0 (numbers (number a ∷ place a ∷ rowCount a ∷ []))
   pub left : length answer < 24 → checkInto s answer ≡ answer
 
--- A replay (`pohandira_replay`) refuses by the reader's number, then by 9, both whatever the room, and last by 10: room below 12 bytes
--- times the records due, or below the totals' 56. n is the number
+-- A replay (`pohandira_replay`) refuses by the reader's refusal number, then by 9, both whatever the room, and last by 10: room below
+-- 12 bytes times the records due, or below the totals' 56. n is the refusal number
 pub record ReplayInOrder (s records totals : List ℕ) (n : ℕ) : Type 0 where
   pub the-readers : (Accepted s → ⊥) → let a = reading s .answer in
       (n ≡ number a) × (replay s .place ≡ place a) × Refused s (number a) (place a)
@@ -35,11 +35,11 @@ pub record ReplayInOrder (s records totals : List ℕ) (n : ℕ) : Type 0 where
       (n ≡ 9) × (replay s .place ≡ rowPlace s (r .rows)) × (r .rows < rowCount (reading s .answer)) × (1000000000 < r .state .«scans_done» + rowOf s (r .rows) .hold)
   pub ten : replay s .number ≡ 0 → (length records < 12 * length (replay s .replay .events)) ⊎ (length totals < 56) → (n ≡ 10) × (replay s .place ≡ 0)
   pub whole : replay s .number ≡ 0 → 12 * length (replay s .replay .events) ≤ length records → 56 ≤ length totals → n ≡ 0
-  -- a refusal touches no byte of the records, and its totals are five zeros, its number and its place; without room for these no byte is touched
+  -- a refusal touches no record; its totals are five zeros, the refusal number and its place; without room for these no byte is touched
   pub no-record : (n ≡ 0 → ⊥) → recordsInto s (length totals) records ≡ records
   pub in-room : (n ≡ 0 → ⊥) → 56 ≤ length totals
       → totalsInto s (length records) totals ≡ sets totals 0 (numbers (0 ∷ 0 ∷ 0 ∷ 0 ∷ 0 ∷ n ∷ replay s .place ∷ []))
   pub left : length totals < 56 → totalsInto s (length records) totals ≡ totals
-  -- else the records stand in their buffer, and what all rows have given in the totals
+  -- without refusal the records stand in their buffer, and what all rows have given stands in the totals
   pub all-records : n ≡ 0 → recordsInto s (length totals) records ≡ sets records 0 (bytes (replay s .replay .events))
   pub all-totals : n ≡ 0 → 56 ≤ length totals → totalsInto s (length records) totals ≡ sets totals 0 (numbers (crossing (counts (replay s .replay))))

@@ -1,5 +1,5 @@
--- Refusals as a table: each number beside its case, in the order in which the cases are looked at. Document 01, "Refusal
--- numbers". Most tests are those of the crates below, and limits are written out; what counts here is their order.
+-- Refusals as a table: each refusal number beside its case, in the order in which the cases are checked. Document 01, "Refusal
+-- numbers". Most tests are those of the crates below, and limits are written out; what matters here is their order.
 use Prim.Native.Nat.{ℕ, _+_, _*_}
 use mathlib.Core.Path.{_≡_}
 use mathlib.Core.Bool.{Bool, cond, not, _&&_}
@@ -34,17 +34,17 @@ infix 70 _when_
 abbrev pub _when_ : ℕ → Bool → Case
 n when b = record { number = n; applies = b }
 
--- the number of the first case that applies, or 0 where none does
+-- the refusal number of the first case that applies, or 0 where none does
 abbrev pub firstOf : List Case → ℕ
 firstOf [] = 0
 firstOf (c ∷ cs) = cond (c .applies) (c .number) (firstOf cs)
 
--- an answer in that order: its number is that of the first case that applies, and where one applies, all else is a refusal's
+-- an answer in this order: it has the refusal number of the first case that applies, and where one applies, all else is a refusal's
 pub record InOrder (cases : List Case) (number : ℕ) (refused : Type 0) : Type 0 where
   pub first : number ≡ firstOf cases
   pub otherwise : (number ≡ 0 → ⊥) → refused
 
--- ## Its parts
+-- ## The parts of the tables, by refusal number
 
 -- 2: block section wrong. 3: effects section wrong
 abbrev pub settingsCases : Settings → List Case
@@ -88,15 +88,15 @@ abbrev pub heldCases : Settings → Row → State → (room : ℕ) → List Case
 heldCases st row x room =
     settingsCases st ++ stateCases st x ++ rowCases (knownOf st) row ++ scansCases x row ++ roomCases (recordLength * length (run st row x .events)) room
 
--- a scan: the same, with a hold of 1
+-- a scan: settings (2, 3), state (8), words (4, 5, 6), 9, and then 10, as for a held run with a hold of 1
 abbrev pub scanCases : Settings → Words → State → (room : ℕ) → List Case
 scanCases st w x room =
     settingsCases st ++ stateCases st x ++ rowCases (knownOf st) (once w) ++ scansCases x (once w) ++ roomCases (recordLength * length (events st w x)) room
 
--- the opening piece: settings, a wrong row count being 4, and last 10: room below the piece
+-- the opening piece: settings (2, 3), row count (4), and then 10: room below the piece
 abbrev pub openingCases : Settings → (rows room : ℕ) → List Case
 openingCases st rows room = settingsCases st ++ countCases rows ++ roomCases (length (opening st rows)) room
 
--- a row's piece: settings, the row, and last 10: room below the piece
+-- a row's piece: settings (2, 3), row (4, 5, 6), and then 10: room below the piece
 abbrev pub rowPieceCases : Settings → Row → (room : ℕ) → List Case
 rowPieceCases st row room = settingsCases st ++ rowCases (knownOf st) row ++ roomCases (length (putRow row)) room

@@ -16,7 +16,7 @@ fn run(case: &[u8; 245], buf: &mut [u8]) -> Held {
     x.held(st, Row { hold, words }, buf)
 }
 
-// What an answer shares with that of a scan.
+// The part of a held run's answer that a scan's answer has, too.
 fn shared(r: Held) -> Scanned {
     let state = r.state;
     Scanned {
@@ -55,7 +55,7 @@ fn answer(case: &[u8; 245]) -> bool {
     answer_in(case, &mut space[0..room])
 }
 
-// At most a million cases.
+// Answers at most a million cases, so that the program ends.
 fn main() {
     let mut case = [0u8; 245];
     let mut done: usize = 0;

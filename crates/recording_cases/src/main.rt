@@ -11,7 +11,7 @@ use settings::Settings;
 use settings::Words;
 use writing::Written;
 
-// Writes the digits of some bytes.
+// Writes the hexadecimal digits of some bytes.
 fn print_hex(s: &[u8]) -> bool
     requires { ⌜ length (now s) ≤ 160 ⌝ }
 {
@@ -79,7 +79,7 @@ fn print_head(
 
 // ---- a row: its place, its hold and its words, 28 bytes
 
-// Ten words, from `at`.
+// Puts ten words at `at`.
 fn put_words(out: &mut [u8], at: usize, words: [u16; 10])
     requires { ⌜ (length (now out) ≡ 28) × (at + 20 ≤ 28) ⌝ }
     ensures { λ _. ⌜ length (now (out .exit)) ≡ 28 ⌝ }
@@ -163,7 +163,7 @@ fn print_written_row(st: Settings, row: Row) -> bool {
     print_piece(w, &out)
 }
 
-// The rows that are found by a walk. It reads the file at each step, so that later rows are found by their place.
+// How many rows are found by a walk. A walk reads the file at each step, so later rows are found by their place.
 const WALKED: u16 = 32;
 
 // Row i, which stands at `at`.
@@ -175,7 +175,7 @@ fn row_of(s: &[u8], i: u16, at: usize) -> Step {
     }
 }
 
-// Prints row i as it is written, and answers the place after it; where there is none, nothing.
+// Prints row i as the writer gives it, and answers the place after it; prints nothing where there is no row i.
 fn print_row_back(st: Settings, s: &[u8], i: u16, at: usize) -> usize {
     let step = row_of(s, i, at);
     let Step::Row(row, next) = step else {
@@ -185,7 +185,7 @@ fn print_row_back(st: Settings, s: &[u8], i: u16, at: usize) -> usize {
     next
 }
 
-// Prints all rows, and after them none.
+// Prints all rows as the writer gives them, and asks for one row past the last, which must print nothing.
 fn print_rows_back(st: Settings, s: &[u8], first: usize, rows: u16) -> usize {
     let mut at = first;
     let mut i = 0;
@@ -248,7 +248,7 @@ fn answer(s: &[u8]) -> bool {
     print_replay(s)
 }
 
-// At most a million recordings. A stream has none above 49,262 bytes.
+// Answers at most a million recordings, so that the program ends. A stream has none above 49,262 bytes.
 fn main() {
     let mut file = [0u8; 49262];
     let mut done: usize = 0;

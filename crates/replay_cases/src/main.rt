@@ -2,7 +2,7 @@
 // out. It is a test program over `printing` and `streams`: all but the stream may change.
 
 // Prints the listing of a recording and an empty line; false if nothing can be written. The buffer is small, so that listings of a few
-// thousand bytes go by way of several: a stream has some that end about the end of one, two and three buffers.
+// thousand bytes need several buffers: a stream has some that end about the end of one, two and three buffers.
 fn answer(s: &[u8]) -> bool {
     let mut out = [0u8; 4096];
     let ending = printing::print(s, &mut out);
@@ -12,7 +12,7 @@ fn answer(s: &[u8]) -> bool {
     io::write_all(1, b"\n")
 }
 
-// At most a million recordings. A stream has none above 49,262 bytes.
+// Answers at most a million recordings, so that the program ends. A stream has none above 49,262 bytes.
 fn main() {
     let mut file = [0u8; 49262];
     let mut done: usize = 0;

@@ -30,7 +30,7 @@ fn answer(case: &[u8; 241]) -> bool {
     answer_in(case, &mut space[0..room])
 }
 
-// At most a million cases.
+// Answers at most a million cases, so that the program ends.
 fn main() {
     let mut case = [0u8; 241];
     let mut done: usize = 0;

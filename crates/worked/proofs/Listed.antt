@@ -1,4 +1,4 @@
--- The listing of document 01's session is the text that stands there, computed to its bytes.
+-- The listing of document 01's session is the text that stands in document 01, computed to its bytes.
 use mathlib.Core.Path.{_≡_, refl, ap, _∙_}
 use mathlib.Core.List.{_++_, flatMap}
 use lib.ListN.{length}
@@ -12,7 +12,7 @@ use Rattle.text.specs.Text.{header, name, line, lines, lastLine}
 use Rattle.listing.specs.Listing.{closing, listed, listing}
 use Rattle.worked.specs.Listed.{sessionText}
 
--- by its events and totals
+-- the text, from the session's events and totals
 spelled : header ++ lines sessionEvents ++ closing (record { number = 0; place = 0; records = 5; rows = 2; scans = 8; live = 3; exercised = 5 }) ≡ sessionText
 unfolding header line name lastLine closing decimal atMost flatMap
 spelled = refl

@@ -64,16 +64,16 @@ slot p t f = record { state = p; timer = t; «first_out» = f }
 abbrev corner : (number options delay : ℕ) → Words → (before after : Slot) → Corner
 corner n o d w a b = record { number = n; options = o; delay = d; words = w; before = a; after = b }
 
--- where document 01 leaves a first-out or a timer open, a value that a right state allows
+-- the table. Where document 01 leaves a first-out or a timer open, it has a value that a valid state allows
 abbrev pub corners : List Corner
 corners =
     -- Tripped, quiet, no reset required, start permit: Normal
     corner 1 0 0 (waiting 0 0 1 0) (slot Tripped 0 1) (slot Normal 0 0)
-    -- the same without start permit: Wait-start
+    -- Tripped, quiet, no reset required, no start permit: Wait-start
     ∷ corner 2 0 0 (waiting 0 0 0 0) (slot Tripped 0 1) (slot WaitStart 0 1)
-    -- reset required, no reset permit: Wait-reset
+    -- Tripped, quiet, reset required, no reset permit: Wait-reset
     ∷ corner 3 0 0 (waiting 1 0 0 0) (slot Tripped 0 1) (slot WaitReset 0 1)
-    -- with it: Ready
+    -- Tripped, quiet, reset required, reset permit: Ready
     ∷ corner 4 0 0 (waiting 1 1 0 0) (slot Tripped 0 1) (slot Ready 0 1)
     -- Ready, reset, reset permit, no start permit: Wait-start
     ∷ corner 5 0 0 (waiting 0 1 0 1) (slot Ready 0 1) (slot WaitStart 0 1)
@@ -85,7 +85,7 @@ corners =
     ∷ corner 8 0 0 (causing 0 0 0 0 0) (slot Normal 0 0) (slot Tripped 0 1)
     -- Delayed, timer 100, quiet: Tripped
     ∷ corner 9 0 500 (causing 1 0 0 0 0) (slot Delayed 100 1) (slot Tripped 0 1)
-    -- timer 101: Delayed, timer 1
+    -- Delayed, timer 101, quiet: Delayed, timer 1
     ∷ corner 10 0 500 (causing 1 0 0 0 0) (slot Delayed 101 1) (slot Delayed 1 1)
     -- Delayed, force normal: Normal, first-out 0
     ∷ corner 11 0 500 (causing 1 0 0 1 1) (slot Delayed 500 1) (slot Normal 0 0)

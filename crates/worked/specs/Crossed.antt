@@ -2,7 +2,7 @@
 use Prim.Native.Nat.{ℕ}
 use mathlib.Core.List.{List, [], _∷_}
 
--- sequence, scan, effect, state before, state after, zero, first-out
+-- each record: sequence, scan, effect, state before, state after, zero, first-out
 abbrev pub sessionRecords : List ℕ
 sessionRecords =
     0 ∷ 0 ∷ 0 ∷ 0 ∷ 0 ∷ 1 ∷ 1 ∷ 0 ∷ 4 ∷ 0 ∷ 0 ∷ 0
@@ -12,7 +12,7 @@ sessionRecords =
     ∷ 0 ∷ 4 ∷ 0 ∷ 0 ∷ 0 ∷ 7 ∷ 2 ∷ 5 ∷ 0 ∷ 0 ∷ 0 ∷ 1
     ∷ []
 
--- records, rows, scans, live, exercised, number, place
+-- the totals: records, rows, scans, live, exercised, refusal number, place
 abbrev pub sessionTotals : List ℕ
 sessionTotals =
     0 ∷ 0 ∷ 0 ∷ 0 ∷ 0 ∷ 0 ∷ 0 ∷ 5
@@ -24,7 +24,7 @@ sessionTotals =
     ∷ 0 ∷ 0 ∷ 0 ∷ 0 ∷ 0 ∷ 0 ∷ 0 ∷ 0
     ∷ []
 
--- number, place, rows
+-- the answer to a check: refusal number, place, rows
 abbrev pub sessionAnswer : List ℕ
 sessionAnswer =
     0 ∷ 0 ∷ 0 ∷ 0 ∷ 0 ∷ 0 ∷ 0 ∷ 0

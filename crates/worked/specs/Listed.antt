@@ -1,4 +1,4 @@
--- The listing of document 01's session, as it stands there: "One session, whole". LF ends every line.
+-- The listing of document 01's session, as it stands in document 01: "One session, whole". LF ends every line.
 use Prim.Native.Nat.{ℕ}
 use mathlib.Core.List.{List, _++_}
 use Rattle.bits.specs.Decimal.{ascii}

@@ -6,7 +6,7 @@ ghost use lib.ListN.{length};
 use settings::Row;
 use writing::Written;
 
-// The number, place and length of a written piece: 7 bytes.
+// The refusal number, place and length of a written piece: 7 bytes.
 fn head_of(w: Written) -> [u8; 7] {
     match w {
         Written::Bytes(n) => [0, 0, 0, 0, 0, (n / 256 % 256) as u8, (n % 256) as u8],
@@ -58,7 +58,7 @@ fn answer(case: &[u8; 129]) -> bool {
     answer_in(case, &mut space[0..room])
 }
 
-// At most a million cases.
+// Answers at most a million cases, so that the program ends.
 fn main() {
     let mut case = [0u8; 129];
     let mut done: usize = 0;

@@ -1,4 +1,4 @@
--- `cases::fill` meets its contract. The loop's invariant: the first i bytes are filled, and the others stand.
+-- `cases::fill` meets its contract. The loop's invariant: the first i bytes are filled, and the others stay.
 use mathlib.Core.List.{_++_, append-nil}
 use mathlib.Core.Path.{_≡_, refl}
 use Prim.Native.Nat.{_≤_, _-_, _+_}

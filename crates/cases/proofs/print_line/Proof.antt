@@ -1,4 +1,4 @@
--- `cases::print_line` meets its contract: what is written is the line, whole.
+-- `cases::print_line` meets its contract: the whole line is written, and nothing else.
 use mathlib.Core.Path.{sym}
 use native.Mathlib.Omega.{arith}
 use denote.Ref.{now}

@@ -1,4 +1,4 @@
--- `cases::put_answer` meets its contract: three runs of stores, one after another, are one; the state's is 118 long.
+-- `cases::put_answer` meets its contract: three runs of stores, one after another, are one; the state takes 118 bytes.
 use mathlib.Core.List.{[], _∷_, _++_}
 use mathlib.Core.Path.{refl}
 use Prim.Native.Nat.{_%_}

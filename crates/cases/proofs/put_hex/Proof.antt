@@ -1,4 +1,4 @@
--- `cases::put_hex` meets its contract. The loop's invariant: with the digits that are left the buffer would be whole.
+-- `cases::put_hex` meets its contract. The loop's invariant: the digits written so far and those that are left make the whole.
 use mathlib.Core.Path.{_≡_, refl, _∙_}
 use mathlib.Core.List.{flatMap}
 use Prim.Native.Nat.{_≤_, _-_, _+_, _*_}

@@ -1,4 +1,4 @@
--- `cases::put_line` meets its contract: the pair, and the last byte where it ends.
+-- `cases::put_line` meets its contract: it puts the pair, and the last byte behind it.
 use native.Mathlib.Omega.{arith}
 use denote.Ref.{now}
 use borrow.Author.Needs.{needs}

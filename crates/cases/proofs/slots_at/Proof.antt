@@ -1,4 +1,4 @@
--- `cases::slots_at` meets its contract. The loop's invariant: the first i are read.
+-- `cases::slots_at` meets its contract. The loop's invariant: the first i slots are read.
 use mathlib.Core.Path.{_≡_, refl}
 use mathlib.Core.Bool.{Bool, true, false}
 use mathlib.Core.List.{List}
@@ -29,7 +29,7 @@ less j i h other = go (ltb j i) refl
     go true e = ltb-true j i e
     go false e = absurd (other (omega (arith, ltb-false j i e)))
 
--- one slot more
+-- one slot more is read
 one-more : (s : List ℕ) (at i : ℕ) (xs : List Slot) (x : Slot) → i < length xs → SlotsAt s at i xs → SlotAt s at i x → SlotsAt s at (i + 1) (set xs i x)
 one-more s at i xs x l before here j h = go (eqb j i) refl
   where

@@ -1,5 +1,5 @@
 -- The names that the page of demands uses, and where each is defined.
--- the kit's
+-- names of the kit
 pub use mathlib.Core.Path.{_≡_}
 pub use mathlib.Core.Bool.{true, false}
 pub use mathlib.Core.List.{List, _++_}
@@ -47,7 +47,7 @@ pub use Rattle.walk.specs.Walks.{startOf, nextOf, movedOn, walked, given}
 pub use Rattle.rerun.specs.Replay.{started, refusedAt, answered, replay, rowOf}
 pub use Rattle.listing.specs.Printed.{hasRoom, written, placed}
 pub use Rattle.embed.specs.Crossing.{replayNumber}
--- this crate's
+-- names of this crate
 pub use Rattle.demands.specs.Answers.{Answers}
 pub use Rattle.demands.specs.Order.{firstOf, InOrder, settingsCases, wordsCases, rowCases, heldCases, scanCases, openingCases, rowPieceCases}
 pub use Rattle.demands.specs.Library.{CheckInOrder, ReplayInOrder}
