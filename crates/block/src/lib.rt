@@ -236,7 +236,7 @@ impl State {
         State::MOST_SCANS
     }
 
-    // Every effect Tripped, all numbers 0.
+    // A fresh state: every effect is Tripped, and all numbers are 0.
     pub fn fresh() -> Self
         ensures { λ r. ⌜ r ≡ freshState ⌝ }
     {

@@ -132,13 +132,13 @@ pub record Equals (a : Held) (out after : List ℕ) (r : Stepped) : Type 0 where
 
 -- stepping singly goes from y to z by one scan, of words w, whose answer is a
 pub record OneScanMore (st : Settings) (w : Words) (y : Stepped) (a : Scanned) (z : Stepped) : Type 0 where
-  -- it is a scan of the state that the scans before it left, which nothing refuses: its state and words
+  -- the scan is of the state that the scans before it left, and nothing refuses it: its state and words
   pub accepted : a .number ≡ 0
   pub state : z .state ≡ a .state
   pub words : (z .effect ≡ a .effect) × (z .latent ≡ a .latent)
-  -- its records are those that it leaves in a buffer just as long as they are, behind the records before
+  -- the records are those that the scan leaves in a buffer just as long as they are, behind the records before
   pub records : (out : List ℕ) → length out ≡ 12 * a .records → bytes (z .events) ≡ bytes (y .events) ++ scanInto st w (y .state) out
-  -- it is live exactly if some effect's state in its answer differs from before
+  -- the scan is live exactly if some effect's state in its answer differs from before
   pub live : (i : ℕ) → i < st .count → (slot (a .state) i .state ≡ slot (y .state) i .state → ⊥) → z .live ≡ y .live + 1
   pub not-live : ((i : ℕ) → i < st .count → slot (a .state) i .state ≡ slot (y .state) i .state) → z .live ≡ y .live
 
@@ -147,7 +147,7 @@ pub record OneStroke (st : Settings) (x : State) (w : Words) (hold : ℕ) : Type
   -- with room for its records, the one-stroke answer equals stepping those scans singly
   pub equals : let r = stepped st w hold (start x) in let row : Row = record { hold = hold; words = w } in
       (out : List ℕ) → 12 * length (r .events) ≤ length out → Equals (heldOf st row x (length out)) out (heldInto st row x out) r
-  -- singly means by the rules of demand 2, the reset word as given in the first scan and zero after (`wordsAt`): from x, and then scan k + 1
+  -- singly means by the rules of demand 2, the reset word as given in the first scan and zero after (`wordsAt`): from x, then scan k + 1
   pub at-first : stepped st w 0 (start x) ≡ start x
   pub singly : (k : ℕ) → k < hold → let y = stepped st w k (start x) in
       OneScanMore st (wordsAt k w) y (single st (wordsAt k w) (y .state)) (stepped st w (k + 1) (start x))

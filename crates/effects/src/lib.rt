@@ -1,6 +1,7 @@
 // All effects in one scan: the event records. Document 01, "The rules of one scan". What the scan does to the slots, and its
 // words, stands in specs/ and is computed by words of effects in `planes`. It rests on `rules` and `bits`.
-// How a record's bytes are put may change without moving a contract; which bytes they are is `recordOf`, and `encode` of an event, in specs/Records.
+// How a record's bytes are put may change without moving a contract; which bytes they are is `recordOf`, and `encode` of an
+// event, in specs/Records.
 ghost use mathlib.Core.Path.{_≡_};
 ghost use mathlib.Core.List.{[], _∷_};
 ghost use Prim.Native.Nat.{_+_, _≤_};

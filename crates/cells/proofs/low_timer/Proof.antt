@@ -1,4 +1,5 @@
--- `cells::low_timer` meets its contract. The loop's invariant: the least timer of the effects in the word below some m, and the word holds those from m on.
+-- `cells::low_timer` meets its contract. The loop's invariant: the least timer of the effects in the word below some m,
+-- and the word holds those from m on.
 use mathlib.Core.Path.{refl}
 use native.Mathlib.Omega.{arith}
 use borrow.Author.Needs.{needs}

@@ -1,4 +1,5 @@
--- `cells::set_firsts` meets its contract. The loop's invariant: the effects in the word below some m have their first-outs, and the word holds those from m on.
+-- `cells::set_firsts` meets its contract. The loop's invariant: the effects in the word below some m have their first-outs,
+-- and the word holds those from m on.
 use mathlib.Core.Path.{refl, sym, _∙_}
 use native.Mathlib.Nat.{zero-add}
 use native.Mathlib.Omega.{arith}

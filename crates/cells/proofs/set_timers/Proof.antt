@@ -1,4 +1,5 @@
--- `cells::set_timers` meets its contract. The loop's invariant: the effects in the word below some m have their timers, and the word holds those from m on.
+-- `cells::set_timers` meets its contract. The loop's invariant: the effects in the word below some m have their timers,
+-- and the word holds those from m on.
 use mathlib.Core.Path.{refl}
 use native.Mathlib.Omega.{arith}
 use borrow.Author.Needs.{needs}

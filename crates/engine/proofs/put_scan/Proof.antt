@@ -1,4 +1,5 @@
--- `engine::put_scan` meets its contract. The loop's invariant: the records of the effects below some m are written, and the word holds those from m on.
+-- `engine::put_scan` meets its contract. The loop's invariant: the records of the effects below some m are written,
+-- and the word holds those from m on.
 use native.Mathlib.Omega.{arith}
 use borrow.Author.Needs.{needs}
 use Rattle.cells.specs.Array.{firstsIn}

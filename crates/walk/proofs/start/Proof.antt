@@ -1,6 +1,6 @@
 -- `walk::start` meets its contract: the proof goes through its MIR by hand. `begin` is called on the bytes; a `Walk` is made of the
 -- bytes and the place that it gave, and a `Started` of its answer and that walk.
--- A `&[u8]` is Copy, so what it owns is had three times: for `begin`, for bytes at exit, and inside the result. All that the proof
+-- A `&[u8]` is Copy, so what it owns is used three times: for `begin`, for bytes at exit, and inside the result. All that the proof
 -- knows of `begin` is that it meets its contract.
 -- Assumes nothing.
 use mathlib.Core.Path.{_≡_, refl, ap}

@@ -1,7 +1,7 @@
 -- `walk::Walk::next` meets its contract: the proof goes through its MIR by hand. The borrow is opened; the bytes and the place are
 -- copied out and `stride_at` is called on them; the place that it gave is stored; the borrow is closed at the walk moved on; the step
 -- is returned.
--- The walk holds a `&` alone, so what it owns is had twice: once for the callee, and once for the exit. All that the proof knows of
+-- The walk holds a `&` alone, so what it owns is used twice: once for the callee, and once for the exit. All that the proof knows of
 -- `stride_at` is that it meets its contract.
 -- Assumes nothing.
 use mathlib.Core.Path.{_≡_, refl, ap}
