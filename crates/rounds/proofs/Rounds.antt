@@ -29,7 +29,7 @@ module _ {X : Type 0} (step : X → X) where
   iterate-add zero n x = rw zero-add
   iterate-add (suc k) n x = rw suc-add (iterate-add k n (step x))
 
--- what a skip has to satisfy: no steps change nothing; below those that `quiet` counts, one step more is a longer skip; `quiet`
+-- what a skip has to satisfy: zero steps change nothing; below those that `quiet` counts, one step more is a longer skip; `quiet`
 -- is at most its cap; `Good` holds after every step; `rank` falls at the step after a skip that left steps over
 pub record Skips {X : Type 0} (step : X → X) (skip : ℕ → X → X) (quiet : ℕ → X → ℕ) (rank : X → ℕ) (Good : X → Type 0) : Type 0 where
   pub none : (x : X) → skip 0 x ≡ x
