@@ -1,7 +1,7 @@
 /*
  * Replays recordings of shutdown logic, for C99 and C++. Both functions are proved. "Document 01" is the owner's requirement;
  * docs/FORMAT.md says all of it: the recording byte by byte, the rules, the event records and the refusals.
- * The static library is target/staticlib/libembed.a (`rt staticlib embed`), for x86-64 Linux.
+ * The static library is target/staticlib/libpohandira.a (`rt staticlib pohandira`), for x86-64 Linux.
  *
  * What is asked of the caller, and nothing else: no pointer is null, even where its length is 0; the bytes that a pointer and
  * its length name can be read, or written for an output; and no two of the buffers overlap. Any bytes at all get an answer.

@@ -48,9 +48,9 @@ use Rattle.rerun.specs.declared.Replayed.{Replayed}
 use Rattle.rerun.specs.Replay.{Outcome, counts, refusal as noCounts, replay}
 use Rattle.rerun.proofs.Theorems as rerun
 use Rattle.numbers.specs.Numbers.{numbers, fitted, crossing}
-use Rattle.embed.specs.Crossing.{checked, replayNumber, totalsOrRefusal}
+use Rattle.pohandira.specs.Crossing.{checked, replayNumber, totalsOrRefusal}
 use Rattle.numbers.proofs.Stores.{length-numbers, fits, stays}
-use Rattle.embed.proofs.Theorems as embed
+use Rattle.pohandira.proofs.Theorems as pohandira
 use Rattle.demands.specs.Order.{InOrder, heldCases, scanCases}
 use Rattle.demands.specs.Library.{CheckInOrder, ReplayInOrder}
 use Rattle.demands.specs.Demands.{Demand1, RightInput, slot, ByTheRules, Demand2, Equals, OneScanMore, Demand3}
@@ -79,9 +79,9 @@ check-in-order s answer =
     let a = reading s .answer in
     let n = length-numbers (checked a) in
     record {
-      the-readers = λ h. let e = recording.refused-as-said s h in (embed.check-ten-is-last s (length answer) h, e .1, ap (λ (r : Reading). rowCount (r .answer)) (e .0));
-      ten = embed.check-without-room s (length answer);
-      right = λ z h. embed.check-with-room s (length answer) h ∙ z;
+      the-readers = λ h. let e = recording.refused-as-said s h in (pohandira.check-ten-is-last s (length answer) h, e .1, ap (λ (r : Reading). rowCount (r .answer)) (e .0));
+      ten = pohandira.check-without-room s (length answer);
+      right = λ z h. pohandira.check-with-room s (length answer) h ∙ z;
       in-room = λ h. sym (fits (numbers (checked a)) answer (omega (arith, n, h)));
       left = λ h. sym (stays (numbers (checked a)) answer (omega (arith, n, h)));
     }
@@ -89,7 +89,7 @@ check-in-order s answer =
 replay-in-order : (s records totals : List ℕ) → ReplayInOrder s records totals (replayNumber s (length records) (length totals))
 replay-in-order s records totals =
     let n = replayNumber s (length records) (length totals) in
-    let first = embed.ten-is-last s (length records) (length totals) in
+    let first = pohandira.ten-is-last s (length records) (length totals) in
     let refused = noCounts (replay s .place) in
     let given = totalsOrRefusal s (length records) (length totals) in
     record {
@@ -99,9 +99,9 @@ replay-in-order s records totals =
           (first (λ z. h (sym is ∙ z)) ∙ is, ap (λ (o : Outcome). o .place) e, recording.refused-as-said s h .1);
       nine = λ a k. ⊎-elim (λ w. absurd (k (w .0))) (λ w. (first k ∙ w .0, w .1, w .2, w .3)) (rerun.whole-or-stopped s a);
       ten = λ z h.
-          (⊎-elim (embed.ten-for-the-records s (length records) (length totals) z) (embed.ten-for-the-totals s (length records) (length totals) z) h, embed.no-place-for-ten s z);
-      whole = embed.nothing-refused s (length records) (length totals);
-      no-record = embed.refused-untouched s records (length totals);
+          (⊎-elim (pohandira.ten-for-the-records s (length records) (length totals) z) (pohandira.ten-for-the-totals s (length records) (length totals) z) h, pohandira.no-place-for-ten s z);
+      whole = pohandira.nothing-refused s (length records) (length totals);
+      no-record = pohandira.refused-untouched s records (length totals);
       in-room = λ k h.
           ap (λ (r : Replayed). fitted (numbers (crossing r)) totals) (granted-refused (counts (replay s .replay)) refused n k)
           ∙ sym (fits (numbers (crossing (refused n))) totals (omega (arith, length-numbers (crossing (refused n)), h)));

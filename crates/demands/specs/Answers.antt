@@ -28,7 +28,7 @@ use Rattle.writing.proofs as writing
 use Rattle.walk.proofs as walk
 use Rattle.rerun.proofs as rerun
 use Rattle.listing.proofs as listing
-use Rattle.embed.proofs as embed
+use Rattle.pohandira.proofs as pohandira
 use Rattle.rules.specs.Limits.{mostDelay, mostHold, mostScans}
 use Rattle.rules.specs.Rules.{code, same}
 use Rattle.settings.specs.Right.{blockNumber, effectNumber, knownOf, settingsNumber, wordsNumber, rowNumber}
@@ -44,7 +44,7 @@ use Rattle.rerun.specs.Replay.{answered, replay}
 use Rattle.listing.specs.Listing.{closing}
 use Rattle.listing.specs.Printed.{opening, hasRoom, placed, written}
 use Rattle.text.specs.Room.{mostPiece}
-use Rattle.embed.specs.Crossing.{checkNumber, checkInto, replayNumber, recordsInto, totalsInto}
+use Rattle.pohandira.specs.Crossing.{checkNumber, checkInto, replayNumber, recordsInto, totalsInto}
 use Rattle.demands.specs.Contracts.{Gives, Returns, both}
 
 -- κ0, κ1, κ2 and κ3 are the lifetimes of what is lent
@@ -66,11 +66,11 @@ pub record EntryPoints (κ0 : Lfts 0) (κ1 : Lfts 1) (κ2 : Lfts 2) (κ3 : Lfts 
       (λ e. now (e .1 .1 .0)) (λ (st, (row, (out, _))). rowAfter st row (now out))
   -- a walk (`walk`); `WalkCalls` has `start` and `next`
   pub nth : Returns (walk.nth.Reads.Asked κ1) (walk.nth.Reads.Learnt κ1) (λ (s, (n, _)). nthOf (now s) n)
-  -- whole files (`rerun`), and the static library (`embed`)
+  -- whole files (`rerun`), and the static library (`pohandira`)
   pub replay : Returns (rerun.replay.Reads.Asked κ1) (rerun.replay.Reads.Learnt κ1) (λ (s, _). answered (replay (now s)))
-  pub pohandira-check : Gives (embed.pohandira_check.Reads.Asked κ2) (embed.pohandira_check.Reads.Learnt κ2) (λ (s, (answer, _)). checkNumber (now s) (length (now answer)))
+  pub pohandira-check : Gives (pohandira.pohandira_check.Reads.Asked κ2) (pohandira.pohandira_check.Reads.Learnt κ2) (λ (s, (answer, _)). checkNumber (now s) (length (now answer)))
       (λ e. now (e .1 .0)) (λ (s, (answer, _)). checkInto (now s) (now answer))
-  pub pohandira-replay : Gives (embed.pohandira_replay.Reads.Asked κ3) (embed.pohandira_replay.Reads.Learnt κ3) (λ (s, (records, (totals, _))). replayNumber (now s) (length (now records)) (length (now totals)))
+  pub pohandira-replay : Gives (pohandira.pohandira_replay.Reads.Asked κ3) (pohandira.pohandira_replay.Reads.Learnt κ3) (λ (s, (records, (totals, _))). replayNumber (now s) (length (now records)) (length (now totals)))
       (both (λ e. now (e .1 .0)) (λ e. now (e .1 .1 .0))) (both (λ (s, (records, (totals, _))). recordsInto (now s) (length (now totals)) (now records)) (λ (s, (records, (totals, _))). totalsInto (now s) (length (now records)) (now totals)))
   -- listings (`listing`)
   pub opening : Gives (listing.opening.Reads.Asked κ1) (listing.opening.Reads.Learnt κ1) (λ (file, (out, (at, _))). written (length (now out)) at (opening (file .answer)))

@@ -14,7 +14,7 @@ use Rattle.recording.specs.Refused.{Refused}
 use Rattle.recording.specs.Accepted.{Accepted}
 use Rattle.rerun.specs.Replay.{counts, replay, rowOf}
 use Rattle.numbers.specs.Numbers.{numbers, crossing}
-use Rattle.embed.specs.Crossing.{checkNumber, checkInto, recordsInto, totalsInto}
+use Rattle.pohandira.specs.Crossing.{checkNumber, checkInto, recordsInto, totalsInto}
 
 -- A check (`pohandira_check`) refuses by the reader's refusal number, whatever the room, and last by 10: room below 24 bytes
 pub record CheckInOrder (s answer : List ℕ) : Type 0 where

@@ -1,5 +1,5 @@
 // The numbers that cross to other languages, 8 bytes each: the answer to a check, and what a replay comes to, at the front of lent
-// bytes if they fit. It rests on `rerun` for what a replay comes to. `embed` says which of them cross, and when.
+// bytes if they fit. It rests on `rerun` for what a replay comes to. `pohandira` says which of them cross, and when.
 ghost use mathlib.Core.Path.{_≡_};
 ghost use mathlib.Core.List.{[], _∷_};
 ghost use Prim.Native.Nat.{_+_, _*_, _≤_};

@@ -13,11 +13,11 @@ use Rattle.rerun.specs.Replay.{replay, counts}
 use Rattle.worked.specs.Recorded.{session, sessionEvents}
 use Rattle.worked.proofs.Recorded.{the-session-is-read, the-session}
 use Rattle.numbers.specs.Numbers.{checkBytes, totalsBytes, numbers, fitted, crossing}
-use Rattle.embed.specs.Crossing.{checked, checkNumber, checkInto, replayNumber, recordsInto, totalsInto}
+use Rattle.pohandira.specs.Crossing.{checked, checkNumber, checkInto, replayNumber, recordsInto, totalsInto}
 use Rattle.worked.specs.Crossed.{sessionRecords, sessionTotals, sessionAnswer}
 use Rattle.numbers.proofs.Stores.{fits}
-use Rattle.embed.proofs.Answers.{crosses}
-use Rattle.embed.proofs.Theorems.{check-with-room, nothing-refused}
+use Rattle.pohandira.proofs.Answers.{crosses}
+use Rattle.pohandira.proofs.Theorems.{check-with-room, nothing-refused}
 
 records-spelled : bytes sessionEvents ≡ sessionRecords
 unfolding encode flatMap

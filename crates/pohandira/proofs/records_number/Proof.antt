@@ -1,4 +1,4 @@
--- `embed::records_number` meets its contract: the most that can be due fits, or the records that are due are counted.
+-- `pohandira::records_number` meets its contract: the most that can be due fits, or the records that are due are counted.
 use mathlib.Core.Path.{_≡_, sym, ap}
 use Prim.Native.Nat.{_*_, _≤_}
 use native.Mathlib.Nat.{mul-le-mul}
@@ -16,10 +16,10 @@ use Rattle.rerun.specs.declared.Replayed.{Replayed}
 use Rattle.rerun.specs.Replay.{replay}
 use Rattle.rerun.proofs.Files.{most-effects, few-rows}
 use Rattle.rerun.proofs.Turns.{counted-all}
-use Rattle.embed.specs.Crossing.{mostEffectBytes}
-use Rattle.embed.proofs.Theorems.{most-due}
-use Rattle.embed.proofs.records_number.Statement.{statement}
-use Rattle.embed.proofs.records_number.Tie as tie
+use Rattle.pohandira.specs.Crossing.{mostEffectBytes}
+use Rattle.pohandira.proofs.Theorems.{most-due}
+use Rattle.pohandira.proofs.records_number.Statement.{statement}
+use Rattle.pohandira.proofs.records_number.Tie as tie
 
 -- ## The counts
 

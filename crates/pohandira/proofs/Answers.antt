@@ -13,9 +13,9 @@ use Rattle.rerun.specs.declared.Replayed.{Replayed}
 use Rattle.rerun.specs.Replay.{Outcome, replay, counts, refusal}
 use Rattle.rerun.proofs.Files.{refusal-number, refused-replay}
 use Rattle.numbers.specs.Numbers.{totalsBytes, numbers, fitted, crossing}
-use Rattle.embed.specs.Crossing.{replayNumber, recordsInto, totalsOrRefusal, totalsInto}
+use Rattle.pohandira.specs.Crossing.{replayNumber, recordsInto, totalsOrRefusal, totalsInto}
 use Rattle.numbers.proofs.Stores.{length-numbers, stays}
-use Rattle.embed.proofs.Theorems.{ten-is-last, ten-for-the-totals}
+use Rattle.pohandira.proofs.Theorems.{ten-is-last, ten-for-the-totals}
 
 module _ (s records totals : List ℕ) where
   abbrev n : ℕ

@@ -1,4 +1,4 @@
--- `embed::pohandira_check` meets its contract: what the reader answers crosses.
+-- `pohandira::pohandira_check` meets its contract: what the reader answers crosses.
 use mathlib.Core.Path.{_≡_, sym, ap, _∙_}
 use mathlib.Core.List.{List}
 use Prim.Native.Nat.{ℕ}
@@ -11,9 +11,9 @@ use Rattle.recording.specs.declared.Reading.{Reading}
 use Rattle.recording.specs.Answers.{number}
 use Rattle.recording.specs.Reader.{reading}
 use Rattle.numbers.specs.Numbers.{checkBytes, numbers, fitted}
-use Rattle.embed.specs.Crossing.{checked}
-use Rattle.embed.proofs.pohandira_check.Statement.{statement}
-use Rattle.embed.proofs.pohandira_check.Tie as tie
+use Rattle.pohandira.specs.Crossing.{checked}
+use Rattle.pohandira.proofs.pohandira_check.Statement.{statement}
+use Rattle.pohandira.proofs.pohandira_check.Tie as tie
 
 -- the answer that was read is the reader's
 abbrev start-of : tie.After-read → tie.Start

@@ -1,13 +1,13 @@
--- `embed::replay_accepted` meets its contract: 9 before anything else, or the file is replayed whole.
+-- `pohandira::replay_accepted` meets its contract: 9 before anything else, or the file is replayed whole.
 use mathlib.Core.Path.{sym, ap, _∙_}
 use denote.Ref.{now}
 use lib.ListN.{length}
 use borrow.Author.Needs.{needs}
 use Rattle.rerun.specs.declared.Stop.{Stop}
-use Rattle.embed.proofs.Theorems.{ten-is-last}
-use Rattle.embed.proofs.Answers.{refused}
-use Rattle.embed.proofs.replay_accepted.Statement.{statement}
-use Rattle.embed.proofs.replay_accepted.Tie as tie
+use Rattle.pohandira.proofs.Theorems.{ten-is-last}
+use Rattle.pohandira.proofs.Answers.{refused}
+use Rattle.pohandira.proofs.replay_accepted.Statement.{statement}
+use Rattle.pohandira.proofs.replay_accepted.Tie as tie
 
 returns : tie.Need-returns
 returns c =

@@ -9,7 +9,7 @@ ghost use Rattle.effects.specs.Records.{recordLength};
 ghost use Rattle.settings.specs.Refusals.{roomNumber};
 ghost use Rattle.rerun.specs.Replay.{replay};
 ghost use Rattle.rerun.specs.Turn.{Going, stopOf};
-ghost use Rattle.embed.specs.Crossing.{checkNumber, checkInto, replayNumber, recordsInto, totalsInto};
+ghost use Rattle.pohandira.specs.Crossing.{checkNumber, checkInto, replayNumber, recordsInto, totalsInto};
 use recording::Answer;
 use rerun::Run;
 use rerun::Stop;

@@ -1,4 +1,4 @@
--- `embed::replay_whole` meets its contract: 10 where the totals or the records do not fit, else all of both.
+-- `pohandira::replay_whole` meets its contract: 10 where the totals or the records do not fit, else all of both.
 use mathlib.Core.Path.{_≡_, refl, sym, ap, _∙_}
 use Prim.Native.Nat.{_*_, _≤_}
 use native.Mathlib.Omega.{arith}
@@ -12,10 +12,10 @@ use Rattle.settings.proofs.Refusals.{granted-none, unless-refused, limit-kept, 
 use Rattle.rerun.specs.Replay.{Outcome, replay, counts, refusal, firstRows}
 use Rattle.rerun.proofs.Files.{all-the-rows}
 use Rattle.rerun.proofs.Turns.{answered-all, kept-all}
-use Rattle.embed.proofs.Theorems.{ten-for-the-records, nothing-refused, no-place-for-ten}
-use Rattle.embed.proofs.Answers.{refused, too-little-room, crosses}
-use Rattle.embed.proofs.replay_whole.Statement.{statement}
-use Rattle.embed.proofs.replay_whole.Tie as tie
+use Rattle.pohandira.proofs.Theorems.{ten-for-the-records, nothing-refused, no-place-for-ten}
+use Rattle.pohandira.proofs.Answers.{refused, too-little-room, crosses}
+use Rattle.pohandira.proofs.replay_whole.Statement.{statement}
+use Rattle.pohandira.proofs.replay_whole.Tie as tie
 
 returns : tie.Need-returns
 returns c =

@@ -19,7 +19,7 @@ use Rattle.rerun.specs.Replay.{Outcome, replay, counts, refusal}
 use Rattle.rerun.proofs.Files.{most-effects, whole-so-far}
 use Rattle.rerun.proofs.Theorems.{a-refused-file-is-not-run, a-replay-is-all-its-rows, two-records-an-effect-and-row}
 use Rattle.numbers.specs.Numbers.{checkBytes, totalsBytes}
-use Rattle.embed.specs.Crossing.{mostEffectBytes, checkNumber, replayNumber, recordsInto, totalsOrRefusal}
+use Rattle.pohandira.specs.Crossing.{mostEffectBytes, checkNumber, replayNumber, recordsInto, totalsOrRefusal}
 
 -- ## A check
 

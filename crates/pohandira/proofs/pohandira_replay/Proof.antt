@@ -1,4 +1,4 @@
--- `embed::pohandira_replay` meets its contract: a file is accepted and replayed, or refused.
+-- `pohandira::pohandira_replay` meets its contract: a file is accepted and replayed, or refused.
 use mathlib.Core.Path.{_≡_, refl, sym, ap, _∙_}
 use denote.Ref.{now}
 use borrow.Author.Needs.{needs}
@@ -6,9 +6,9 @@ use Rattle.recording.specs.declared.Reading.{Reading}
 use Rattle.recording.specs.Reader.{reading}
 use Rattle.rerun.specs.Turn.{Totals}
 use Rattle.rerun.proofs.Turns.{few-effects, begins}
-use Rattle.embed.proofs.Answers.{refused-file}
-use Rattle.embed.proofs.pohandira_replay.Statement.{statement}
-use Rattle.embed.proofs.pohandira_replay.Tie as tie
+use Rattle.pohandira.proofs.Answers.{refused-file}
+use Rattle.pohandira.proofs.pohandira_replay.Statement.{statement}
+use Rattle.pohandira.proofs.pohandira_replay.Tie as tie
 
 -- ## The reading
 
