@@ -1,5 +1,5 @@
 /*
- * Replays recordings of shutdown logic, for C99 and C++. Both functions are proved. "Document 01" is the owner's requirement;
+ * Replays recordings of shutdown logic, for C99 and C++. The functions of the library are proved. "Document 01" is the owner's requirement;
  * docs/FORMAT.md says all of it: the recording byte by byte, the rules, the event records and the refusals.
  * The static library is target/staticlib/libpohandira.a (`rt staticlib pohandira`), for x86-64 Linux.
  *
@@ -23,7 +23,7 @@ extern "C" {
 /* ---- Sizes, in bytes ---- */
 
 #define POHANDIRA_CHECK_BYTES 24        /* the answer of pohandira_check: 3 numbers */
-#define POHANDIRA_TOTALS_BYTES 56       /* the totals of pohandira_replay: 7 numbers */
+#define POHANDIRA_TOTALS_BYTES 56       /* the totals of pohandira_count and pohandira_replay: 7 numbers */
 #define POHANDIRA_RECORD_BYTES 12       /* one event record */
 #define POHANDIRA_ROW_RECORDS_BYTES 384 /* room for the records of one row, always enough: two for each of 16 effects */
 #define POHANDIRA_MOST_ROWS 2048        /* rows of the largest recording */
@@ -62,9 +62,9 @@ enum { POHANDIRA_CHECK_NUMBER, POHANDIRA_CHECK_PLACE, POHANDIRA_CHECK_ROWS };
  */
 uint8_t pohandira_check(const uint8_t *recording, size_t length, uint8_t *answer, size_t answer_room);
 
-/* The numbers of a replay's totals. */
+/* The numbers of a count's and a replay's totals. */
 enum {
-    POHANDIRA_RECORDS,   /* event records written */
+    POHANDIRA_RECORDS,   /* event records: for a replay those written, for a count those that it would write */
     POHANDIRA_ROWS,      /* rows of the recording */
     POHANDIRA_SCANS,     /* scans of all rows */
     POHANDIRA_LIVE,      /* scans in which some effect changed its state */
@@ -72,6 +72,17 @@ enum {
     POHANDIRA_NUMBER,    /* 0, or the refusal's number */
     POHANDIRA_PLACE      /* the refusal's place, else 0 */
 };
+
+/*
+ * Replays a whole recording from a fresh state, and only counts: it answers what pohandira_replay does where the room for records is
+ * ample, and no record goes anywhere. The result is 0 or the refusal's number: 1 to 7, else 9, else 10 if totals_room is below
+ * POHANDIRA_TOTALS_BYTES.
+ *
+ * With too little room for the totals no byte of `totals` is touched. Otherwise POHANDIRA_TOTALS_BYTES bytes of them are written;
+ * on a refusal the first five numbers are 0. On 0 a replay of the same recording needs POHANDIRA_RECORD_BYTES bytes for each of the
+ * field POHANDIRA_RECORDS, and with that room it answers 0; with less it answers 10.
+ */
+uint8_t pohandira_count(const uint8_t *recording, size_t length, uint8_t *totals, size_t totals_room);
 
 /*
  * Replays a whole recording from a fresh state. The result is 0 or the refusal's number: 1 to 7, else 9, else 10 if records_room

@@ -86,18 +86,32 @@ static void check_as(const char *name, struct file file, size_t room, uint64_t n
     if (!holds(given, file.length, file.bytes, file.length)) fail("the check changed the recording");
 }
 
-static void replay_as(const char *name, struct file file, size_t records_room, size_t totals_room, struct answer answer) {
-    uint8_t *given = lend(file.length), *records = lend(records_room), *totals = lend(totals_room);
+/* Whether lent totals hold these numbers, if they fit; they are given back. */
+static int hold_numbers(uint8_t *totals, size_t room, const uint64_t numbers[7]) {
     uint8_t expected[POHANDIRA_TOTALS_BYTES];
+    for (size_t i = 0; i < 7; i++) put_number(expected + 8 * i, 8, numbers[i]);
+    return holds(totals, room, expected, room < POHANDIRA_TOTALS_BYTES ? 0 : POHANDIRA_TOTALS_BYTES);
+}
+
+static void count_as(const char *name, struct file file, size_t room, struct answer answer) {
+    uint8_t *given = lend(file.length), *totals = lend(room);
     at_hand = name;
     memcpy(given, file.bytes, file.length);
-    for (size_t i = 0; i < 7; i++) put_number(expected + 8 * i, 8, answer.totals[i]);
+    unsigned result = pohandira_count(given, file.length, totals, room);
+    if (result != answer.totals[POHANDIRA_NUMBER]) fail("the result of the count");
+    if (!hold_numbers(totals, room, answer.totals)) fail("the totals of the count");
+    if (!holds(given, file.length, file.bytes, file.length)) fail("the count changed the recording");
+}
+
+static void replay_as(const char *name, struct file file, size_t records_room, size_t totals_room, struct answer answer) {
+    uint8_t *given = lend(file.length), *records = lend(records_room), *totals = lend(totals_room);
+    at_hand = name;
+    memcpy(given, file.bytes, file.length);
     unsigned result = pohandira_replay(given, file.length, records, records_room, totals, totals_room);
     if (result != answer.totals[POHANDIRA_NUMBER]) fail("the result of the replay");
     if (!holds(records, records_room, answer.records, POHANDIRA_RECORD_BYTES * answer.totals[POHANDIRA_RECORDS]))
         fail("the records");
-    if (!holds(totals, totals_room, expected, totals_room < POHANDIRA_TOTALS_BYTES ? 0 : POHANDIRA_TOTALS_BYTES))
-        fail("the totals");
+    if (!hold_numbers(totals, totals_room, answer.totals)) fail("the totals");
     if (!holds(given, file.length, file.bytes, file.length)) fail("the replay changed the recording");
 }
 
@@ -133,6 +147,10 @@ static void try_session(void) {
         replay_as("session, too little room for records", session, little[i], POHANDIRA_TOTALS_BYTES, refused(10, 0));
     replay_as("session, one byte too little for totals", session, 96, 55, refused(10, 0));
     replay_as("session, no room at all", session, 0, 0, refused(10, 0));
+    count_as("session, counted", session, POHANDIRA_TOTALS_BYTES, session_answer);
+    count_as("session, counted, more room", session, 90, session_answer);
+    count_as("session, counted, one byte too little", session, 55, refused(10, 0));
+    count_as("session, counted, no room", session, 0, refused(10, 0));
     check_as("session", session, 24, 0, 0, 2);
     check_as("session, more room", session, 40, 0, 0, 2);
     check_as("session, room 23", session, 23, 10, 0, 0);
@@ -144,6 +162,7 @@ static void try_refused(const char *name, struct file file, uint64_t number, uin
     static const size_t rooms[] = {0, 23, 24, 55, 56, 800};
     for (size_t i = 0; i < 6; i++) {
         check_as(name, file, rooms[i], number, place, 0);
+        count_as(name, file, rooms[i], refused(number, place));
         for (size_t k = 0; k < 6; k++) replay_as(name, file, rooms[i], rooms[k], refused(number, place));
     }
 }
@@ -213,11 +232,15 @@ static struct file turns(uint8_t *bytes, unsigned effects, unsigned delay, unsig
 static void try_scans(uint8_t *bytes) {
     static const uint8_t record[] = {0, 0, 0, 0, 0, 1, 1, POHANDIRA_TRIPPED, POHANDIRA_NORMAL, 0, 0, 0};
     struct file file = turns(bytes, 1, 0, 1000, 1000000, 1);
-    replay_as("all scans", file, 24000, 56, (struct answer){{1, 1000, 1000000000, 1, 0, 0, 0}, record});
+    struct answer answer = {{1, 1000, 1000000000, 1, 0, 0, 0}, record};
+    replay_as("all scans", file, 24000, 56, answer);
+    count_as("all scans, counted", file, 56, answer);
     file = turns(bytes, 1, 0, 1001, 1000000, 1);
     replay_as("too many scans", file, 1001 * 384, 56, refused(9, 24016));
     replay_as("too many scans, no room for records", file, 0, 56, refused(9, 24016));
     replay_as("too many scans, no room for totals", file, 24024, 55, refused(9, 24016));
+    count_as("too many scans, counted", file, 56, refused(9, 24016));
+    count_as("too many scans, counted, no room for totals", file, 55, refused(9, 24016));
     check_as("too many scans, which the reader accepts", file, 24, 0, 0, 1001);
     file = turns(bytes, 1, 0, 2048, 1000000, 1);
     replay_as("too many scans long before the end", file, 2048 * 384, 56, refused(9, 24016));
@@ -251,6 +274,7 @@ static void try_largest(uint8_t *bytes) {
     at_hand = "largest recording";
     if (file.length != POHANDIRA_MOST_BYTES) fail("its length");
     check_as("largest recording", file, 24, 0, 0, 2048);
+    count_as("largest recording, counted", file, 56, answer);
     replay_as("largest recording, ample room", file, (size_t)2048 * POHANDIRA_ROW_RECORDS_BYTES, 56, answer);
     replay_as("largest recording, just enough room", file, size, 56, answer);
     replay_as("largest recording, one byte too little", file, size - 1, 56, refused(10, 0));
@@ -286,18 +310,22 @@ static void print_events(const uint8_t *records, size_t count) {
     }
 }
 
-/* Replays with ample room and, where that is accepted, with just enough and with one byte less; prints the lines of records. */
+/*
+ * Replays with ample room and, where that is accepted, with just enough and with one byte less; prints the lines of records. A count
+ * has the same totals, whatever they are.
+ */
 static void replay_and_print(struct file file, uint64_t totals[7]) {
     size_t room = (size_t)POHANDIRA_MOST_ROWS * POHANDIRA_ROW_RECORDS_BYTES;
     uint8_t *records = lend(room), numbers[POHANDIRA_TOTALS_BYTES];
     unsigned result = pohandira_replay(file.bytes, file.length, records, room, numbers, sizeof numbers);
     for (size_t i = 0; i < 7; i++) totals[i] = pohandira_field(numbers, i);
+    struct answer answer = {{0}, records};
+    memcpy(answer.totals, totals, sizeof answer.totals);
     if (result != totals[POHANDIRA_NUMBER]) fail("the result is not the number in the totals");
+    count_as(at_hand, file, POHANDIRA_TOTALS_BYTES, answer);
     if (totals[POHANDIRA_RECORDS] > room / POHANDIRA_RECORD_BYTES) fail("more records than there is room for");
     else if (!result) {
         size_t count = (size_t)totals[POHANDIRA_RECORDS], due = POHANDIRA_RECORD_BYTES * count;
-        struct answer answer = {{0}, records};
-        memcpy(answer.totals, totals, sizeof answer.totals);
         replay_as(at_hand, file, due, 56, answer);
         if (due) replay_as(at_hand, file, due - 1, 56, refused(10, 0));
         printf("seq scan effect from to first\n");

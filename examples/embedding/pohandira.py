@@ -1,5 +1,5 @@
 #!/usr/bin/env python3
-"""The proved replay from Python, by ctypes; include/pohandira.h says what the two functions do.
+"""The proved replay from Python, by ctypes; include/pohandira.h says what the functions do.
 
     examples/embedding/pohandira.py LIBRARY < RECORDING
 

@@ -1,4 +1,4 @@
-//! A safe wrapper of the proved replay; include/pohandira.h says what the two functions do.
+//! A safe wrapper of the proved replay; include/pohandira.h says what the functions do.
 //!
 //! All that they ask of a caller is kept here: a slice's pointer is never null, not even an empty one's, and what is borrowed
 //! mutably overlaps nothing. So no input is out of bounds, and `check` and `replay` are safe for any bytes.

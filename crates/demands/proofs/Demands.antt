@@ -52,7 +52,7 @@ use Rattle.pohandira.specs.Crossing.{checked, replayNumber, totalsOrRefusal}
 use Rattle.numbers.proofs.Stores.{length-numbers, fits, stays}
 use Rattle.pohandira.proofs.Theorems as pohandira
 use Rattle.demands.specs.Order.{InOrder, heldCases, scanCases}
-use Rattle.demands.specs.Library.{CheckInOrder, ReplayInOrder}
+use Rattle.demands.specs.Library.{CheckInOrder, ReplayInOrder, CountAsReplayed}
 use Rattle.demands.specs.Demands.{Demand1, RightInput, slot, ByTheRules, Demand2, Equals, OneScanMore, Demand3}
 use Rattle.demands.proofs.Order as order
 use Rattle.demands.proofs.Order.{granted-in-order, piece-in-order}
@@ -112,6 +112,16 @@ replay-in-order s records totals =
           ∙ sym (fits (numbers (crossing (counts (replay s .replay)))) totals (omega (arith, length-numbers (crossing (counts (replay s .replay))), room)));
     }
 
+count-as-replayed : (s records totals : List ℕ) → CountAsReplayed s records totals
+count-as-replayed s records totals =
+    let n = length totals in
+    record {
+      number = λ h. sym (pohandira.a-replay-answers-as-counted s (length records) n h);
+      totals-are = λ h. sym (pohandira.a-replay-totals-as-counted s totals (length records) h);
+      enough = λ z h. pohandira.counted-room-suffices s n (length records) n z h (pohandira.counted-totals-fit s n z);
+      too-few = pohandira.less-than-counted-does-not s n (length records) n;
+    }
+
 pub demand-1 : Demand1
 demand-1 =
     record {
@@ -137,6 +147,7 @@ demand-1 =
       );
       check-refuses-in-order = check-in-order;
       crossing-refuses-in-order = replay-in-order;
+      count-refuses-as-the-replay = count-as-replayed;
     }
 
 -- ## Demand 2

@@ -75,6 +75,7 @@ use Rattle.rerun.proofs.go.Reads as rerun·go
 use Rattle.listing.proofs.row.Reads as listing·row
 use Rattle.numbers.proofs.put_check.Reads as numbers·put-check
 use Rattle.numbers.proofs.put_totals.Reads as numbers·put-totals
+use Rattle.numbers.proofs.put_counted.Reads as numbers·put-counted
 use Rattle.numbers.proofs.refuse.Reads as numbers·refuse
 use Rattle.text.proofs.put_header.Reads as text·put-header
 use Rattle.text.proofs.put_lines.Reads as text·put-lines
@@ -352,6 +353,9 @@ numbers-put-check κs = by-equations (numbers·put-check.Learnt κs) (λ e. now 
 
 pub numbers-put-totals : (κs : Lfts 1) → Unique (numbers·put-totals.Learnt κs) (λ e. now (e .0))
 numbers-put-totals κs = by-equations (numbers·put-totals.Learnt κs) (λ e. now (e .0)) (λ a. tt) _ (λ a r e h. (refl, h))
+
+pub numbers-put-counted : (κs : Lfts 1) → Unique (numbers·put-counted.Learnt κs) (λ e. now (e .0))
+numbers-put-counted κs = by-equations (numbers·put-counted.Learnt κs) (λ e. now (e .0)) _ _ (λ a r e h. h)
 
 pub numbers-refuse : (κs : Lfts 1) → Unique (numbers·refuse.Learnt κs) (λ e. now (e .0))
 numbers-refuse κs = by-equations (numbers·refuse.Learnt κs) (λ e. now (e .0)) _ _ (λ a r e h. h)

@@ -44,7 +44,7 @@ use Rattle.rerun.specs.Replay.{answered, replay}
 use Rattle.listing.specs.Listing.{closing}
 use Rattle.listing.specs.Printed.{opening, hasRoom, placed, written}
 use Rattle.text.specs.Room.{mostPiece}
-use Rattle.pohandira.specs.Crossing.{checkNumber, checkInto, replayNumber, recordsInto, totalsInto}
+use Rattle.pohandira.specs.Crossing.{checkNumber, checkInto, countNumber, countInto, replayNumber, recordsInto, totalsInto}
 use Rattle.demands.specs.Contracts.{Gives, Returns, both}
 
 -- κ0, κ1, κ2 and κ3 are the lifetimes of what is lent
@@ -70,6 +70,8 @@ pub record EntryPoints (κ0 : Lfts 0) (κ1 : Lfts 1) (κ2 : Lfts 2) (κ3 : Lfts 
   pub replay : Returns (rerun.replay.Reads.Asked κ1) (rerun.replay.Reads.Learnt κ1) (λ (s, _). answered (replay (now s)))
   pub pohandira-check : Gives (pohandira.pohandira_check.Reads.Asked κ2) (pohandira.pohandira_check.Reads.Learnt κ2) (λ (s, (answer, _)). checkNumber (now s) (length (now answer)))
       (λ e. now (e .1 .0)) (λ (s, (answer, _)). checkInto (now s) (now answer))
+  pub pohandira-count : Gives (pohandira.pohandira_count.Reads.Asked κ2) (pohandira.pohandira_count.Reads.Learnt κ2) (λ (s, (totals, _)). countNumber (now s) (length (now totals)))
+      (λ e. now (e .1 .0)) (λ (s, (totals, _)). countInto (now s) (now totals))
   pub pohandira-replay : Gives (pohandira.pohandira_replay.Reads.Asked κ3) (pohandira.pohandira_replay.Reads.Learnt κ3) (λ (s, (records, (totals, _))). replayNumber (now s) (length (now records)) (length (now totals)))
       (both (λ e. now (e .1 .0)) (λ e. now (e .1 .1 .0))) (both (λ (s, (records, (totals, _))). recordsInto (now s) (length (now totals)) (now records)) (λ (s, (records, (totals, _))). totalsInto (now s) (length (now records)) (now totals)))
   -- listings (`listing`)

@@ -53,9 +53,10 @@ pub record Demand1 : Type 3 where
       → ((o .number ≡ 0) × (o .place ≡ 0) × (r .rows ≡ rowCount a))
       ⊎ ((o .number ≡ 9) × (o .place ≡ rowPlace s (r .rows)) × (r .rows < rowCount a) × (1000000000 < r .state .«scans_done» + rowOf s (r .rows) .hold)))
       × ((o .number ≡ 0 → ⊥) → answered o ≡ record { number = o .number; place = o .place; records = 0; rows = 0; scans = 0; live = 0; exercised = 0 })
-  -- the static library (`pohandira_check`, `pohandira_replay`)
+  -- the static library (`pohandira_check`, `pohandira_replay`, `pohandira_count`)
   pub check-refuses-in-order : (s answer : List ℕ) → CheckInOrder s answer
   pub crossing-refuses-in-order : (s records totals : List ℕ) → ReplayInOrder s records totals (replayNumber s (length records) (length totals))
+  pub count-refuses-as-the-replay : (s records totals : List ℕ) → CountAsReplayed s records totals
 
 -- ## Demand 2
 -- The reader accepts exactly document 01's recordings, and writing what was read gives the same bytes. One scan gives exactly the

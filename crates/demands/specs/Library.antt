@@ -12,9 +12,9 @@ use Rattle.recording.specs.Reader.{reading}
 use Rattle.recording.specs.Steps.{rowPlace}
 use Rattle.recording.specs.Refused.{Refused}
 use Rattle.recording.specs.Accepted.{Accepted}
-use Rattle.rerun.specs.Replay.{counts, replay, rowOf}
+use Rattle.rerun.specs.Replay.{counts, answered, replay, rowOf}
 use Rattle.numbers.specs.Numbers.{numbers, crossing}
-use Rattle.pohandira.specs.Crossing.{checkNumber, checkInto, recordsInto, totalsInto}
+use Rattle.pohandira.specs.Crossing.{checkNumber, checkInto, countNumber, countInto, replayNumber, recordsInto, totalsInto}
 
 -- A check (`pohandira_check`) refuses by the reader's refusal number, whatever the room, and last by 10: room below 24 bytes
 pub record CheckInOrder (s answer : List ℕ) : Type 0 where
@@ -43,3 +43,11 @@ pub record ReplayInOrder (s records totals : List ℕ) (n : ℕ) : Type 0 where
   -- without refusal the records stand in their buffer, and what all rows have given stands in the totals
   pub all-records : n ≡ 0 → recordsInto s (length totals) records ≡ sets records 0 (bytes (replay s .replay .events))
   pub all-totals : n ≡ 0 → 56 ≤ length totals → totalsInto s (length records) totals ≡ sets totals 0 (numbers (crossing (counts (replay s .replay))))
+
+-- A count (`pohandira_count`) answers what a replay does that has room for all records: the same number, and the same totals
+pub record CountAsReplayed (s records totals : List ℕ) : Type 0 where
+  pub number : (replay s .number ≡ 0 → 12 * length (replay s .replay .events) ≤ length records) → countNumber s (length totals) ≡ replayNumber s (length records) (length totals)
+  pub totals-are : (replay s .number ≡ 0 → 12 * length (replay s .replay .events) ≤ length records) → countInto s totals ≡ totalsInto s (length records) totals
+  -- so after a count that answers 0 a replay needs room for just the records that the totals tell, their first number
+  pub enough : countNumber s (length totals) ≡ 0 → 12 * answered (replay s) .records ≤ length records → replayNumber s (length records) (length totals) ≡ 0
+  pub too-few : countNumber s (length totals) ≡ 0 → length records < 12 * answered (replay s) .records → replayNumber s (length records) (length totals) ≡ 10

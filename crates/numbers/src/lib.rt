@@ -7,7 +7,7 @@ ghost use lib.ListN.{length};
 ghost use lib.Seq.{sets};
 ghost use Rattle.settings.specs.Refusals.{orElse, roomNumber};
 ghost use Rattle.rerun.specs.Replay.{refusal};
-ghost use Rattle.numbers.specs.Numbers.{numberBytes, checkBytes, numbers, fitted, crossing};
+ghost use Rattle.numbers.specs.Numbers.{numberBytes, checkBytes, totalsBytes, numbers, fitted, crossing};
 use rerun::Replayed;
 
 // The bytes of a number, of the answer to a check (three numbers), and of totals (seven).
@@ -71,6 +71,18 @@ pub fn put_totals(out: &mut [u8], r: Replayed)
     put_three(out, 0, r.records as u64, r.rows as u64, r.scans as u64);
     put_two(out, NUMBER_BYTES * 3, r.live as u64, r.exercised as u64);
     put_two(out, NUMBER_BYTES * 5, r.number as u64, r.place as u64);
+}
+
+// Writes what a replay comes to, if it fits, and answers its number.
+pub fn put_counted(out: &mut [u8], r: Replayed) -> u8
+    ensures { λ n. ⌜ n ≡ orElse (r .number) (roomNumber totalsBytes (length (now (out .entry)))) ⌝ }
+    ensures { λ _. ⌜ now (out .exit) ≡ fitted (numbers (crossing r)) (now (out .entry)) ⌝ }
+{
+    if out.len() < TOTALS_BYTES {
+        return or_ten(r.number);
+    }
+    put_totals(out, r);
+    r.number
 }
 
 // A refusal: its number and place, and no record.

@@ -1,25 +1,29 @@
--- What is promised of what crosses, each theorem stated once by what it says. Document 01, "Refusal numbers". `checkNumber` and
--- `replayNumber` are the results, `checkInto`, `recordsInto` and `totalsInto` what the lent buffers hold, by the contracts in src/.
+-- What is promised of what crosses, each theorem stated once by what it says. Document 01, "Refusal numbers". `checkNumber`,
+-- `replayNumber` and `countNumber` are the results, `checkInto`, `recordsInto`, `totalsInto` and `countInto` what the lent buffers hold, by
+-- the contracts in src/.
 use mathlib.Core.Path.{_≡_, refl, sym, ap, _∙_}
 use mathlib.Core.Bool.{Bool, true, false}
 use mathlib.Core.List.{List}
 use Prim.Native.Nat.{ℕ, zero, suc, _*_, _≤_, _<_}
 use native.Mathlib.Nat.{mul-assoc, mul-le-mul-right}
 use native.Mathlib.Omega.{arith}
+use borrow.Author.Tests.{leb-true, leb-false}
 use lib.Dec.{leb}
 use lib.ListN.{length}
 use lib.Seq.{sets}
 use Rattle.effects.specs.Records.{recordLength, bytes, mostRowBytes}
-use Rattle.settings.specs.Refusals.{unless, orElse, roomNumber}
-use Rattle.settings.proofs.Refusals.{granted-refused, granted-either, granted-number, room-enough, room-short, or-else-alone, or-else-first, or-else-next, or-else-none}
+use Rattle.settings.specs.Refusals.{unless, orElse, granted, roomNumber}
+use Rattle.settings.proofs.Refusals.{granted-none, granted-refused, granted-either, granted-number, granted-alike, limit-kept, room-enough, room-short, or-else-alone, or-else-first, or-else-next, or-else-none}
 use Rattle.recording.specs.Answers.{number, rowCount}
 use Rattle.recording.specs.Reader.{reading}
 use Rattle.recording.specs.Accepted.{Accepted}
-use Rattle.rerun.specs.Replay.{Outcome, replay, counts, refusal}
+use Rattle.rerun.specs.declared.Replayed.{Replayed}
+use Rattle.rerun.specs.Replay.{Outcome, replay, counts, refusal, answered}
 use Rattle.rerun.proofs.Files.{most-effects, whole-so-far}
 use Rattle.rerun.proofs.Theorems.{a-refused-file-is-not-run, a-replay-is-all-its-rows, two-records-an-effect-and-row}
-use Rattle.numbers.specs.Numbers.{checkBytes, totalsBytes}
-use Rattle.pohandira.specs.Crossing.{mostEffectBytes, checkNumber, replayNumber, recordsInto, totalsOrRefusal}
+use Rattle.numbers.specs.Numbers.{checkBytes, totalsBytes, numbers, fitted, crossing}
+use Rattle.numbers.proofs.Stores.{length-numbers, stays}
+use Rattle.pohandira.specs.Crossing.{mostEffectBytes, checkNumber, countNumber, countInto, replayNumber, recordsInto, totalsOrRefusal, totalsInto}
 
 -- ## A check
 
@@ -119,3 +123,54 @@ module _ (s : List ℕ) (room totalsRoom : ℕ) where
 pub refused-untouched : (s records : List ℕ) (totalsRoom : ℕ) → (replayNumber s (length records) totalsRoom ≡ 0 → ⊥) → recordsInto s totalsRoom records ≡ records
 refused-untouched s records totalsRoom h =
     granted-refused (sets records 0 (bytes (replay s .replay .events))) (λ k. records) (replayNumber s (length records) totalsRoom) h
+
+-- ## A count
+
+-- the number of what a count tells is the replay's, and where that is 0 its records are those that are due
+pub counted-number : (s : List ℕ) → answered (replay s) .number ≡ replay s .number
+counted-number s =
+    granted-number (counts (replay s .replay)) (refusal (replay s .place)) (λ r. r .number) (replay s .number)
+    (λ z. refl)
+    (λ k. refl)
+
+pub counted-records : (s : List ℕ) → replay s .number ≡ 0 → answered (replay s) .records ≡ length (replay s .replay .events)
+counted-records s z = ap (λ (r : Replayed). r .records) (granted-none (counts (replay s .replay)) (refusal (replay s .place)) (replay s .number) z)
+
+-- where the totals fit, a count has the number of the replay itself
+pub count-with-room : (s : List ℕ) (totalsRoom : ℕ) → totalsBytes ≤ totalsRoom → countNumber s totalsRoom ≡ replay s .number
+count-with-room s totalsRoom h = ap (orElse (replay s .number)) (room-enough totalsBytes totalsRoom h) ∙ or-else-alone (replay s .number) 0 (λ z. refl)
+
+-- with room for all records a replay gives the number of a count
+pub a-replay-answers-as-counted : (s : List ℕ) (room totalsRoom : ℕ) → (replay s .number ≡ 0 → due s room totalsRoom ≤ room) → replayNumber s room totalsRoom ≡ countNumber s totalsRoom
+a-replay-answers-as-counted s room totalsRoom h =
+    let totals = roomNumber totalsBytes totalsRoom in
+    granted-alike totals (λ n. n) (replay s .number) _ (λ z. ap (λ (n : ℕ). orElse n totals) (room-enough (due s room totalsRoom) room (h z)))
+
+-- and its totals
+pub a-replay-totals-as-counted : (s totals : List ℕ) (room : ℕ) → (replay s .number ≡ 0 → due s room (length totals) ≤ room) → totalsInto s room totals ≡ countInto s totals
+a-replay-totals-as-counted s totals room h = go (leb totalsBytes (length totals)) refl
+  where
+    answer : ℕ → Replayed
+    answer n = granted n (counts (replay s .replay)) (refusal (replay s .place))
+
+    left : (n : ℕ) → length totals < totalsBytes → totals ≡ fitted (numbers (crossing (answer n))) totals
+    left n short = stays (numbers (crossing (answer n))) totals (omega (arith, short, length-numbers (crossing (answer n))))
+
+    go : (b : Bool) → leb totalsBytes (length totals) ≡ b → totalsInto s room totals ≡ countInto s totals
+    go true e = ap (λ (n : ℕ). fitted (numbers (crossing (answer n))) totals) (with-room s room (length totals) h (leb-true totalsBytes (length totals) e))
+    go false e = let short = leb-false totalsBytes (length totals) e in sym (left (replayNumber s room (length totals)) short) ∙ left (replay s .number) short
+
+-- a count answers 0 only where its totals fit
+pub counted-totals-fit : (s : List ℕ) (totalsRoom : ℕ) → countNumber s totalsRoom ≡ 0 → totalsBytes ≤ totalsRoom
+counted-totals-fit s totalsRoom z = limit-kept totalsBytes totalsRoom 9 (or-else-none (replay s .number) _ z .1)
+
+-- after a count that answers 0, room for the records that it tells suffices, and less does not
+module _ (s : List ℕ) (countRoom room totalsRoom : ℕ) (z : countNumber s countRoom ≡ 0) where
+  whole : replay s .number ≡ 0
+  whole = or-else-none (replay s .number) _ z .0
+
+  pub counted-room-suffices : recordLength * answered (replay s) .records ≤ room → totalsBytes ≤ totalsRoom → replayNumber s room totalsRoom ≡ 0
+  counted-room-suffices h k = nothing-refused s room totalsRoom whole (omega (arith, h, counted-records s whole)) k
+
+  pub less-than-counted-does-not : room < recordLength * answered (replay s) .records → replayNumber s room totalsRoom ≡ 10
+  less-than-counted-does-not h = ten-for-the-records s room totalsRoom whole (omega (arith, h, counted-records s whole))

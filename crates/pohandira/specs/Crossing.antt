@@ -10,7 +10,7 @@ use Rattle.recording.specs.declared.Answer.{Answer}
 use Rattle.recording.specs.Answers.{number, place, rowCount}
 use Rattle.recording.specs.Reader.{reading}
 use Rattle.rerun.specs.declared.Replayed.{Replayed}
-use Rattle.rerun.specs.Replay.{replay, counts, refusal}
+use Rattle.rerun.specs.Replay.{replay, counts, refusal, answered}
 use Rattle.numbers.specs.Numbers.{checkBytes, totalsBytes, numbers, fitted, crossing}
 
 -- ## A check: what the reader answers
@@ -47,3 +47,13 @@ totalsOrRefusal s room totalsRoom = granted (replayNumber s room totalsRoom) (co
 
 abbrev pub totalsInto : List ℕ → (room : ℕ) → List ℕ → List ℕ
 totalsInto s room out = fitted (numbers (crossing (totalsOrRefusal s room (length out)))) out
+
+-- ## A count: a replay whose records go nowhere
+
+-- the reader's number or 9; else 10 if the totals do not fit
+abbrev pub countNumber : List ℕ → (totalsRoom : ℕ) → ℕ
+countNumber s totalsRoom = orElse (replay s .number) (roomNumber totalsBytes totalsRoom)
+
+-- what all rows have given, the records first; or the refusal
+abbrev pub countInto : List ℕ → List ℕ → List ℕ
+countInto s out = fitted (numbers (crossing (answered (replay s)))) out

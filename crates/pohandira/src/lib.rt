@@ -1,4 +1,4 @@
-// The library that other languages link: a check and a whole replay of a recording, by the C ABI. Each takes bytes and lent
+// The library that other languages link: a check, a count and a whole replay of a recording, by the C ABI. Each takes bytes and lent
 // buffers, keeps nothing, and answers any bytes. What crosses is in specs/Crossing, and include/pohandira.h says it in C.
 // It rests on `rerun` for the replay and on `numbers` for the bytes of what crosses. How the room is found out (a bound, or a pass that counts) may change without moving a
 // contract; the numbers that cross, their order and their 8 bytes may not.
@@ -9,7 +9,7 @@ ghost use Rattle.effects.specs.Records.{recordLength};
 ghost use Rattle.settings.specs.Refusals.{roomNumber};
 ghost use Rattle.rerun.specs.Replay.{replay};
 ghost use Rattle.rerun.specs.Turn.{Going, stopOf};
-ghost use Rattle.pohandira.specs.Crossing.{checkNumber, checkInto, replayNumber, recordsInto, totalsInto};
+ghost use Rattle.pohandira.specs.Crossing.{checkNumber, checkInto, countNumber, countInto, replayNumber, recordsInto, totalsInto};
 use recording::Answer;
 use rerun::Run;
 use rerun::Stop;
@@ -32,6 +32,19 @@ pub extern "C" fn pohandira_check(recording: &[u8], answer: &mut [u8]) -> u8
         } => numbers::put_check(answer, 0, 0, rows),
         Answer::Refused { number, place } => numbers::put_check(answer, number, place, 0),
     }
+}
+
+// ---- a count
+
+// Replays a recording and keeps no record: its number, and in `totals` the 56 bytes that a replay with room for all records gives. So a
+// caller learns how many records there are before it lends room for them.
+#[no_mangle]
+pub extern "C" fn pohandira_count(recording: &[u8], totals: &mut [u8]) -> u8
+    ensures { λ r. ⌜ r ≡ countNumber (now (recording .entry)) (length (now (totals .entry))) ⌝ }
+    ensures { λ _. ⌜ now (totals .exit) ≡ countInto (now (recording .entry)) (now (totals .entry)) ⌝ }
+{
+    let counted = rerun::replay(recording);
+    numbers::put_counted(totals, counted)
 }
 
 // ---- a replay

@@ -9,15 +9,17 @@ use Rattle.effects.specs.Records.{recordLength, encode, bytes}
 use Rattle.recording.specs.declared.Answer.{Answer}
 use Rattle.recording.specs.declared.Answer.the-variants as A
 use Rattle.recording.specs.Answers.{number}
-use Rattle.rerun.specs.Replay.{replay, counts}
+use Rattle.rerun.specs.declared.Replayed.{Replayed}
+use Rattle.rerun.specs.Replay.{replay, counts, refusal, answered}
+use Rattle.settings.proofs.Refusals.{granted-none}
 use Rattle.worked.specs.Recorded.{session, sessionEvents}
 use Rattle.worked.proofs.Recorded.{the-session-is-read, the-session}
 use Rattle.numbers.specs.Numbers.{checkBytes, totalsBytes, numbers, fitted, crossing}
-use Rattle.pohandira.specs.Crossing.{checked, checkNumber, checkInto, replayNumber, recordsInto, totalsInto}
+use Rattle.pohandira.specs.Crossing.{checked, checkNumber, checkInto, countNumber, countInto, replayNumber, recordsInto, totalsInto}
 use Rattle.worked.specs.Crossed.{sessionRecords, sessionTotals, sessionAnswer}
 use Rattle.numbers.proofs.Stores.{fits}
 use Rattle.pohandira.proofs.Answers.{crosses}
-use Rattle.pohandira.proofs.Theorems.{check-with-room, nothing-refused}
+use Rattle.pohandira.proofs.Theorems.{check-with-room, nothing-refused, count-with-room}
 
 records-spelled : bytes sessionEvents ≡ sessionRecords
 unfolding encode flatMap
@@ -37,15 +39,23 @@ the-session-is-checked answer room = (
   ap (λ (a : Answer). fitted (numbers (checked a)) answer) the-session-is-read ∙ ap (λ (l : List ℕ). fitted l answer) answer-spelled ∙ sym (fits sessionAnswer answer room),
 )
 
+records-are : bytes (replay session .replay .events) ≡ sessionRecords
+records-are = ap bytes (the-session .1) ∙ records-spelled
+
+totals-are : numbers (crossing (counts (replay session .replay))) ≡ sessionTotals
+totals-are =
+    let o = the-session in
+    (λ j. numbers (length (o .1 j) ∷ o .2 j ∷ o .3 j ∷ o .4 j ∷ o .5 j ∷ 0 ∷ 0 ∷ [])) ∙ totals-spelled
+
+pub the-session-is-counted : (totals : List ℕ) → totalsBytes ≤ length totals → (countNumber session (length totals) ≡ 0) × (countInto session totals ≡ sets totals 0 sessionTotals)
+the-session-is-counted totals room =
+    let r = replay session in
+    let whole : answered r ≡ counts (r .replay) = granted-none (counts (r .replay)) (refusal (r .place)) (r .number) (the-session .0) in (
+      count-with-room session (length totals) room ∙ the-session .0,
+      ap (λ (a : Replayed). fitted (numbers (crossing a)) totals) whole ∙ ap (λ (l : List ℕ). fitted l totals) totals-are ∙ sym (fits sessionTotals totals room),
+    )
+
 module _ (records totals : List ℕ) (room : recordLength * 5 ≤ length records) (totals-room : totalsBytes ≤ length totals) where
-  records-are : bytes (replay session .replay .events) ≡ sessionRecords
-  records-are = ap bytes (the-session .1) ∙ records-spelled
-
-  totals-are : numbers (crossing (counts (replay session .replay))) ≡ sessionTotals
-  totals-are =
-      let o = the-session in
-      (λ j. numbers (length (o .1 j) ∷ o .2 j ∷ o .3 j ∷ o .4 j ∷ o .5 j ∷ 0 ∷ 0 ∷ [])) ∙ totals-spelled
-
   pub the-session-crosses : (replayNumber session (length records) (length totals) ≡ 0)
       × (recordsInto session (length totals) records ≡ sets records 0 sessionRecords)
       × (totalsInto session (length records) totals ≡ sets totals 0 sessionTotals)

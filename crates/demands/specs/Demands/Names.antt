@@ -50,5 +50,5 @@ pub use Rattle.pohandira.specs.Crossing.{replayNumber}
 -- this crate's
 pub use Rattle.demands.specs.Answers.{Answers}
 pub use Rattle.demands.specs.Order.{firstOf, InOrder, settingsCases, wordsCases, rowCases, heldCases, scanCases, openingCases, rowPieceCases}
-pub use Rattle.demands.specs.Library.{CheckInOrder, ReplayInOrder}
+pub use Rattle.demands.specs.Library.{CheckInOrder, ReplayInOrder, CountAsReplayed}
 pub use Rattle.demands.specs.Back.{Recording, writtenBack}
