@@ -20,6 +20,17 @@
 extern "C" {
 #endif
 
+/* ---- The version ---- */
+
+/*
+ * The version that this header is of: 1,000,000 for each major version, 1,000 for each minor one and 1 for each patch, so that a
+ * later version is a greater number. It is compared with pohandira_version(), the library's own: records and totals may grow, and then
+ * a program that was compiled with another header must not read them.
+ */
+#define POHANDIRA_VERSION 1000 /* 0.1.0 */
+
+uint32_t pohandira_version(void);
+
 /* ---- Sizes, in bytes ---- */
 
 #define POHANDIRA_CHECK_BYTES 24        /* the answer of pohandira_check: 3 numbers */

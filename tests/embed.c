@@ -1,10 +1,11 @@
 /*
  * The static library called from outside, through include/pohandira.h alone. tests/embed builds and runs it.
  *
+ *     embed version           the version of the header, and that of the library
  *     embed checks            cases whose answers were worked out by hand from document 01
  *     embed list < CASES      the listing of each recording in a stream of cases, as `second answer replay` prints it
  *
- * In both, every byte of every lent buffer is compared, and so are the bytes before and after it: what a call doesn't say
+ * In the last two, every byte of every lent buffer is compared, and so are the bytes before and after it: what a call doesn't say
  * that it writes has to stay as it was. Exit status 1 if anything is wrong, which is said.
  */
 #include "pohandira.h"
@@ -384,9 +385,15 @@ static int list_stream(void) {
     return failures ? 1 : 0;
 }
 
+static int version(void) {
+    printf("header %lu library %lu\n", (unsigned long)POHANDIRA_VERSION, (unsigned long)pohandira_version());
+    return 0;
+}
+
 int main(int count, char **words) {
+    if (count == 2 && !strcmp(words[1], "version")) return version();
     if (count == 2 && !strcmp(words[1], "checks")) return checks();
     if (count == 2 && !strcmp(words[1], "list")) return list_stream();
-    fprintf(stderr, "usage: embed checks | embed list < CASES\n");
+    fprintf(stderr, "usage: embed version | embed checks | embed list < CASES\n");
     return 2;
 }

@@ -43,6 +43,7 @@ entry-points κ0 κ1 κ2 κ3 =
       write-row = record { nothing-asked = λ a. tt; says = λ a r e h. h };
       nth = record { nothing-asked = λ a. tt; says = λ a r e h. (h, refl) };
       replay = record { nothing-asked = λ a. tt; says = λ a r e h. (h, refl) };
+      pohandira-version = record { nothing-asked = λ a. tt; says = λ a r e h. (h, refl) };
       pohandira-check = record { nothing-asked = λ a. tt; says = λ a r e h. h };
       pohandira-count = record { nothing-asked = λ a. tt; says = λ a r e h. h };
       pohandira-replay = record { nothing-asked = λ a. tt; says = λ a r e h. (h .0, ap₂ (λ (b c : List ℕ). (b, c)) (h .1 .0) (h .1 .1)) };

@@ -45,6 +45,7 @@ use Rattle.listing.specs.Listing.{closing}
 use Rattle.listing.specs.Printed.{opening, hasRoom, placed, written}
 use Rattle.text.specs.Room.{mostPiece}
 use Rattle.pohandira.specs.Crossing.{checkNumber, checkInto, countNumber, countInto, replayNumber, recordsInto, totalsInto}
+use Rattle.pohandira.specs.Version.{version}
 use Rattle.demands.specs.Contracts.{Gives, Returns, both}
 
 -- κ0, κ1, κ2 and κ3 are the lifetimes of what is lent
@@ -68,6 +69,7 @@ pub record EntryPoints (κ0 : Lfts 0) (κ1 : Lfts 1) (κ2 : Lfts 2) (κ3 : Lfts 
   pub nth : Returns (walk.nth.Reads.Asked κ1) (walk.nth.Reads.Learnt κ1) (λ (s, (n, _)). nthOf (now s) n)
   -- whole files (`rerun`), and the static library (`pohandira`)
   pub replay : Returns (rerun.replay.Reads.Asked κ1) (rerun.replay.Reads.Learnt κ1) (λ (s, _). answered (replay (now s)))
+  pub pohandira-version : Returns (pohandira.pohandira_version.Reads.Asked κ0) (pohandira.pohandira_version.Reads.Learnt κ0) (λ _. version)
   pub pohandira-check : Gives (pohandira.pohandira_check.Reads.Asked κ2) (pohandira.pohandira_check.Reads.Learnt κ2) (λ (s, (answer, _)). checkNumber (now s) (length (now answer)))
       (λ e. now (e .1 .0)) (λ (s, (answer, _)). checkInto (now s) (now answer))
   pub pohandira-count : Gives (pohandira.pohandira_count.Reads.Asked κ2) (pohandira.pohandira_count.Reads.Learnt κ2) (λ (s, (totals, _)). countNumber (now s) (length (now totals)))

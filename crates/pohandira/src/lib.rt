@@ -1,7 +1,8 @@
-// The library that other languages link: a check, a count and a whole replay of a recording, by the C ABI. Each takes bytes and lent
-// buffers, keeps nothing, and answers any bytes. What crosses is in specs/Crossing, and include/pohandira.h says it in C.
-// It rests on `rerun` for the replay and on `numbers` for the bytes of what crosses. How the room is found out (a bound, or a pass that counts) may change without moving a
-// contract; the numbers that cross, their order and their 8 bytes may not.
+// The library that other languages link, by the C ABI: its version, and a check, a count and a whole replay of a recording. Each of
+// these takes bytes and lent buffers, keeps nothing, and answers any bytes. What crosses is in specs/Crossing, and
+// include/pohandira.h says it in C. It rests on `rerun` for the replay and on `numbers` for the bytes of what crosses. How the room is
+// found out (a bound, or a pass that counts) may change without moving a contract; the numbers that cross, their order and their 8
+// bytes may not.
 ghost use mathlib.Core.Path.{_≡_};
 ghost use Prim.Native.Nat.{_*_};
 ghost use lib.ListN.{length};
@@ -10,9 +11,31 @@ ghost use Rattle.settings.specs.Refusals.{roomNumber};
 ghost use Rattle.rerun.specs.Replay.{replay};
 ghost use Rattle.rerun.specs.Turn.{Going, stopOf};
 ghost use Rattle.pohandira.specs.Crossing.{checkNumber, checkInto, countNumber, countInto, replayNumber, recordsInto, totalsInto};
+ghost use Rattle.pohandira.specs.Version.{version};
 use recording::Answer;
 use rerun::Run;
 use rerun::Stop;
+
+// ---- the version
+
+// Those of the file VERSION, and what one of each is worth in one number.
+const MAJOR: u32 = 0;
+
+const MINOR: u32 = 1;
+
+const PATCH: u32 = 0;
+
+const MAJOR_WORTH: u32 = 1000000;
+
+const MINOR_WORTH: u32 = 1000;
+
+// The version as one number. A caller compares it with that of the header it was compiled with, since what crosses may grow.
+#[no_mangle]
+pub extern "C" fn pohandira_version() -> u32
+    ensures { λ r. ⌜ r ≡ version ⌝ }
+{
+    MAJOR * MAJOR_WORTH + MINOR * MINOR_WORTH + PATCH
+}
 
 // ---- a check
 
