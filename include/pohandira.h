@@ -61,6 +61,23 @@ enum {
     POHANDIRA_NO_ROOM = 10        /* an output is too small; the place is 0 */
 };
 
+/* A refusal number in words; "unknown" for a number that no function here answers. */
+static inline const char *pohandira_refusal_text(uint64_t number) {
+    switch (number) {
+    case POHANDIRA_ACCEPTED: return "accepted";
+    case POHANDIRA_TOO_SHORT: return "bytes end before a count or an entry does";
+    case POHANDIRA_BLOCK_WRONG: return "block section wrong";
+    case POHANDIRA_EFFECTS_WRONG: return "effects section wrong";
+    case POHANDIRA_ROW_WRONG: return "row count, hold or a row word wrong";
+    case POHANDIRA_BOTH_FORCES: return "one effect in both force words";
+    case POHANDIRA_SEVERAL_FORCED: return "several forced without option bit 2";
+    case POHANDIRA_SPARE_BYTES: return "bytes left over";
+    case POHANDIRA_TOO_MANY_SCANS: return "more than 1,000,000,000 scans";
+    case POHANDIRA_NO_ROOM: return "an output is too small";
+    default: return "unknown";
+    }
+}
+
 /* ---- The functions ---- */
 
 /* The numbers of a check's answer. */
@@ -121,6 +138,30 @@ enum {
     POHANDIRA_DELAYED = 5
 };
 
+/* A state's name, as a listing has it; "unknown" for a code that is none. */
+static inline const char *pohandira_state_name(unsigned code) {
+    switch (code) {
+    case POHANDIRA_TRIPPED: return "tripped";
+    case POHANDIRA_WAIT_RESET: return "wait-reset";
+    case POHANDIRA_READY: return "ready";
+    case POHANDIRA_WAIT_START: return "wait-start";
+    case POHANDIRA_NORMAL: return "normal";
+    case POHANDIRA_DELAYED: return "delayed";
+    default: return "unknown";
+    }
+}
+
+/* The totals of a count or a replay, as the fields POHANDIRA_RECORDS to POHANDIRA_PLACE. */
+struct pohandira_totals {
+    uint64_t records;
+    uint64_t rows;
+    uint64_t scans;
+    uint64_t live;
+    uint64_t exercised;
+    uint64_t number;
+    uint64_t place;
+};
+
 /* One change of one effect's state (document 01, "The rules of one scan"). */
 struct pohandira_event {
     uint16_t sequence;  /* from 0; after 65,535 comes 0 */
@@ -141,6 +182,19 @@ static inline uint64_t pohandira_number(const uint8_t *bytes, size_t size) {
 /* Number `field` of an answer or of totals, as POHANDIRA_CHECK_ROWS or POHANDIRA_LIVE. */
 static inline uint64_t pohandira_field(const uint8_t *numbers, size_t field) {
     return pohandira_number(numbers + 8 * field, 8);
+}
+
+/* All totals, of the POHANDIRA_TOTALS_BYTES bytes that a count or a replay has written. */
+static inline struct pohandira_totals pohandira_totals_at(const uint8_t *bytes) {
+    struct pohandira_totals totals;
+    totals.records = pohandira_field(bytes, POHANDIRA_RECORDS);
+    totals.rows = pohandira_field(bytes, POHANDIRA_ROWS);
+    totals.scans = pohandira_field(bytes, POHANDIRA_SCANS);
+    totals.live = pohandira_field(bytes, POHANDIRA_LIVE);
+    totals.exercised = pohandira_field(bytes, POHANDIRA_EXERCISED);
+    totals.number = pohandira_field(bytes, POHANDIRA_NUMBER);
+    totals.place = pohandira_field(bytes, POHANDIRA_PLACE);
+    return totals;
 }
 
 /* Record `index` of a replay, from 0; it must be below the field POHANDIRA_RECORDS. */

@@ -282,8 +282,44 @@ static void try_largest(uint8_t *bytes) {
     free(records);
 }
 
+static void same_text(const char *text, const char *expected) {
+    if (strcmp(text, expected)) fail(text);
+}
+
+/* Every refusal number and every code of a state in words, and those that are none. */
+static void try_texts(void) {
+    static const char *const refusals[] = {
+        "accepted", "bytes end before a count or an entry does", "block section wrong", "effects section wrong",
+        "row count, hold or a row word wrong", "one effect in both force words", "several forced without option bit 2",
+        "bytes left over", "unknown", "more than 1,000,000,000 scans", "an output is too small", "unknown",
+    };
+    static const char *const states[] = {"tripped", "wait-reset", "ready", "wait-start", "normal", "delayed", "unknown"};
+    at_hand = "texts";
+    for (size_t i = 0; i < sizeof refusals / sizeof refusals[0]; i++) same_text(pohandira_refusal_text(i), refusals[i]);
+    for (unsigned i = 0; i < sizeof states / sizeof states[0]; i++) same_text(pohandira_state_name(i), states[i]);
+    same_text(pohandira_refusal_text((uint64_t)1 << 32), "unknown");
+    same_text(pohandira_state_name(256), "unknown");
+}
+
+/* The reader of all totals, on seven numbers of which no two are alike. */
+static void try_totals(void) {
+    uint8_t bytes[POHANDIRA_TOTALS_BYTES];
+    for (size_t i = 0; i < sizeof bytes; i++) bytes[i] = (uint8_t)(i + 1);
+    struct pohandira_totals totals = pohandira_totals_at(bytes);
+    at_hand = "the reader of all totals";
+    if (totals.records != 0x0102030405060708) fail("records");
+    if (totals.rows != 0x090a0b0c0d0e0f10) fail("rows");
+    if (totals.scans != 0x1112131415161718) fail("scans");
+    if (totals.live != 0x191a1b1c1d1e1f20) fail("live");
+    if (totals.exercised != 0x2122232425262728) fail("exercised");
+    if (totals.number != 0x292a2b2c2d2e2f30) fail("number");
+    if (totals.place != 0x3132333435363738) fail("place");
+}
+
 static int checks(void) {
     uint8_t *bytes = allocated(POHANDIRA_MOST_BYTES);
+    try_texts();
+    try_totals();
     try_session();
     try_refusals();
     try_bad();
@@ -297,17 +333,11 @@ static int checks(void) {
 
 /* ---- Listings ---- */
 
-static const char *const names[] = {"tripped", "wait-reset", "ready", "wait-start", "normal", "delayed"};
-
 static void print_events(const uint8_t *records, size_t count) {
     for (size_t i = 0; i < count; i++) {
         struct pohandira_event event = pohandira_event_at(records, i);
-        if (event.before > 5 || event.after > 5) {
-            fail("a state that is none");
-            continue;
-        }
-        printf("%u %u %u %s %s %u\n", event.sequence, event.scan, event.effect, names[event.before], names[event.after],
-               event.first_out);
+        printf("%u %u %u %s %s %u\n", event.sequence, event.scan, event.effect, pohandira_state_name(event.before),
+               pohandira_state_name(event.after), event.first_out);
     }
 }
 
