@@ -4,8 +4,8 @@
     examples/embedding/pohandira.py LIBRARY < RECORDING
 
 prints the listing of a recording (document 01, "One session, whole"). LIBRARY is a shared object that is made
-from the static library; README.md says how. The exit status is 0; 1 if the recording is refused; 2 if the library or the
-recording could not be read or the listing could not be written.
+from the static library; README.md says how. The exit status is 0; 1 if the recording is refused, and standard error then says
+why; 2 if the library or the recording could not be read, the listing could not be written, or the library is of another version.
 """
 
 import ctypes
@@ -14,16 +14,33 @@ import struct
 import sys
 from typing import NamedTuple
 
-CHECK_BYTES, TOTALS_BYTES, RECORD_BYTES, ROW_RECORDS_BYTES = 24, 56, 12, 384
+VERSION = 1000  # that this file is for, as one number
+CHECK_BYTES, TOTALS_BYTES, RECORD_BYTES = 24, 56, 12
 STATES = ("tripped", "wait-reset", "ready", "wait-start", "normal", "delayed")
 
 
+REFUSALS = {
+    1: "bytes end before a count or an entry does",
+    2: "block section wrong",
+    3: "effects section wrong",
+    4: "row count, hold or a row word wrong",
+    5: "one effect in both force words",
+    6: "several forced without option bit 2",
+    7: "bytes left over",
+    9: "more than 1,000,000,000 scans",
+}
+
+
+class OtherVersion(Exception):
+    """A library that is not of this file's version: what crosses may have grown."""
+
+
 class Refused(Exception):
-    """A recording that is refused: the number (document 01, "Refusal numbers") and the place in bytes."""
+    """A recording that is refused: the number (document 01, "Refusal numbers"), the place in bytes, and the number in words."""
 
     def __init__(self, number, place):
         super().__init__(f"refused {number} at {place}")
-        self.number, self.place = number, place
+        self.number, self.place, self.text = number, place, REFUSALS.get(number, "unknown")
 
 
 class Event(NamedTuple):
@@ -37,12 +54,25 @@ class Event(NamedTuple):
     first_out: int
 
 
-class Replay(NamedTuple):
-    events: list
+class Totals(NamedTuple):
+    records: int
     rows: int
     scans: int
     live: int
     exercised: int
+
+
+class Replay(NamedTuple):
+    events: list
+    totals: Totals
+
+
+def totals_in(numbers):
+    """The totals of a count or a replay; their refusal is raised."""
+    *totals, number, place = struct.unpack(">7Q", numbers.raw)
+    if number:
+        raise Refused(number, place)
+    return Totals(*totals)
 
 
 def event(sequence, scan, effect, before, after, first_out):
@@ -52,10 +82,14 @@ def event(sequence, scan, effect, before, after, first_out):
 class Library:
     def __init__(self, path):
         library = ctypes.CDLL(str(pathlib.Path(path).resolve()))
+        library.pohandira_version.restype = ctypes.c_uint32
+        if library.pohandira_version() != VERSION:
+            raise OtherVersion(f"the library is version {library.pohandira_version()}, and this program is for {VERSION}")
         lent = [ctypes.c_char_p, ctypes.c_size_t]
-        self._check, self._replay = library.pohandira_check, library.pohandira_replay
-        self._check.argtypes, self._replay.argtypes = lent * 2, lent * 3
-        self._check.restype = self._replay.restype = ctypes.c_uint8
+        self._check, self._count, self._replay = library.pohandira_check, library.pohandira_count, library.pohandira_replay
+        self._check.argtypes = self._count.argtypes = lent * 2
+        self._replay.argtypes = lent * 3
+        self._check.restype = self._count.restype = self._replay.restype = ctypes.c_uint8
 
     def check(self, recording):
         """How many rows a recording has; nothing is replayed."""
@@ -67,32 +101,42 @@ class Library:
             raise Refused(number, place)
         return rows
 
-    def replay(self, recording):
-        """The recording's changes of state from a fresh state, and its totals."""
+    def count(self, recording):
+        """The recording's totals from a fresh state; no event is kept."""
         recording = bytes(recording)
-        room = self.check(recording) * ROW_RECORDS_BYTES
-        records, totals = ctypes.create_string_buffer(room), ctypes.create_string_buffer(TOTALS_BYTES)
-        self._replay(recording, len(recording), records, room, totals, TOTALS_BYTES)
-        count, rows, scans, live, exercised, number, place = struct.unpack(">7Q", totals.raw)
-        if number:
-            raise Refused(number, place)
-        written = struct.iter_unpack(">HIBBBxH", records.raw[: RECORD_BYTES * count])
-        return Replay([event(*fields) for fields in written], rows, scans, live, exercised)
+        numbers = ctypes.create_string_buffer(TOTALS_BYTES)
+        self._count(recording, len(recording), numbers, TOTALS_BYTES)
+        return totals_in(numbers)
+
+    def replay(self, recording):
+        """The recording's changes of state from a fresh state, in room for just as many as a count tells, and its totals."""
+        recording = bytes(recording)
+        room = RECORD_BYTES * self.count(recording).records
+        # one byte more than is lent, since no pointer may be null
+        records, numbers = ctypes.create_string_buffer(room + 1), ctypes.create_string_buffer(TOTALS_BYTES)
+        self._replay(recording, len(recording), records, room, numbers, TOTALS_BYTES)
+        totals = totals_in(numbers)
+        return Replay([event(*fields) for fields in struct.iter_unpack(">HIBBBxH", records.raw[:room])], totals)
 
 
 def listing(replay):
     lines = ["seq scan effect from to first"]
     lines += [" ".join(map(str, change)) for change in replay.events]
-    lines += [f"rows {replay.rows} scans {replay.scans} live {replay.live} exercised {replay.exercised}"]
+    totals = replay.totals
+    lines += [f"rows {totals.rows} scans {totals.scans} live {totals.live} exercised {totals.exercised}"]
     return "\n".join(lines) + "\n"
 
 
 def answer(library, recording):
-    """What is printed, and the exit status."""
+    """What is printed, and why the recording is refused, or nothing."""
     try:
-        return listing(library.replay(recording)), 0
+        return listing(library.replay(recording)), ""
     except Refused as refused:
-        return f"{refused}\n", 1
+        return f"{refused}\n", refused.text
+
+
+def say(message):
+    print(f"pohandira.py: {message}", file=sys.stderr)
 
 
 def main():
@@ -104,15 +148,21 @@ def main():
         library = Library(sys.argv[1])
         at_work_on = "standard input"
         with open(0, "rb", closefd=False) as given:
-            text, status = answer(library, given.read())
+            text, refused = answer(library, given.read())
         at_work_on = "standard output"
         # print would only fill a buffer, which fails once more when Python ends.
         with open(1, "w", closefd=False) as output:
             output.write(text)
-    except OSError as error:
-        print(f"pohandira.py: {at_work_on}: {error.strerror or error}", file=sys.stderr)
+    except OtherVersion as error:
+        say(error)
         return 2
-    return status
+    except OSError as error:
+        say(f"{at_work_on}: {error.strerror or error}")
+        return 2
+    if refused:
+        say(f"refused: {refused}")
+        return 1
+    return 0
 
 
 if __name__ == "__main__":

@@ -1,12 +1,14 @@
 //! A safe wrapper of the proved replay; include/pohandira.h says what the functions do.
 //!
 //! All that they ask of a caller is kept here: a slice's pointer is never null, not even an empty one's, and what is borrowed
-//! mutably overlaps nothing. So no input is out of bounds, and `check` and `replay` are safe for any bytes.
+//! mutably overlaps nothing. So no input is out of bounds, and `check`, `count` and `replay` are safe for any bytes.
 
 use std::fmt;
 
 extern "C" {
+    fn pohandira_version() -> u32;
     fn pohandira_check(recording: *const u8, length: usize, answer: *mut u8, answer_room: usize) -> u8;
+    fn pohandira_count(recording: *const u8, length: usize, totals: *mut u8, totals_room: usize) -> u8;
     fn pohandira_replay(
         recording: *const u8,
         length: usize,
@@ -17,9 +19,12 @@ extern "C" {
     ) -> u8;
 }
 
+/// The version that this file is for, as one number. A program stops where `version` answers another: what crosses may have grown.
+pub const VERSION: u32 = 1000;
+
+const CHECK_BYTES: usize = 24;
+const TOTALS_BYTES: usize = 56;
 const RECORD_BYTES: usize = 12;
-/// Always enough for the records of one row.
-const ROW_RECORDS_BYTES: usize = 384;
 
 /// Why a recording is refused (document 01, "Refusal numbers").
 #[derive(Clone, Copy, Debug, PartialEq, Eq)]
@@ -32,6 +37,21 @@ pub enum Reason {
     SeveralForced = 6,
     SpareBytes = 7,
     TooManyScans = 9,
+}
+
+impl Reason {
+    pub fn text(self) -> &'static str {
+        match self {
+            Reason::TooShort => "bytes end before a count or an entry does",
+            Reason::BlockWrong => "block section wrong",
+            Reason::EffectsWrong => "effects section wrong",
+            Reason::RowWrong => "row count, hold or a row word wrong",
+            Reason::BothForces => "one effect in both force words",
+            Reason::SeveralForced => "several forced without option bit 2",
+            Reason::SpareBytes => "bytes left over",
+            Reason::TooManyScans => "more than 1,000,000,000 scans",
+        }
+    }
 }
 
 #[derive(Clone, Copy, Debug, PartialEq, Eq)]
@@ -83,14 +103,21 @@ pub struct Event {
     pub first_out: u16,
 }
 
-#[derive(Clone, Debug, PartialEq, Eq)]
-pub struct Replay {
-    /// By scan, then by effect.
-    pub events: Vec<Event>,
+#[derive(Clone, Copy, Debug, PartialEq, Eq)]
+pub struct Totals {
+    /// How many events there are.
+    pub records: u64,
     pub rows: u64,
     pub scans: u64,
     pub live: u64,
     pub exercised: u64,
+}
+
+#[derive(Clone, Debug, PartialEq, Eq)]
+pub struct Replay {
+    /// By scan, then by effect.
+    pub events: Vec<Event>,
+    pub totals: Totals,
 }
 
 /// A big-endian number.
@@ -134,9 +161,29 @@ fn event(record: &[u8]) -> Event {
     }
 }
 
+/// The totals of a count or a replay, or its refusal.
+fn totals(number: u8, numbers: &[u8]) -> Result<Totals, Refused> {
+    if number != 0 {
+        return Err(refused(number, field(numbers, 6)));
+    }
+    Ok(Totals {
+        records: field(numbers, 0),
+        rows: field(numbers, 1),
+        scans: field(numbers, 2),
+        live: field(numbers, 3),
+        exercised: field(numbers, 4),
+    })
+}
+
+/// The library's own version, as one number.
+pub fn version() -> u32 {
+    // SAFETY: it is given nothing.
+    unsafe { pohandira_version() }
+}
+
 /// Reads a recording and replays nothing: how many rows it has.
 pub fn check(recording: &[u8]) -> Result<u64, Refused> {
-    let mut answer = [0; 24];
+    let mut answer = [0; CHECK_BYTES];
     // SAFETY: the head of this file says why.
     let number = unsafe { pohandira_check(recording.as_ptr(), recording.len(), answer.as_mut_ptr(), answer.len()) };
     match number {
@@ -145,11 +192,18 @@ pub fn check(recording: &[u8]) -> Result<u64, Refused> {
     }
 }
 
-/// Replays a recording from a fresh state.
+/// Replays a recording from a fresh state and only counts.
+pub fn count(recording: &[u8]) -> Result<Totals, Refused> {
+    let mut numbers = [0; TOTALS_BYTES];
+    // SAFETY: the head of this file says why.
+    let number = unsafe { pohandira_count(recording.as_ptr(), recording.len(), numbers.as_mut_ptr(), numbers.len()) };
+    totals(number, &numbers)
+}
+
+/// Replays a recording from a fresh state, with room for just its records, which a count tells.
 pub fn replay(recording: &[u8]) -> Result<Replay, Refused> {
-    let rows = check(recording)? as usize;
-    let mut records = vec![0; rows * ROW_RECORDS_BYTES];
-    let mut totals = [0; 56];
+    let mut records = vec![0; count(recording)?.records as usize * RECORD_BYTES];
+    let mut numbers = [0; TOTALS_BYTES];
     // SAFETY: the head of this file says why.
     let number = unsafe {
         pohandira_replay(
@@ -157,19 +211,11 @@ pub fn replay(recording: &[u8]) -> Result<Replay, Refused> {
             recording.len(),
             records.as_mut_ptr(),
             records.len(),
-            totals.as_mut_ptr(),
-            totals.len(),
+            numbers.as_mut_ptr(),
+            numbers.len(),
         )
     };
-    if number != 0 {
-        return Err(refused(number, field(&totals, 6)));
-    }
-    records.truncate(field(&totals, 0) as usize * RECORD_BYTES);
-    Ok(Replay {
-        events: records.chunks(RECORD_BYTES).map(event).collect(),
-        rows: field(&totals, 1),
-        scans: field(&totals, 2),
-        live: field(&totals, 3),
-        exercised: field(&totals, 4),
-    })
+    let totals = totals(number, &numbers)?;
+    let events = records.chunks(RECORD_BYTES).map(event).collect();
+    Ok(Replay { events, totals })
 }
