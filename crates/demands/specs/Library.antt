@@ -44,7 +44,7 @@ pub record ReplayInOrder (s records totals : List ℕ) (n : ℕ) : Type 0 where
   pub all-records : n ≡ 0 → recordsInto s (length totals) records ≡ sets records 0 (bytes (replay s .replay .events))
   pub all-totals : n ≡ 0 → 56 ≤ length totals → totalsInto s (length records) totals ≡ sets totals 0 (numbers (crossing (counts (replay s .replay))))
 
--- A count (`pohandira_count`) answers what a replay does that has room for all records: the same number, and the same totals
+-- A count (`pohandira_count`) answers what a replay does that has room for all records: the same refusal number, and the same totals
 pub record CountAsReplayed (s records totals : List ℕ) : Type 0 where
   pub number : (replay s .number ≡ 0 → 12 * length (replay s .replay .events) ≤ length records) → countNumber s (length totals) ≡ replayNumber s (length records) (length totals)
   pub totals-are : (replay s .number ≡ 0 → 12 * length (replay s .replay .events) ≤ length records) → countInto s totals ≡ totalsInto s (length records) totals

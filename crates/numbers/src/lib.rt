@@ -73,7 +73,7 @@ pub fn put_totals(out: &mut [u8], r: Replayed)
     put_two(out, NUMBER_BYTES * 5, r.number as u64, r.place as u64);
 }
 
-// Writes what a replay comes to, if it fits, and answers its number.
+// Writes what a replay results in, if it fits, and answers its refusal number, or 10 where it does not fit and nothing else refuses.
 pub fn put_counted(out: &mut [u8], r: Replayed) -> u8
     ensures { λ n. ⌜ n ≡ orElse (r .number) (roomNumber totalsBytes (length (now (out .entry)))) ⌝ }
     ensures { λ _. ⌜ now (out .exit) ≡ fitted (numbers (crossing r)) (now (out .entry)) ⌝ }

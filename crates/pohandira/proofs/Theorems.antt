@@ -126,7 +126,7 @@ refused-untouched s records totalsRoom h =
 
 -- ## A count
 
--- the number of what a count tells is the replay's, and where that is 0 its records are those that are due
+-- the refusal number that a count tells is the replay's, and where that is 0 its records are those that are due
 pub counted-number : (s : List ℕ) → answered (replay s) .number ≡ replay s .number
 counted-number s =
     granted-number (counts (replay s .replay)) (refusal (replay s .place)) (λ r. r .number) (replay s .number)
@@ -136,11 +136,11 @@ counted-number s =
 pub counted-records : (s : List ℕ) → replay s .number ≡ 0 → answered (replay s) .records ≡ length (replay s .replay .events)
 counted-records s z = ap (λ (r : Replayed). r .records) (granted-none (counts (replay s .replay)) (refusal (replay s .place)) (replay s .number) z)
 
--- where the totals fit, a count has the number of the replay itself
+-- where the totals fit, a count has the refusal number of the replay itself
 pub count-with-room : (s : List ℕ) (totalsRoom : ℕ) → totalsBytes ≤ totalsRoom → countNumber s totalsRoom ≡ replay s .number
 count-with-room s totalsRoom h = ap (orElse (replay s .number)) (room-enough totalsBytes totalsRoom h) ∙ or-else-alone (replay s .number) 0 (λ z. refl)
 
--- with room for all records a replay gives the number of a count
+-- with room for all records a replay gives the refusal number of a count
 pub a-replay-answers-as-counted : (s : List ℕ) (room totalsRoom : ℕ) → (replay s .number ≡ 0 → due s room totalsRoom ≤ room) → replayNumber s room totalsRoom ≡ countNumber s totalsRoom
 a-replay-answers-as-counted s room totalsRoom h =
     let totals = roomNumber totalsBytes totalsRoom in

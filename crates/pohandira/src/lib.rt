@@ -59,8 +59,8 @@ pub extern "C" fn pohandira_check(recording: &[u8], answer: &mut [u8]) -> u8
 
 // ---- a count
 
-// Replays a recording and keeps no record: its number, and in `totals` the 56 bytes that a replay with room for all records gives. So a
-// caller learns how many records there are before it lends room for them.
+// Replays a recording and keeps no record: its refusal number, and in `totals` the 56 bytes that a replay with room for all records
+// gives. So a caller learns how many records there are before it lends room for them.
 #[no_mangle]
 pub extern "C" fn pohandira_count(recording: &[u8], totals: &mut [u8]) -> u8
     ensures { λ r. ⌜ r ≡ countNumber (now (recording .entry)) (length (now (totals .entry))) ⌝ }
