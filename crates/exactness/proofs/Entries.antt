@@ -2,15 +2,13 @@
 use mathlib.Core.Path.{_≡_, refl, sym, ap, _∙_}
 use mathlib.Core.Bool.{true}
 use mathlib.Core.List.{List, [], _∷_, _++_}
-use Prim.Native.Nat.{ℕ, zero, suc, _+_, _^_, _≤_, _<_}
-use native.Mathlib.Nat.{add-assoc, add-zero, add-suc}
+use Prim.Native.Nat.{ℕ, _+_, _^_, _≤_, _<_}
+use native.Mathlib.Nat.{add-assoc, add-zero}
 use native.Mathlib.Omega.{arith}
 use borrow.Author.Tests.{leb-true, ltb-true}
 use lib.Dec.{leb, ltb}
 use lib.ListN.{length, getD, take, drop}
-use lib.Seq.{getD-take}
 use lib.Pow.{pow-mono}
-use Rattle.bits.specs.Numbers.{numAt}
 use Rattle.bits.specs.Layout.{pack}
 use Rattle.bits.proofs.Numbers.{total, fieldsAt, Fit, pack-fields, fields-pack}
 use Rattle.settings.specs.declared.Effect.{Effect}
@@ -24,13 +22,10 @@ use Rattle.layout.specs.declared.Kind.the-variants.{Block, Effects, Rows}
 use Rattle.layout.specs.Sections.{widthOf}
 use Rattle.layout.specs.Entries.{BlockEntry, blockAt, blockLayout, blockFields, putBlock, blockCheck, effectAt, effectLayout, effectFields, putEffect, rowAt, wordsAt, rowLayout, rowFields, putRow}
 use Rattle.bits.proofs.Lists.{and-left, and-right}
+use Rattle.layout.proofs.Within.{num-front, row-there}
 use Rattle.exactness.proofs.Codec.{Codec}
 
--- ## Numbers at the front of a list
-
-pub num-front : (m w : ℕ) (s : List ℕ) (at : ℕ) → at + w ≤ m → numAt w (take m s) at ≡ numAt w s at
-num-front m zero s at h = refl
-num-front m (suc w) s at h = rw (getD-take m s at 0 (omega (arith, add-suc at w)), num-front m w s (at + 1) (omega (arith, add-suc at w)))
+-- ## Fields at the front of a list
 
 fields-front : (m : ℕ) (ws s : List ℕ) (at off : ℕ) → at + off + total ws ≤ m → fieldsAt ws (take m s) at off ≡ fieldsAt ws s at off
 fields-front m [] s at off h = refl
@@ -156,10 +151,14 @@ row-fit k checked r h =
     let effect : (x : ℕ) → ltb x (2 ^ k .count) ≡ true → x < 65536 = λ x t. word-fits (k .count) x (checked .count) t in
     (omega (arith, row-hold k r h), (cause (w .values) (search (and-left, and-right) depth 12), (cause (w .bad) (search (and-left, and-right) depth 12), (cause (w .mask) (search (and-left, and-right) depth 12), (effect (w .«require_reset») (search (and-left, and-right) depth 12), (effect (w .«reset_permit») (search (and-left, and-right) depth 12), (effect (w .«start_permit») (search (and-left, and-right) depth 12), (effect (w .reset) (search (and-left, and-right) depth 12), (omega (arith, permit), (effect (w .«force_trip») (search (and-left, and-right) depth 12), (effect (w .«force_normal») (search (and-left, and-right) depth 12), tt)))))))))))
 
-pub row-front : (m : ℕ) (s : List ℕ) (at : ℕ) → at + widthOf Rows ≤ m → rowAt (take m s) at ≡ rowAt s at
-unfolding rowAt wordsAt ofRow
-row-front = layout-front rowLayout rowFields ofRow rowAt (λ a. refl) (λ s at. simp (add-zero, add-assoc))
+row-fields : (s : List ℕ) (at : ℕ) → rowFields (rowAt (widthOf Rows) s at) ≡ fieldsAt rowLayout s at 0
+unfolding wordsAt
+row-fields s at = rw (row-there (widthOf Rows) s at (omega arith)) (simp (add-zero, add-assoc))
 
-pub row-codec : (k : Known) → Checked k → Codec Row (widthOf Rows) rowAt putRow (rowNumber k)
-unfolding rowAt wordsAt ofRow putRow
-row-codec k checked = of-layout rowLayout rowFields ofRow rowAt (rowNumber k) (λ a. refl) (λ a. refl) (λ s at. simp (add-zero, add-assoc)) (row-fit k checked)
+pub row-front : (m : ℕ) (s : List ℕ) (at : ℕ) → at + widthOf Rows ≤ m → rowAt (widthOf Rows) (take m s) at ≡ rowAt (widthOf Rows) s at
+unfolding ofRow
+row-front = layout-front rowLayout rowFields ofRow (rowAt (widthOf Rows)) (λ a. refl) row-fields
+
+pub row-codec : (k : Known) → Checked k → Codec Row (widthOf Rows) (rowAt (widthOf Rows)) putRow (rowNumber k)
+unfolding ofRow putRow
+row-codec k checked = of-layout rowLayout rowFields ofRow (rowAt (widthOf Rows)) (rowNumber k) (λ a. refl) (λ a. refl) row-fields (row-fit k checked)

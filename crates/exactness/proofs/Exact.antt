@@ -52,7 +52,7 @@ module _ (st : Settings) (rows : List Row) (right : Right st rows) where
   effects-are : Codec Effect (widthOf Effects) effectAt putEffect (effectNumber (st .causes))
   effects-are = effect-codec (st .causes) (checked .causes)
 
-  rows-are : Codec Row (widthOf Rows) rowAt putRow (rowNumber (knownOf st))
+  rows-are : Codec Row (widthOf Rows) (rowAt (widthOf Rows)) putRow (rowNumber (knownOf st))
   rows-are = row-codec (knownOf st) checked
 
   length-effectsOf : length (effectsOf st) ≡ st .count
@@ -71,7 +71,7 @@ module _ (st : Settings) (rows : List Row) (right : Right st rows) where
   unfolding encode
   length-encode =
       length-append (blockBytes st) (effectBytes st ++ counted putRow rows)
-      ∙ omega (arith, length-append (effectBytes st) (counted putRow rows), length-block, length-effects, length-counted (widthOf Rows) rowAt putRow (rowNumber (knownOf st)) rows-are rows)
+      ∙ omega (arith, length-append (effectBytes st) (counted putRow rows), length-block, length-effects, length-counted (widthOf Rows) (rowAt (widthOf Rows)) putRow (rowNumber (knownOf st)) rows-are rows)
 
   -- the three sections of an encoding that stands before q, read back
   module _ (q : List ℕ) where
@@ -96,12 +96,12 @@ module _ (st : Settings) (rows : List Row) (right : Right st rows) where
         (section-back (widthOf Effects) effectAt putEffect (effectNumber (st .causes)) effects-are (effectsOf st) (blockBytes st) (counted putRow rows ++ q) 6
         (sym length-block) (parts .effects) (omega (arith, length-effectsOf, parts .most)))
 
-    rows-back : Back (widthOf Rows) rowAt putRow (rowNumber (knownOf st)) rows-are s rowsPlace rows
+    rows-back : Back (widthOf Rows) (rowAt (widthOf Rows)) putRow (rowNumber (knownOf st)) rows-are s rowsPlace rows
     rows-back =
         let front = blockBytes st ++ effectBytes st in
         let same : s ≡ front ++ (counted putRow rows ++ q) = in-sections ∙ sym (append-assoc (blockBytes st) (effectBytes st) (counted putRow rows ++ q)) in
-        subst (λ (l : List ℕ). Back (widthOf Rows) rowAt putRow (rowNumber (knownOf st)) rows-are l rowsPlace rows) (sym same)
-        (section-back (widthOf Rows) rowAt putRow (rowNumber (knownOf st)) rows-are rows front q rowsPlace
+        subst (λ (l : List ℕ). Back (widthOf Rows) (rowAt (widthOf Rows)) putRow (rowNumber (knownOf st)) rows-are l rowsPlace rows) (sym same)
+        (section-back (widthOf Rows) (rowAt (widthOf Rows)) putRow (rowNumber (knownOf st)) rows-are rows front q rowsPlace
         (omega (arith, length-append (blockBytes st) (effectBytes st), length-block, length-effects)) (right .each-row) (omega (arith, right .rows-most)))
 
     at-block : blockAt s 2 ≡ blockOf st
@@ -143,7 +143,7 @@ module _ (st : Settings) (rows : List Row) (right : Right st rows) where
     all-pass : reading s ≡ afterRows s 6 rowsPlace (length (encode st rows))
     all-pass = read-rows s 6 block-section rowsPlace effects-section (length (encode st rows)) rows-section
 
-    rows-again : listOf (rowAt s) (widthOf Rows) (length rows) (openingLength st) ≡ rows
+    rows-again : listOf (rowAt (widthOf Rows) s) (widthOf Rows) (length rows) (openingLength st) ≡ rows
     rows-again = let e : openingLength st ≡ rowsPlace + 2 = omega arith in rw e (rows-back .entries)
 
     -- bytes after the encoding are left over
@@ -157,9 +157,9 @@ module _ (st : Settings) (rows : List Row) (right : Right st rows) where
       ap reading (sym e) ∙ all-pass []
       ∙ sym (accepted (s []) 6 rowsPlace (length (encode st rows)) (length rows) (openingLength st) (widthOf Rows) st (ap length (sym e)) (sym (rows-back [] .count)) (omega arith) refl (sym (settings-back [])))
 
-  -- an encoding gives its rows back
-  pub rows-are-back : listOf (rowAt (encode st rows)) (widthOf Rows) (length rows) (openingLength st) ≡ rows
-  rows-are-back = ap (λ (l : List ℕ). listOf (rowAt l) (widthOf Rows) (length rows) (openingLength st)) (sym (append-nil (encode st rows))) ∙ rows-again []
+  -- and its rows
+  pub rows-are-back : listOf (rowAt (widthOf Rows) (encode st rows)) (widthOf Rows) (length rows) (openingLength st) ≡ rows
+  rows-are-back = ap (λ (l : List ℕ). listOf (rowAt (widthOf Rows) l) (widthOf Rows) (length rows) (openingLength st)) (sym (append-nil (encode st rows))) ∙ rows-again []
 
 -- ## What passes is an encoding
 
@@ -174,7 +174,7 @@ join s e r end h₁ h₂ =
     rw first (sym (last ∙ ap (λ (l : List ℕ). l ++ take (end - r) (drop r s)) mid ∙ append-assoc (take e s) (take (r - e) (drop e s)) (take (end - r) (drop r s))))
 
 abbrev pub rowsAt : List ℕ → ℕ → List Row
-rowsAt s r = listOf (rowAt s) (widthOf Rows) (numAt 2 s r) (r + 2)
+rowsAt s r = listOf (rowAt (widthOf Rows) s) (widthOf Rows) (numAt 2 s r) (r + 2)
 
 module _ (s : List ℕ) (e r end : ℕ) (t : ToEnd s e r end) where
   abbrev st : Settings
@@ -198,7 +198,7 @@ module _ (s : List ℕ) (e r end : ℕ) (t : ToEnd s e r end) where
   effects-codec : Codec Effect (widthOf Effects) effectAt putEffect (effectNumber (st .causes))
   effects-codec = effect-codec (st .causes) (settings-checked .causes)
 
-  rows-codec : Codec Row (widthOf Rows) rowAt putRow (rowNumber (knownOf st))
+  rows-codec : Codec Row (widthOf Rows) (rowAt (widthOf Rows)) putRow (rowNumber (knownOf st))
   rows-codec = row-codec (knownOf st) settings-checked
 
   listed : effectsOf st ≡ listOf (effectAt s) (widthOf Effects) (st .count) (e + 2)
@@ -223,14 +223,14 @@ module _ (s : List ℕ) (e r end : ℕ) (t : ToEnd s e r end) where
   -- the settings and rows that were read are valid
   pub right-at : Right st (rowsAt s r)
   right-at =
-      let len = length-listOf (rowAt s) (widthOf Rows) (numAt 2 s r) (r + 2) in
+      let len = length-listOf (rowAt (widthOf Rows) s) (widthOf Rows) (numAt 2 s r) (r + 2) in
       let many = count-within Rows (numAt 2 s r) (t .rows .count) in
       record {
         settings = of-parts st sixteen parts-at;
         slots = sixteen;
         rows-least = omega (arith, len, many .0);
         rows-most = omega (arith, len, many .1);
-        each-row = all-list (widthOf Rows) rowAt putRow (rowNumber (knownOf st)) rows-codec s (numAt 2 s r) (r + 2) (t .rows .entries .right);
+        each-row = all-list (widthOf Rows) (rowAt (widthOf Rows)) putRow (rowNumber (knownOf st)) rows-codec s (numAt 2 s r) (r + 2) (t .rows .entries .right);
       }
 
   pub within : end ≤ length s
@@ -248,7 +248,7 @@ module _ (s : List ℕ) (e r end : ℕ) (t : ToEnd s e r end) where
         ap (counted putEffect) listed ∙ section-bytes (widthOf Effects) effectAt putEffect (effectNumber (st .causes)) effects-codec s e r bytes (effects .room) (effects .entries .there) (effects .next)
 
     row-bytes : counted putRow (rowsAt s r) ≡ take (end - r) (drop r s)
-    row-bytes = section-bytes (widthOf Rows) rowAt putRow (rowNumber (knownOf st)) rows-codec s r end bytes (t .rows .room) (t .rows .entries .there) (t .rows .next)
+    row-bytes = section-bytes (widthOf Rows) (rowAt (widthOf Rows)) putRow (rowNumber (knownOf st)) rows-codec s r end bytes (t .rows .room) (t .rows .entries .there) (t .rows .next)
 
     -- the encoding of the settings and rows that were read is the bytes through the rows' end
     pub encoded-at : encode st (rowsAt s r) ≡ take end s

@@ -22,7 +22,8 @@ use Rattle.recording.specs.Refused.{Passes}
 use Rattle.recording.specs.Reader.{nothingKnown, knownOfBlock, settingsAt, reading}
 use Rattle.recording.proofs.Sections.{section-count, section-entries, count-within}
 use Rattle.exactness.proofs.Sections.{block-pass, effects-pass, rows-pass}
-use Rattle.exactness.proofs.Entries.{num-front, block-front, effect-front, row-front}
+use Rattle.layout.proofs.Within.{num-front}
+use Rattle.exactness.proofs.Entries.{block-front, effect-front, row-front}
 use Rattle.recording.proofs.Between.{block-room, read-block, read-effects, read-rows, left-over}
 use Rattle.recording.proofs.Cases.{reading-cases}
 

@@ -77,18 +77,18 @@ module _ (s : List ℕ) where
       (λ n p c i l. absurd (omega (arith, l)))
       (λ e r t i l.
       let next : r + 2 + widthOf Rows * i + widthOf Rows ≡ r + 2 + widthOf Rows * suc i = omega arith in
-      rw (place-yes (r + 2) (numAt 2 s r) i l, getD-listOf (rowAt s) (widthOf Rows) (numAt 2 s r) (r + 2) i d l, next))
+      rw (place-yes (r + 2) (numAt 2 s r) i l, getD-listOf (rowAt (widthOf Rows) s) (widthOf Rows) (numAt 2 s r) (r + 2) i d l, next))
 
-  -- the bytes of a row are there to be read, with the width of the table
+  -- and the row's bytes are there to be read
   abbrev Within : Row → Reading → Type 0
   Within d x = (i : ℕ) → i < rowCount (x .answer)
-      → (place x i + widthOf Rows ≤ length s) × (rowAt s (place x i) ≡ getD (rowsIn (x .answer) s) i d) × (rowWidth (x .answer) ≡ widthOf Rows)
+      → (place x i + rowWidth (x .answer) ≤ length s) × (rowAt (rowWidth (x .answer)) s (place x i) ≡ getD (rowsIn (x .answer) s) i d) × (rowWidth (x .answer) ≡ widthOf Rows)
 
   pub row-within : (d : Row) → Within d (reading s)
   row-within d =
       said-or-accepted s (Within d)
       (λ n p c i l. absurd (omega (arith, l)))
-      (λ e r t i l. (omega (arith, rows-end e r t, l), sym (getD-listOf (rowAt s) (widthOf Rows) (numAt 2 s r) (r + 2) i d l), refl))
+      (λ e r t i l. (omega (arith, rows-end e r t, l), sym (getD-listOf (rowAt (widthOf Rows) s) (widthOf Rows) (numAt 2 s r) (r + 2) i d l), refl))
 
   -- at a place that is no row's, the step has ended
   abbrev Elsewhere : ℕ → Reading → Type 0

@@ -147,7 +147,7 @@ row-range k r =
 test-range : (kind : Kind) (k : Known) (s : List ℕ) (at : ℕ) → InRange (testOf kind k s at)
 test-range Block k s at = let b = blockAt s at in unless-range (blockOk (b .causes) (b .options) (b .period)) 2 (omega arith) (omega arith)
 test-range Effects k s at = unless-range (effectOk (k .causes) (effectAt s at)) 3 (omega arith) (omega arith)
-test-range Rows k s at = row-range k (rowAt s at)
+test-range Rows k s at = row-range k (rowAt (widthOf Rows) s at)
 
 number-range : (kind : Kind) → (2 ≤ numberOf kind) × (numberOf kind ≤ 6)
 number-range Block = (omega arith, omega arith)

@@ -75,8 +75,8 @@ first-row-after-the-opening = first-row-place
 
 -- the bytes of row i are in the file
 pub row-in-the-file : (s : List ℕ) (i : ℕ) → i < rowCount (reading s .answer)
-    → let at = firstRow (reading s .answer) + rowWidth (reading s .answer) * i in
-    (at + widthOf Rows ≤ length s) × (rowAt s at ≡ getD (rowsOf s) i noRow) × (rowWidth (reading s .answer) ≡ widthOf Rows)
+    → let width = rowWidth (reading s .answer) in let at = firstRow (reading s .answer) + width * i in
+    (at + width ≤ length s) × (rowAt width s at ≡ getD (rowsOf s) i noRow) × (width ≡ widthOf Rows)
 row-in-the-file s = row-within s noRow
 
 -- at any other place of any bytes the step has ended

@@ -61,7 +61,7 @@ first-row-place s =
 
 -- the count in the answer is the number of the rows
 pub length-rowsOf : (s : List ℕ) → length (rowsOf s) ≡ rowCount (reading s .answer)
-length-rowsOf s = let a = reading s .answer in length-listOf (rowAt s) (rowWidth a) (rowCount a) (firstRow a)
+length-rowsOf s = let a = reading s .answer in length-listOf (rowAt (rowWidth a) s) (rowWidth a) (rowCount a) (firstRow a)
 
 -- ## The pieces of an encoding
 

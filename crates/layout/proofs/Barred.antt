@@ -20,8 +20,11 @@ use Rattle.rules.specs.Limits.{mostHold}
 use Rattle.settings.specs.Refusals.{unless, orElse}
 use Rattle.settings.specs.Right.{wordsOk, apart, several, wordsNumber, rowNumber}
 use Rattle.layout.specs.declared.quick.Bars.{Bars}
+use Rattle.layout.specs.declared.Kind.the-variants.{Rows}
 use Rattle.layout.specs.Entries.{wordsAt, rowAt}
+use Rattle.layout.specs.Sections.{widthOf}
 use Rattle.layout.specs.Barred.{absentOf, fourOf, barsOf}
+use Rattle.layout.proofs.Within.{row-there}
 
 -- ## Words that share no bit
 
@@ -199,13 +202,14 @@ module _ (k : Known) (s : List ℕ) (at : ℕ) (bytes : Bytes s) where
   unfolding wordsAt
   apart-is = rw (add-assoc at 4 16, add-assoc at 4 18) (ap₂ (λ (x y : ℕ). eqb (bitAnd x y) 0) (last-words .0) (last-words .1))
 
-  row-is : quick (barsOf k) (numAt 8 s (at + 0)) (numAt 8 s (at + 8)) (numAt 8 s (at + 16)) ≡ eqb (rowNumber k (rowAt s at)) 0
-  unfolding rowNumber wordsNumber rowAt
+  row-is : quick (barsOf k) (numAt 8 s (at + 0)) (numAt 8 s (at + 8)) (numAt 8 s (at + 16)) ≡ eqb (rowNumber k (rowAt (widthOf Rows) s at)) 0
+  unfolding rowNumber wordsNumber
   row-is =
-      ap₂ _&&_ (ap₂ _&&_ (ap (λ (x : ℕ). leb 1 x && leb x mostHold) hold-is) words-are)
+      rw (row-there (widthOf Rows) s at (omega arith))
+      (ap₂ _&&_ (ap₂ _&&_ (ap (λ (x : ℕ). leb 1 x && leb x mostHold) hold-is) words-are)
       (ap₂ _&&_ apart-is several-is)
-      ∙ sym (no-number (leb 1 (numAt 4 s at) && leb (numAt 4 s at) mostHold) (wordsOk k (wordsAt s (at + 4))) (apart (wordsAt s (at + 4))) (bitOf (k .options) 2 || not (several (wordsAt s (at + 4)))))
+      ∙ sym (no-number (leb 1 (numAt 4 s at) && leb (numAt 4 s at) mostHold) (wordsOk k (wordsAt s (at + 4))) (apart (wordsAt s (at + 4))) (bitOf (k .options) 2 || not (several (wordsAt s (at + 4))))))
 
   pub quick-is-number : (bars : Bars) (f g t : ℕ) → bars ≡ barsOf k → f ≡ numAt 8 s at → g ≡ numAt 8 s (at + 8) → t ≡ numAt 8 s (at + 16)
-      → quick bars f g t ≡ eqb (rowNumber k (rowAt s at)) 0
+      → quick bars f g t ≡ eqb (rowNumber k (rowAt (widthOf Rows) s at)) 0
   quick-is-number bars f g t e p q r = rw (e, p, q, r) (rw add-zero at row-is)

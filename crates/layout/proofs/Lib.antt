@@ -1,3 +1,4 @@
 pub mod Lists
+pub mod Within
 pub mod Skipped
 pub mod Barred

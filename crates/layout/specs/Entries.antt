@@ -1,6 +1,7 @@
 -- The entries: their numbers in layout order, as they are read and as they are written. Document 01, "Recordings".
 use Prim.Native.Nat.{ℕ, _+_}
 use mathlib.Core.List.{List, [], _∷_}
+use lib.ListN.{take, drop}
 use Rattle.bits.specs.Numbers.{numAt}
 use Rattle.bits.specs.Layout.{pack}
 use Rattle.settings.specs.declared.Effect.{Effect}
@@ -62,8 +63,13 @@ wordsAt s at =
       «force_normal» = numAt 2 s (at + 18);
     }
 
-unfoldable pub rowAt : List ℕ → ℕ → Row
-rowAt s at = record { hold = numAt 4 s at; words = wordsAt s (at + 4) }
+-- the row that these bytes spell; what they do not reach is 0
+unfoldable pub rowIn : List ℕ → Row
+rowIn bytes = record { hold = numAt 4 bytes 0; words = wordsAt bytes 4 }
+
+-- the row in the `width` bytes from `at`; no other byte is read
+unfoldable pub rowAt : (width : ℕ) → List ℕ → (at : ℕ) → Row
+rowAt width s at = rowIn (take width (drop at s))
 
 abbrev pub rowLayout : List ℕ
 rowLayout = 4 ∷ 2 ∷ 2 ∷ 2 ∷ 2 ∷ 2 ∷ 2 ∷ 2 ∷ 2 ∷ 2 ∷ 2 ∷ []

@@ -61,7 +61,7 @@ numberOf Rows = 4
 abbrev pub testOf : Kind → Known → List ℕ → ℕ → ℕ
 testOf Block k s at = blockCheck (blockAt s at)
 testOf Effects k s at = effectNumber (k .causes) (effectAt s at)
-testOf Rows k s at = rowNumber k (rowAt s at)
+testOf Rows k s at = rowNumber k (rowAt (widthOf Rows) s at)
 
 abbrev pub sectionOf : Kind → Known → List ℕ → ℕ → Section
 sectionOf kind k s at = section (testOf kind k s) (widthOf kind) (leastOf kind) (mostOf kind) (numberOf kind) s at

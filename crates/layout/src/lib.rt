@@ -68,14 +68,15 @@ pub fn words_at(s: &[u8], at: usize) -> Words
     }
 }
 
-// The row at a place. A caller that has read the file knows that the place is a row's.
-pub fn row_at(s: &[u8], at: usize) -> Row
-    requires { ⌜ at + widthOf Rows ≤ length (now s) ⌝ }
-    ensures { λ r. ⌜ r ≡ rowAt (now (s .entry)) at ⌝ }
+// The row in the `width` bytes from `at`, a place that is known to be a row's, as the callers that have read the file know it.
+pub fn row_at(s: &[u8], at: usize, width: usize) -> Row
+    requires { ⌜ (widthOf Rows ≤ width) × (at + width ≤ length (now s)) ⌝ }
+    ensures { λ r. ⌜ r ≡ rowAt width (now (s .entry)) at ⌝ }
 {
+    let bytes = &s[at..at + width];
     Row {
-        hold: bits::get32(s, at),
-        words: words_at(s, at + 4),
+        hold: bits::get32(bytes, 0),
+        words: words_at(bytes, 4),
     }
 }
 
@@ -170,7 +171,7 @@ pub fn entry_number(kind: Kind, known: Known, s: &[u8], at: usize) -> u8
             bits::get16(s, at + 2),
         ),
         Kind::Effects => settings::effect_number(known.causes, effect_at(s, at)),
-        Kind::Rows => settings::row_number(known, row_at(s, at)),
+        Kind::Rows => settings::row_number(known, row_at(s, at, ROW_BYTES)),
     }
 }
 

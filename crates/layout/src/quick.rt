@@ -85,7 +85,7 @@ fn forces_right(several: bool, third: u64) -> bool
 // The row at `at` is valid.
 fn row_right(b: Bars, s: &[u8], at: usize) -> bool
     requires { ⌜ at + widthOf Rows ≤ length (now s) ⌝ }
-    ensures { λ r. ⌜ ((k : Known) → b ≡ barsOf k → r ≡ eqb (rowNumber k (rowAt (now (s .entry)) at)) 0) ⌝ }
+    ensures { λ r. ⌜ ((k : Known) → b ≡ barsOf k → r ≡ eqb (rowNumber k (rowAt (widthOf Rows) (now (s .entry)) at)) 0) ⌝ }
 {
     let first = bits::get64(s, at);
     let second = bits::get64(s, at + 8);

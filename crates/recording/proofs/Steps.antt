@@ -46,12 +46,12 @@ module _ (s : List ℕ) (at : ℕ) (x : Reading) (is : x ≡ reading s) where
       unfolding stepAt
       step-between l = rw (← is, h, ← is-there, not-true b l)
 
-      pub step-row : not b ≡ false → T.Row (rowAt s at) (at + width) ≡ stepAt s at
+      pub step-row : not b ≡ false → T.Row (rowAt width s at) (at + width) ≡ stepAt s at
       unfolding stepAt
       step-row l = rw (← is, h, ← is-there, not-false b l)
 
       -- the row's bytes are in the file
-      pub step-within : not b ≡ false → (at + widthOf Rows ≤ length s) × (width ≡ widthOf Rows)
+      pub step-within : not b ≡ false → (widthOf Rows ≤ width) × (at + width ≤ length s)
       step-within l =
           let q = sym ib ∙ not-false b l in
           let wide = accepted-width s n first width said in
@@ -59,4 +59,4 @@ module _ (s : List ℕ) (at : ℕ) (x : Reading) (is : x ≡ reading s) where
           let z : (at - first) % widthOf Rows ≡ 0 = rw wide at (eqb-true ((at - first) % width) 0 (and-right (leb first at && ltb at (length s)) (eqb ((at - first) % width) 0) q)) in
           let lo = leb-true first at (and-left (leb first at) (ltb at (length s)) both) in
           let hi = ltb-true at (length s) (and-right (leb first at) (ltb at (length s)) both) in
-          (omega (arith, z, lo, hi, accepted-end s n first width said), wide)
+          (omega (arith, wide), omega (arith, wide, z, lo, hi, accepted-end s n first width said))

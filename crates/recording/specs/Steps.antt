@@ -22,7 +22,7 @@ isPlace first width end at = leb first at && ltb at end && eqb ((at - first) % w
 
 -- the row at a place, in bytes with this answer of the reader; ended where the place is no row's. Refused bytes have no rows
 abbrev pub stepIn : Answer → List ℕ → ℕ → Step
-stepIn a s at = cond (isPlace (firstRow a) (rowWidth a) (rowsEnd a) at) (T.Row (rowAt s at) (at + rowWidth a)) T.Ended
+stepIn a s at = cond (isPlace (firstRow a) (rowWidth a) (rowsEnd a) at) (T.Row (rowAt (rowWidth a) s at) (at + rowWidth a)) T.Ended
 
 -- the row at any place of any bytes
 unfoldable pub stepAt : List ℕ → ℕ → Step
@@ -34,7 +34,7 @@ rowPlace s i = firstRow (reading s .answer) + rowWidth (reading s .answer) * i
 
 -- the rows at the row places, in the file's order
 abbrev pub rowsIn : Answer → List ℕ → List Row
-rowsIn a s = listOf (rowAt s) (rowWidth a) (rowCount a) (firstRow a)
+rowsIn a s = listOf (rowAt (rowWidth a) s) (rowWidth a) (rowCount a) (firstRow a)
 
 abbrev pub rowsOf : List ℕ → List Row
 rowsOf s = rowsIn (reading s .answer) s

@@ -220,5 +220,5 @@ pub fn row_step(s: &[u8], at: usize) -> Step
     if !is_place(first, width, s.len(), at) {
         return Step::Ended;
     }
-    Step::Row(layout::row_at(s, at), at + width)
+    Step::Row(layout::row_at(s, at, width), at + width)
 }

@@ -47,15 +47,14 @@ module _ (s : List ℕ) (width done place i : ℕ) (g : Reached s width done pla
   ends e = sym (ap stopOf (all-the-rows s (g .accepted) ∙ ap (firstRows s) (sym e) ∙ whole-so-far s i (g .none-refused)))
 
   module _ (more : i < rowCount (reading s .answer)) where
-    pub row-there : place + widthOf Rows ≤ length s
-    row-there = rw (g .here) (row-in-the-file s i more .0)
+    pub row-there : (widthOf Rows ≤ width) × (place + width ≤ length s)
+    row-there =
+        let there = row-in-the-file s i more in
+        (omega (arith, g .wide, there .2), rw (g .here, g .wide) (there .0))
 
-    pub next-place : place + width ≤ length s
-    next-place = omega (arith, row-there, g .wide, row-in-the-file s i more .2)
-
-    module _ (row : Row) (is : row ≡ rowAt s place) (v : ℕ) (number-is : v ≡ scansNumber done (row .hold)) where
+    module _ (row : Row) (is : row ≡ rowAt width s place) (v : ℕ) (number-is : v ≡ scansNumber done (row .hold)) where
       row-is : row ≡ rowOf s i
-      row-is = is ∙ rw (g .here) (row-in-the-file s i more .1)
+      row-is = is ∙ rw (g .here, g .wide) (row-in-the-file s i more .1)
 
       same-number : numberAt s i ≡ v
       same-number = (λ j. scansNumber (g .scans j) (sym row-is j .hold)) ∙ sym number-is

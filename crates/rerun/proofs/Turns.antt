@@ -124,9 +124,11 @@ module _ {s : List ℕ} {run : Run} {array : List ℕ} (g : Going s run array) w
   -- ## One row more
 
   module _ (more : run .rows < rowCount answer) where
-    -- the bytes of the next row are in the file
-    pub row-there : run .place + widthOf Rows ≤ length s
-    row-there = rw (place-is g) (row-in-the-file s (run .rows) more .0)
+    -- its bytes are in the file
+    pub row-there : (widthOf Rows ≤ run .width) × (run .place + run .width ≤ length s)
+    row-there =
+        let there = row-in-the-file s (run .rows) more in
+        (omega (arith, g .wide, there .2), rw (place-is g, g .wide) (there .0))
 
     number-next : firstRows s (run .rows + 1) .number ≡ numberAt s (run .rows)
     number-next = next-number s (run .rows) more (g .none-refused)
@@ -177,9 +179,9 @@ module _ {s : List ℕ} {run : Run} {array : List ℕ} (g : Going s run array) w
 
     -- ## What the code reads and computes of a row
 
-    module _ (row : Row) (is : row ≡ rowAt s (run .place)) (v : ℕ) (number-is : v ≡ scansNumber (run .mark .«scans_done») (row .hold)) where
+    module _ (row : Row) (is : row ≡ rowAt (run .width) s (run .place)) (v : ℕ) (number-is : v ≡ scansNumber (run .mark .«scans_done») (row .hold)) where
       row-is : row ≡ rowOf s (run .rows)
-      row-is = is ∙ rw (place-is g) (row-in-the-file s (run .rows) more .1)
+      row-is = is ∙ rw (place-is g, g .wide) (row-in-the-file s (run .rows) more .1)
 
       same-number : v ≡ numberAt s (run .rows)
       same-number = number-is ∙ (λ j. scansNumber (g .totals j .board .«scans_done») (row-is j .hold))

@@ -104,7 +104,7 @@ pub fn row(s: &[u8], run: Run, board: &mut [u32; 64], buf: &mut [u8]) -> Turn
     requires { ⌜ RowReady (now s) run (now board) (length (now buf)) ⌝ }
     ensures { λ r. ⌜ RowDone (now (s .entry)) run (now (buf .entry)) r (now (board .exit)) (now (buf .exit)) ⌝ }
 {
-    let row = layout::row_at(s, run.place);
+    let row = layout::row_at(s, run.place, run.width);
     let mark = run.mark;
     let number = block::scans_number(mark.scans_done, row.hold);
     if number != 0 {
@@ -170,7 +170,7 @@ pub fn stop_of(s: &[u8], rows: u16, first: usize, width: usize) -> Stop
     let mut place = first;
     let mut passed = 0;
     while passed < rows {
-        let row = layout::row_at(s, place);
+        let row = layout::row_at(s, place, width);
         let refusal = block::scans_number(done, row.hold);
         if refusal != 0 {
             return Stop {

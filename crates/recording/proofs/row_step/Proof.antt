@@ -1,5 +1,4 @@
 -- `recording::row_step` meets its contract, from what its callees ensure and the tests on the way.
-use mathlib.Core.Path.{_≡_}
 use Prim.Native.Nat.{ℕ, _+_, _≤_}
 use native.Mathlib.Omega.{arith}
 use lib.ListN.{length}
@@ -36,7 +35,7 @@ abbrev width-of : tie.Else1 → ℕ
 width-of c = c .before .before .before .answer .given .0 .1 .1 .0
 
 -- at a row's place its bytes are in the file
-within : (c : tie.Else1) → let a = start-of c .args in (a .at + widthOf Rows ≤ length (now (a .s))) × (width-of c ≡ widthOf Rows)
+within : (c : tie.Else1) → let a = start-of c .args in (widthOf Rows ≤ width-of c) × (a .at + width-of c ≤ length (now (a .s)))
 within c =
     let k = c .before .before .before .before .before in
     let a = k .before .before .args in
@@ -59,6 +58,6 @@ row-step-spec =
     returns
     is-place-requires
     returns-2
-    (λ c κs. within c .0)
-    (λ c. omega (arith, within (c .before) .0, within (c .before) .1))
+    (λ c κs. within c)
+    (λ c. omega (arith, within (c .before) .1))
     returns-3)

@@ -6,7 +6,7 @@ use borrow.Author.Needs.{needs}
 use denote.Ref.{now}
 use Rattle.recording.specs.Answers.{rowCount}
 use Rattle.recording.specs.Reader.{reading}
-use Rattle.rerun.proofs.Stops.{Reached, begins, ends, row-there, next-place, stops, few-scans, goes-on}
+use Rattle.rerun.proofs.Stops.{Reached, begins, ends, row-there, stops, few-scans, goes-on}
 use Rattle.rerun.proofs.stop_of.Statement.{statement}
 use Rattle.rerun.proofs.stop_of.Tie as tie
 
@@ -51,7 +51,7 @@ add-place c =
     let k = c .before .before .before .before in
     let a = k .before .before .before .args in
     let l = k .before .loop in
-    omega (arith, next-place (now (a .s)) (a .width) (l .done) (l .place) (l .passed) (l .inv .0) (more k))
+    omega (arith, row-there (now (a .s)) (a .width) (l .done) (l .place) (l .passed) (l .inv .0) (more k) .1)
 
 loop-again : tie.Need-loop-again Inv-loop μ-loop
 loop-again c =
