@@ -5,6 +5,7 @@
 //! reader of a recording goes from section to section. Only the replay of a whole file
 //! passes over scans, effect by effect, since a file can hold 1,000,000,000 of them.
 
+pub mod answers;
 pub mod block;
 pub mod cases;
 pub mod make;
@@ -17,3 +18,4 @@ pub mod replay;
 pub mod settings;
 pub mod show;
 pub mod show_file;
+pub mod words;

@@ -1,5 +1,7 @@
-//! `second answer|make|show KIND ...`, `second replay` and `second show FILE`: see `USAGE`.
+//! `second answer|make|show KIND ...`, `second replay`, `second show FILE` and
+//! `second check|explain|summary NAME...`: see `USAGE`.
 
+use second::answers::Question;
 use second::cases::{answer_next, Kind, Stream};
 use second::make::{filled_stream, stream_of};
 use second::make_filled::FILLED_BUFFERS;
@@ -9,6 +11,7 @@ use second::show_file::show_recording;
 use std::ffi::{OsStr, OsString};
 use std::fs::File;
 use std::io::{self, BufWriter, Read, Write};
+use std::os::unix::ffi::OsStrExt;
 use std::process::ExitCode;
 use std::str::FromStr;
 
@@ -19,8 +22,22 @@ const USAGE: &str = "usage:
   second fill BUFFER SEED COUNT > replay cases
   second show scan|held|recording|writing|replay < cases
   second show FILE > a recording in words; - is standard input, ./scan a file of that name
-exit status: 0; 1 if the recording that is replayed or shown is refused; 2 on bad usage, a bad
-stream, or failing input or output";
+  second check|explain|summary [NAME...] > a line for each file; - or no NAME is standard input
+exit status: 0; 1 if a recording that is replayed, shown or asked for is refused; 2 on bad usage,
+a bad stream, or failing input or output";
+
+/// Exit statuses; of several files the highest counts.
+const DONE: u8 = 0;
+const REFUSED: u8 = 1;
+const FAILED: u8 = 2;
+
+fn status_of(refused: bool) -> u8 {
+    if refused {
+        REFUSED
+    } else {
+        DONE
+    }
+}
 
 /// At most `most` bytes; a read that fails is no end of data.
 fn read_up_to(most: usize, from: impl Read) -> io::Result<Vec<u8>> {
@@ -98,54 +115,89 @@ fn kind_of(name: &str) -> Result<Kind, String> {
     Kind::named(name).ok_or_else(|| format!("no such kind: {name}\n{USAGE}"))
 }
 
-/// Replays standard input; whether the recording was accepted.
-fn replay_input(out: &mut impl Write) -> Result<bool, String> {
+/// Replays standard input.
+fn replay_input(out: &mut impl Write) -> Result<u8, String> {
     let listing = replay(&input_up_to(ENOUGH_BYTES)?);
     written(out.write_all(listing.text.as_bytes()))?;
-    Ok(listing.refusal.is_none())
+    Ok(status_of(listing.refusal.is_some()))
 }
 
-/// Shows a recording; whether it is accepted.
-fn show_recording_in(file: &OsStr, out: &mut impl Write) -> Result<bool, String> {
+/// Shows a recording.
+fn show_recording_in(file: &OsStr, out: &mut impl Write) -> Result<u8, String> {
     let shown = show_recording(&recording_in(file)?);
     written(out.write_all(shown.text.as_bytes()))?;
-    Ok(!shown.refused)
+    Ok(status_of(shown.refused))
 }
 
-/// Cases of a kind on standard input, or the recording in a file; false if that is refused.
-fn show_kind_or_file(word: &OsStr, out: &mut impl Write) -> Result<bool, String> {
+/// Cases of a kind on standard input, or the recording in a file.
+fn show_kind_or_file(word: &OsStr, out: &mut impl Write) -> Result<u8, String> {
     match word.to_str().and_then(Kind::named) {
-        Some(kind) => show(kind, out).map(|()| true),
+        Some(kind) => show(kind, out).map(|()| DONE),
         None => show_recording_in(word, out),
     }
 }
 
-/// Does what the words say; false if a recording was refused.
-fn work(given: &[OsString], out: &mut impl Write) -> Result<bool, String> {
+/// The line of one file; one that cannot be read has a message and no line.
+fn ask_file(question: Question, name: &OsStr, out: &mut impl Write) -> Result<u8, String> {
+    match recording_in(name) {
+        Ok(file) => {
+            let line = question.line(name.as_bytes(), &file);
+            written(out.write_all(&line.bytes))?;
+            Ok(status_of(line.refused))
+        }
+        Err(message) => {
+            eprintln!("second: {message}");
+            Ok(FAILED)
+        }
+    }
+}
+
+/// The lines of the named files, or of standard input if there is no name.
+fn ask(question: Question, names: &[OsString], out: &mut impl Write) -> Result<u8, String> {
+    let standard_input = [OsString::from("-")];
+    let names = if names.is_empty() {
+        &standard_input
+    } else {
+        names
+    };
+    written(out.write_all(question.heading().as_bytes()))?;
+    let mut worst = DONE;
+    for name in names {
+        worst = worst.max(ask_file(question, name, out)?);
+    }
+    Ok(worst)
+}
+
+fn question_of(word: &str) -> Result<Question, String> {
+    Question::named(word).ok_or_else(|| USAGE.to_string())
+}
+
+/// Does what the words say; the exit status.
+fn work(given: &[OsString], out: &mut impl Write) -> Result<u8, String> {
     let words: Vec<_> = given.iter().map(|word| word.to_string_lossy()).collect();
     let words: Vec<&str> = words.iter().map(|word| word.as_ref()).collect();
-    let mut accepted = true;
+    let mut status = DONE;
     match words[..] {
-        ["replay"] => accepted = replay_input(out)?,
+        ["replay"] => status = replay_input(out)?,
         ["answer", kind] => answer(kind_of(kind)?, out)?,
-        ["show", _] => accepted = show_kind_or_file(&given[1], out)?,
+        ["show", _] => status = show_kind_or_file(&given[1], out)?,
         ["make", kind, seed, count] => make(kind_of(kind)?, seed, count, out)?,
         ["fill", buffer, seed, count] => fill(buffer, seed, count, out)?,
-        _ => return Err(USAGE.to_string()),
+        [question, ..] => status = ask(question_of(question)?, &given[1..], out)?,
+        [] => return Err(USAGE.to_string()),
     }
     written(out.flush())?;
-    Ok(accepted)
+    Ok(status)
 }
 
 fn main() -> ExitCode {
     let words: Vec<OsString> = std::env::args_os().skip(1).collect();
     let mut out = BufWriter::new(io::stdout().lock());
     match work(&words, &mut out) {
-        Ok(true) => ExitCode::SUCCESS,
-        Ok(false) => ExitCode::FAILURE,
+        Ok(status) => ExitCode::from(status),
         Err(message) => {
             eprintln!("second: {message}");
-            ExitCode::from(2)
+            ExitCode::from(FAILED)
         }
     }
 }

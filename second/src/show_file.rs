@@ -1,10 +1,11 @@
 //! A recording for a person to read: `second show FILE`.
 
-use crate::block::{Row, MAX_SCANS};
+use crate::block::Row;
 use crate::cases::hex;
 use crate::recording::{read, read_front, row_of, Front, Refusal, MAX_BYTES, ROW_BYTES};
 use crate::replay::replay;
 use crate::settings::{existing, Settings, PERMIT_NOT_REQUIRED, SEVERAL_FORCED, TRIP_IF_BAD};
+use crate::words::words;
 
 /// What is shown of a recording.
 pub struct Shown {
@@ -148,21 +149,6 @@ fn show_rows(front: &Front, settings: &Settings) -> String {
     text
 }
 
-/// Document 01, "Refusal numbers".
-fn reason(number: u8) -> String {
-    match number {
-        1 => "bytes end before a count or entry does".to_string(),
-        2 => "block section wrong".to_string(),
-        3 => "effects section wrong".to_string(),
-        4 => "row count, hold or a row word wrong".to_string(),
-        5 => "one effect in both force words".to_string(),
-        6 => "several forced without option bit 2".to_string(),
-        7 => "bytes left over".to_string(),
-        9 => format!("scans done plus hold above {MAX_SCANS}"),
-        _ => "?".to_string(),
-    }
-}
-
 /// A refusal in words. Before it stands the row that is refused, or else the bytes at the place, if there are any.
 fn show_refusal(refusal: &Refusal, front: &Front, bytes: &[u8]) -> String {
     let at = refusal.place as usize;
@@ -173,8 +159,11 @@ fn show_refusal(refusal: &Refusal, front: &Front, bytes: &[u8]) -> String {
         _ if there.is_empty() => String::new(),
         _ => format!("bytes at {at}: {}\n", hex(there)),
     };
-    let (number, words) = (refusal.number, reason(refusal.number));
-    format!("{what}refused {number} at {at}: {words}\n")
+    format!(
+        "{what}refused {} at {at}: {}\n",
+        refusal.number,
+        words(bytes, refusal)
+    )
 }
 
 fn show_length(bytes: &[u8]) -> String {
@@ -197,10 +186,11 @@ pub fn show_recording(bytes: &[u8]) -> Shown {
     if let Err(refusal) = read(bytes) {
         text += &show_refusal(&refusal, &front, bytes);
     } else if let Some(late) = replay(bytes).refusal {
-        let words = reason(late.number);
         text += &format!(
-            "its replay is refused {} at {}: {words}\n",
-            late.number, late.place
+            "its replay is refused {} at {}: {}\n",
+            late.number,
+            late.place,
+            words(bytes, &late)
         );
     } else {
         refused = false;

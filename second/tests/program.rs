@@ -237,14 +237,14 @@ fn show_a_refused_recording() {
     assert_eq!(
         shown(&[]),
         (
-            "0 bytes\nrefused 1 at 0: bytes end before a count or entry does\n".to_string(),
+            "0 bytes\nrefused 1 at 0: the bytes end in the block count\n".to_string(),
             Some(1)
         )
     );
     let mut file = bytes_of_hex(SESSION);
     file.push(0xab);
     let expected = SESSION_SHOWN.replace("70 bytes", "71 bytes")
-        + "bytes at 70: ab\nrefused 7 at 70: bytes left over\n";
+        + "bytes at 70: ab\nrefused 7 at 70: bytes follow the last row\n";
     assert_eq!(shown(&file), (expected, Some(1)));
     let mut file = bytes_of_hex(EVERY_WORD);
     file[19] = 0;
@@ -253,7 +253,7 @@ fn show_a_refused_recording() {
         .replace("1 row, 1 scan; words that are not listed are 0\n", "")
         .replace("hold 1 scan", "hold 0 scans")
         .replace("0001  forces count", "0002  neither 0 nor 1");
-    let refused = "refused 4 at 16: row count, hold or a row word wrong\n";
+    let refused = "refused 4 at 16: row 1: its hold is not 1 to 1,000,000\n";
     assert_eq!(shown(&file), (expected + refused, Some(1)));
 }
 
@@ -264,7 +264,7 @@ fn show_refused_settings() {
     let expected = "70 bytes\n\
         bytes at 2: 110000640002000100000000000300\
         0000fa000200000003\n\
-        refused 2 at 2: block section wrong\n";
+        refused 2 at 2: block: its cause count is not 1 to 16\n";
     assert_eq!(shown(&file), (expected.to_string(), Some(1)));
     let mut file = bytes_of_hex(SESSION);
     file.truncate(22);
@@ -273,7 +273,7 @@ fn show_refused_settings() {
     assert!(text.starts_with("22 bytes\n2 causes, 2 effects"));
     assert!(text.ends_with(
         "delay 250 ms\nbytes at 20: 0000\n\
-         refused 4 at 20: row count, hold or a row word wrong\n"
+         refused 4 at 20: the row count is not 1 to 2,048\n"
     ));
     assert_eq!(status, Some(1));
 }
@@ -290,7 +290,7 @@ fn show_too_many_scans() {
     assert!(text.contains("\n1001 rows, 1001000000 scans;"));
     assert!(text.ends_with(
         "\nrow 1001 at 24016: hold 1000000 scans\n  cause values  0001  normal 1\n\
-         its replay is refused 9 at 24016: scans done plus hold above 1000000000\n"
+         its replay is refused 9 at 24016: row 1001: it ends after scan 1,000,000,000\n"
     ));
     assert_eq!(status, Some(1));
 }
@@ -306,7 +306,7 @@ fn show_endless_input() {
         .starts_with(b"more than 49258 bytes\nbytes at 0: 0000"));
     assert!(output
         .stdout
-        .ends_with(b"refused 2 at 0: block section wrong\n"));
+        .ends_with(b"refused 2 at 0: the block count is not 1\n"));
 }
 
 /// The name of a kind is that kind, and no file.
