@@ -81,6 +81,7 @@ use Rattle.text.proofs.put_header.Reads as text·put-header
 use Rattle.text.proofs.put_lines.Reads as text·put-lines
 use Rattle.text.proofs.put_last.Reads as text·put-last
 use Rattle.text.proofs.put_refusal.Reads as text·put-refusal
+use Rattle.reasons.proofs.explain.Reads as reasons·explain
 use Rattle.wiring.specs.declared.Struck.{Struck}
 use Rattle.wiring.specs.Wiring.{Stroked}
 use Rattle.rerun.specs.Turn.{Totals}
@@ -377,3 +378,8 @@ text-put-last κs = by-equations (text·put-last.Learnt κs) (λ e. now (e .0)) 
 
 pub text-put-refusal : (κs : Lfts 1) → Unique (text·put-refusal.Learnt κs) (λ e. now (e .0))
 text-put-refusal κs = by-equations (text·put-refusal.Learnt κs) (λ e. now (e .0)) _ _ (λ a r e h. h .0)
+
+-- ## Why a file is refused (`reasons`)
+
+pub reasons-explain : (κs : Lfts 1) → Unique (reasons·explain.Learnt κs) none
+reasons-explain κs = by-equation (reasons·explain.Learnt κs) _ (λ a r e h. h)

@@ -1,0 +1,17 @@
+-- `reasons::is_permitted` meets its contract: from what its callees ensure.
+use borrow.Author.Needs.{needs}
+use Rattle.reasons.proofs.is_permitted.Statement.{statement}
+use Rattle.reasons.proofs.is_permitted.Tie as tie
+
+returns : tie.Need-returns
+returns c = rw (c .before .before .bit .ensures, c .count-bits2 .ensures .0, c .before .count-bits .ensures .0)
+
+pub is-permitted-spec : {M : Type 1} → statement M
+is-permitted-spec =
+    tie.close
+    (tie.spec
+    (λ c κs. search needs)
+    (λ c κs. search needs)
+    (λ c κs. search needs)
+    (λ c. search needs)
+    returns)
