@@ -82,6 +82,7 @@ use Rattle.text.proofs.put_lines.Reads as text·put-lines
 use Rattle.text.proofs.put_last.Reads as text·put-last
 use Rattle.text.proofs.put_refusal.Reads as text·put-refusal
 use Rattle.reasons.proofs.explain.Reads as reasons·explain
+use Rattle.sentences.proofs.put_reason.Reads as sentences·put-reason
 use Rattle.wiring.specs.declared.Struck.{Struck}
 use Rattle.wiring.specs.Wiring.{Stroked}
 use Rattle.rerun.specs.Turn.{Totals}
@@ -379,7 +380,10 @@ text-put-last κs = by-equations (text·put-last.Learnt κs) (λ e. now (e .0)) 
 pub text-put-refusal : (κs : Lfts 1) → Unique (text·put-refusal.Learnt κs) (λ e. now (e .0))
 text-put-refusal κs = by-equations (text·put-refusal.Learnt κs) (λ e. now (e .0)) _ _ (λ a r e h. h .0)
 
--- ## Why a file is refused (`reasons`)
+-- ## Why a file is refused (`reasons`, `sentences`)
 
 pub reasons-explain : (κs : Lfts 1) → Unique (reasons·explain.Learnt κs) none
 reasons-explain κs = by-equation (reasons·explain.Learnt κs) _ (λ a r e h. h)
+
+pub sentences-put-reason : (κs : Lfts 1) → Unique (sentences·put-reason.Learnt κs) (λ e. now (e .0))
+sentences-put-reason κs = by-equations (sentences·put-reason.Learnt κs) (λ e. now (e .0)) _ _ (λ a r e h. h .0)

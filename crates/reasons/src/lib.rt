@@ -2,7 +2,7 @@
 // "Recordings". The reader's refusal number and place already tell it all: the counts of the file say in which count or entry the place
 // stands, and the tests of that entry, in the order of its fields, say which one it fails.
 // It rests on `recording` and `rerun` for the refusal number and place, and on `layout` and `settings` for what is valid. How the reason is found may
-// change without moving a contract.
+// change without moving a contract; `sentences` has the words.
 ghost use mathlib.Core.Path.{_≡_};
 ghost use Prim.Native.Nat.{_+_, _*_, _^_, _≤_, _<_};
 ghost use lib.Dec.{leb, ltb};
