@@ -40,7 +40,7 @@ impl Part {
     }
 }
 
-/// The part that a place lies in; the counts before it are right.
+/// The part that a place lies in; the counts before it are valid.
 fn part_at(file: &[u8], place: usize) -> Part {
     if place < CAUSES {
         return Part::BlockCount;
@@ -125,11 +125,11 @@ fn word_fault(file: &[u8], of: Of, word: u16) -> Option<&'static str> {
     let (right, fault) = match of {
         Of::Causes => (
             inside(word, causes_of(file)),
-            "has a bit of an absent cause",
+            "word has a bit of an absent cause",
         ),
         Of::Effects => (
             inside(word, effects_of(file)),
-            "has a bit of an absent effect",
+            "word has a bit of an absent effect",
         ),
         Of::Nothing => (word <= 1, "is not 0 or 1"),
     };

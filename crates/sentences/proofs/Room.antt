@@ -23,7 +23,7 @@ length-numbered text n = length-append text (decimal n)
 numbered-most : (text : List ℕ) (n : ℕ) → n < 65536 → length (numbered text n) ≤ length text + 5
 numbered-most text n h = omega (arith, length-numbered text n, length-decimal 4 n (omega arith))
 
-word-most : (w : RowWord) → length (wordText w) ≤ 47
+word-most : (w : RowWord) → length (wordText w) ≤ 52
 unfolding wordText
 word-most Values = lit≤ tt
 word-most Bad = lit≤ tt
@@ -36,7 +36,7 @@ word-most ForcePermit = lit≤ tt
 word-most ForceTrip = lit≤ tt
 word-most ForceNormal = lit≤ tt
 
-fault-most : (f : Fault) → length (faultText f) ≤ 47
+fault-most : (f : Fault) → length (faultText f) ≤ 52
 unfolding faultText
 fault-most CauseCount = lit≤ tt
 fault-most Options = lit≤ tt

@@ -13,7 +13,7 @@ use Rattle.reasons.specs.declared.Reason.the-variants.{Nothing, CountEnds, Entr
 
 -- the most bytes of a sentence: `effect ` and a number of 16 bits, a colon and a space, and the longest fault
 abbrev pub mostWords : ℕ
-mostWords = 7 + 5 + 2 + 47
+mostWords = 7 + 5 + 2 + 52
 
 -- a text and the number behind it
 unfoldable pub numbered : List ℕ → ℕ → List ℕ
@@ -22,16 +22,16 @@ numbered text n = text ++ decimal n
 -- ## What is wrong
 
 unfoldable pub wordText : RowWord → List ℕ
-wordText Values = ascii "its values has a bit of an absent cause"
-wordText Bad = ascii "its bad has a bit of an absent cause"
-wordText Mask = ascii "its mask has a bit of an absent cause"
-wordText RequireReset = ascii "its require reset has a bit of an absent effect"
-wordText ResetPermit = ascii "its reset permit has a bit of an absent effect"
-wordText StartPermit = ascii "its start permit has a bit of an absent effect"
-wordText Reset = ascii "its reset has a bit of an absent effect"
+wordText Values = ascii "its values word has a bit of an absent cause"
+wordText Bad = ascii "its bad word has a bit of an absent cause"
+wordText Mask = ascii "its mask word has a bit of an absent cause"
+wordText RequireReset = ascii "its require reset word has a bit of an absent effect"
+wordText ResetPermit = ascii "its reset permit word has a bit of an absent effect"
+wordText StartPermit = ascii "its start permit word has a bit of an absent effect"
+wordText Reset = ascii "its reset word has a bit of an absent effect"
 wordText ForcePermit = ascii "its force permit is not 0 or 1"
-wordText ForceTrip = ascii "its force trip has a bit of an absent effect"
-wordText ForceNormal = ascii "its force normal has a bit of an absent effect"
+wordText ForceTrip = ascii "its force trip word has a bit of an absent effect"
+wordText ForceNormal = ascii "its force normal word has a bit of an absent effect"
 
 unfoldable pub faultText : Fault → List ℕ
 faultText CauseCount = ascii "its cause count is not 1 to 16"

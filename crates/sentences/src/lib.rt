@@ -1,6 +1,6 @@
 // A reason in words, written at a place of a lent buffer: each function answers the place after what it wrote, and all else stays.
-// It rests on `reasons` for what is wrong and on `bits` for numbers and text. How a sentence is put may change without moving a contract; the
-// words are specs/Sentences.
+// It rests on `reasons` for what is wrong and on `bits` for numbers and text. How a sentence is put may change without moving a contract;
+// the words are specs/Sentences.
 ghost use mathlib.Core.Path.{_≡_};
 ghost use Prim.Native.Nat.{_+_, _≤_};
 ghost use lib.ListN.{length};
@@ -26,35 +26,35 @@ fn put_word(out: &mut [u8], at: usize, word: RowWord) -> usize
     ensures { λ r. ⌜ (r ≡ at + length (wordText word)) × (now (out .exit) ≡ sets (now (out .entry)) at (wordText word)) ⌝ }
 {
     match word {
-        RowWord::Values => bits::put_text(out, at, b"its values has a bit of an absent cause"),
-        RowWord::Bad => bits::put_text(out, at, b"its bad has a bit of an absent cause"),
-        RowWord::Mask => bits::put_text(out, at, b"its mask has a bit of an absent cause"),
+        RowWord::Values => bits::put_text(out, at, b"its values word has a bit of an absent cause"),
+        RowWord::Bad => bits::put_text(out, at, b"its bad word has a bit of an absent cause"),
+        RowWord::Mask => bits::put_text(out, at, b"its mask word has a bit of an absent cause"),
         RowWord::RequireReset => bits::put_text(
             out,
             at,
-            b"its require reset has a bit of an absent effect",
+            b"its require reset word has a bit of an absent effect",
         ),
         RowWord::ResetPermit => bits::put_text(
             out,
             at,
-            b"its reset permit has a bit of an absent effect",
+            b"its reset permit word has a bit of an absent effect",
         ),
         RowWord::StartPermit => bits::put_text(
             out,
             at,
-            b"its start permit has a bit of an absent effect",
+            b"its start permit word has a bit of an absent effect",
         ),
-        RowWord::Reset => bits::put_text(out, at, b"its reset has a bit of an absent effect"),
+        RowWord::Reset => bits::put_text(out, at, b"its reset word has a bit of an absent effect"),
         RowWord::ForcePermit => bits::put_text(out, at, b"its force permit is not 0 or 1"),
         RowWord::ForceTrip => bits::put_text(
             out,
             at,
-            b"its force trip has a bit of an absent effect",
+            b"its force trip word has a bit of an absent effect",
         ),
         RowWord::ForceNormal => bits::put_text(
             out,
             at,
-            b"its force normal has a bit of an absent effect",
+            b"its force normal word has a bit of an absent effect",
         ),
     }
 }
