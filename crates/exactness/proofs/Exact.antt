@@ -157,7 +157,7 @@ module _ (st : Settings) (rows : List Row) (right : Right st rows) where
       ap reading (sym e) ∙ all-pass []
       ∙ sym (accepted (s []) 6 rowsPlace (length (encode st rows)) (length rows) (openingLength st) (widthOf Rows) st (ap length (sym e)) (sym (rows-back [] .count)) (omega arith) refl (sym (settings-back [])))
 
-  -- and its rows
+  -- an encoding gives its rows back
   pub rows-are-back : listOf (rowAt (widthOf Rows) (encode st rows)) (widthOf Rows) (length rows) (openingLength st) ≡ rows
   rows-are-back = ap (λ (l : List ℕ). listOf (rowAt (widthOf Rows) l) (widthOf Rows) (length rows) (openingLength st)) (sym (append-nil (encode st rows))) ∙ rows-again []
 

@@ -79,7 +79,7 @@ module _ (s : List ℕ) where
       let next : r + 2 + widthOf Rows * i + widthOf Rows ≡ r + 2 + widthOf Rows * suc i = omega arith in
       rw (place-yes (r + 2) (numAt 2 s r) i l, getD-listOf (rowAt (widthOf Rows) s) (widthOf Rows) (numAt 2 s r) (r + 2) i d l, next))
 
-  -- and the row's bytes are there to be read
+  -- the bytes of a row are there to be read, with the width of the table
   abbrev Within : Row → Reading → Type 0
   Within d x = (i : ℕ) → i < rowCount (x .answer)
       → (place x i + rowWidth (x .answer) ≤ length s) × (rowAt (rowWidth (x .answer)) s (place x i) ≡ getD (rowsIn (x .answer) s) i d) × (rowWidth (x .answer) ≡ widthOf Rows)

@@ -39,7 +39,8 @@ const ROW_BYTES: usize = 24;
 
 const MOST_ROWS: u16 = 2048;
 
-fn effect_at(s: &[u8], at: usize) -> Effect
+// The effect at a place.
+pub fn effect_at(s: &[u8], at: usize) -> Effect
     requires { ⌜ at + 6 ≤ length (now s) ⌝ }
     ensures { λ r. ⌜ r ≡ effectAt (now (s .entry)) at ⌝ }
 {
@@ -68,7 +69,7 @@ pub fn words_at(s: &[u8], at: usize) -> Words
     }
 }
 
-// The row in the `width` bytes from `at`, a place that is known to be a row's, as the callers that have read the file know it.
+// The row in the `width` bytes from `at`. A caller that has read the file knows that the place is a row's.
 pub fn row_at(s: &[u8], at: usize, width: usize) -> Row
     requires { ⌜ (widthOf Rows ≤ width) × (at + width ≤ length (now s)) ⌝ }
     ensures { λ r. ⌜ r ≡ rowAt width (now (s .entry)) at ⌝ }

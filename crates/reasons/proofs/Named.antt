@@ -12,7 +12,7 @@ use Rattle.settings.specs.Refusals.{unless}
 use Rattle.settings.specs.Right.{blockOk, effectOk}
 use Rattle.layout.specs.declared.Kind.the-variants.{Block, Effects, Rows}
 use Rattle.layout.specs.Entries.{blockAt, effectAt, rowAt}
-use Rattle.layout.specs.Sections.{testOf}
+use Rattle.layout.specs.Sections.{widthOf, testOf}
 use Rattle.reasons.specs.declared.Fault.{Fault}
 use Rattle.reasons.specs.declared.Fault.the-variants.{CauseCount, Options, Period, NoCause, AbsentCause, Delay, Hold, Word, BothForces, SeveralForced, LastScan}
 use Rattle.reasons.specs.declared.RowWord.the-variants.{Values, Bad, Mask, RequireReset, ResetPermit, StartPermit, Reset, ForcePermit, ForceTrip, ForceNormal}
@@ -63,7 +63,7 @@ module _ (s : List ℕ) (at : ℕ) where
   test = faultTest s at
 
   abbrev w : Words
-  w = rowAt s at .words
+  w = rowAt (widthOf Rows) s at .words
 
   together-named : test (togetherFault (optionsIn s) w) ≡ false
   unfolding togetherFault

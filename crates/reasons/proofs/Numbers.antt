@@ -1,4 +1,4 @@
--- The refusal number of the fault that is named is the number that refuses the entry; of a row that nothing refuses it is 9.
+-- The refusal number of the fault that is named is the one that refuses the entry; of a row that nothing refuses it is 9.
 use mathlib.Core.Path.{_≡_, refl, sym, ap, _∙_}
 use mathlib.Core.Bool.{Bool, true, false, _&&_}
 use mathlib.Core.List.{List}
@@ -13,7 +13,7 @@ use Rattle.settings.specs.Refusals.{unless, orElse}
 use Rattle.settings.specs.Right.{knownOf, blockOk, effectOk, apart, fieldsNumber, apartNumber, severalNumber, wordsNumber, holdNumber, rowNumber}
 use Rattle.layout.specs.declared.Kind.the-variants.{Block, Effects, Rows}
 use Rattle.layout.specs.Entries.{blockAt, effectAt, rowAt}
-use Rattle.layout.specs.Sections.{testOf}
+use Rattle.layout.specs.Sections.{widthOf, testOf}
 use Rattle.recording.specs.Reader.{settingsAt}
 use Rattle.reasons.specs.declared.Fault.{Fault}
 use Rattle.reasons.specs.declared.Fault.the-variants.{CauseCount, Options, Period, NoCause, AbsentCause, Delay, Hold, Word, BothForces, SeveralForced, LastScan}
@@ -22,7 +22,7 @@ use Rattle.reasons.specs.Faults.{orNext, blockFault, effectFault, permit
 
 -- ## Chains
 
--- a test of a chain, by its number
+-- a test of a chain, by its refusal number
 link : (ok : Bool) (fault next : Fault) (k n : ℕ) → faultNumber fault ≡ suc k → faultNumber next ≡ n
     → faultNumber (orNext ok fault next) ≡ orElse (unless ok (suc k)) n
 link true fault next k n e h = h
@@ -124,7 +124,7 @@ three true true = refl
 three true false = refl
 three false b = refl
 
--- a test with one number gives no other
+-- a test with one refusal number gives no other
 only : (ok : Bool) (k n : ℕ) → unless ok n ≡ suc k → n ≡ suc k
 only true k n e = absurd (omega (arith, e))
 only false k n e = e
@@ -145,7 +145,7 @@ module _ (s : List ℕ) (at k : ℕ) where
       three (leb 1 (x .association)) (ltb (x .association) (2 ^ causesIn s)) ∙ only (effectOk (known .causes) x) k 3 e
 
   pub row-number : testOf Rows (knownOf (settingsAt s 6)) s at ≡ suc k → faultNumber (faultAt Rows s at) ≡ suc k
-  row-number e = row-fault-number (causesIn s) (effectsIn s) (optionsIn s) (rowAt s at) ∙ ap (λ (n : ℕ). orElse n 9) e
+  row-number e = row-fault-number (causesIn s) (effectsIn s) (optionsIn s) (rowAt (widthOf Rows) s at) ∙ ap (λ (n : ℕ). orElse n 9) e
 
 pub late-number : (s : List ℕ) (at : ℕ) → testOf Rows (knownOf (settingsAt s 6)) s at ≡ 0 → faultNumber (faultAt Rows s at) ≡ 9
-late-number s at e = row-fault-number (causesIn s) (effectsIn s) (optionsIn s) (rowAt s at) ∙ ap (λ (n : ℕ). orElse n 9) e
+late-number s at e = row-fault-number (causesIn s) (effectsIn s) (optionsIn s) (rowAt (widthOf Rows) s at) ∙ ap (λ (n : ℕ). orElse n 9) e

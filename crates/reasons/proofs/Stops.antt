@@ -1,4 +1,4 @@
--- The reason that is found at the place of a refusal has the refusal's number and place: section by section, as `Refused` has them
+-- The reason that is found at the place of a refusal has its refusal number and place: section by section, as `Refused` has them
 -- (recording, specs/Refused).
 use mathlib.Core.Path.{_≡_, refl, sym, ap, _∙_}
 use mathlib.Core.Bool.{false}
@@ -27,7 +27,7 @@ use Rattle.reasons.proofs.Spots.{in-block, in-effects, in-rows, past}
 use Rattle.reasons.proofs.Named.{block-named, effect-named, row-named}
 use Rattle.reasons.proofs.Numbers.{block-number, effect-number, row-number, late-number}
 
--- a reason says this number and this place, and the test that it names fails
+-- a reason says this refusal number and this place, and the test that it names fails
 abbrev pub Says : List ℕ → (n p : ℕ) → Reason → Type 0
 Says s n p r = (reasonNumber r ≡ n) × (reasonPlace s r ≡ p) × (reasonTest s r ≡ false)
 
@@ -83,7 +83,7 @@ module _ (kind : Kind) (s : List ℕ) (at : ℕ) (at-is : at ≡ sectionAt kind 
       let z : p ≡ at + 2 + w * i + 0 = omega arith in
       rw (in-entry i 0 p room c (some-bytes kind) z, le-leb (p + w) (length s) l) (refl, first-byte i, ap (λ (q : ℕ). faultTest s q (faultAt kind s p)) (first-byte i) ∙ f)
 
-  -- of a section whose entries are tested so: the number of their faults, and that these are there
+  -- of a section whose entries are tested so: the refusal number of their faults, and that these are there
   pub record Tested (k : Known) : Type 0 where
     pub number : (p m : ℕ) → testOf kind k s p ≡ suc m → faultNumber (faultAt kind s p) ≡ suc m
     pub named : (p m : ℕ) → testOf kind k s p ≡ suc m → faultTest s p (faultAt kind s p) ≡ false

@@ -14,6 +14,7 @@ use Rattle.settings.specs.Right.{apart, several}
 use Rattle.layout.specs.declared.Kind.{Kind}
 use Rattle.layout.specs.declared.Kind.the-variants.{Block, Effects, Rows}
 use Rattle.layout.specs.Entries.{blockAt, effectAt, rowAt}
+use Rattle.layout.specs.Sections.{widthOf}
 use Rattle.reasons.specs.declared.Fault.{Fault}
 use Rattle.reasons.specs.declared.Fault.the-variants.{CauseCount, Options, Period, NoCause, AbsentCause, Delay, Hold, Word, BothForces, SeveralForced, LastScan}
 use Rattle.reasons.specs.declared.RowWord.{RowWord}
@@ -33,7 +34,7 @@ effectFault causes e = orNext (leb 1 (e .association)) NoCause (orNext (ltb (e .
 
 -- ## A row, the last field first
 
--- not several effects are forced, or option bit 2 is set
+-- at most one effect is forced, or option bit 2 is set
 abbrev pub permitted : (options : ℕ) → Words → Bool
 permitted options w = bitOf options 2 || not (several w)
 
@@ -80,7 +81,7 @@ effectsIn s = numAt 2 s 6
 abbrev pub faultAt : Kind → List ℕ → ℕ → Fault
 faultAt Block s at = blockFault (blockAt s at .causes) (blockAt s at .options) (blockAt s at .period)
 faultAt Effects s at = effectFault (causesIn s) (effectAt s at)
-faultAt Rows s at = rowFault (causesIn s) (effectsIn s) (optionsIn s) (rowAt s at)
+faultAt Rows s at = rowFault (causesIn s) (effectsIn s) (optionsIn s) (rowAt (widthOf Rows) s at)
 
 -- ## What a fault says of the entry: its refusal number, and the test that fails
 
@@ -117,8 +118,8 @@ faultTest s at Period = between 1 mostPeriod (blockAt s at .period)
 faultTest s at NoCause = leb 1 (effectAt s at .association)
 faultTest s at AbsentCause = ltb (effectAt s at .association) (2 ^ causesIn s)
 faultTest s at Delay = leb (effectAt s at .delay) mostDelay
-faultTest s at Hold = between 1 mostHold (rowAt s at .hold)
-faultTest s at (Word word) = wordTest (causesIn s) (effectsIn s) (rowAt s at .words) word
-faultTest s at BothForces = apart (rowAt s at .words)
-faultTest s at SeveralForced = permitted (optionsIn s) (rowAt s at .words)
+faultTest s at Hold = between 1 mostHold (rowAt (widthOf Rows) s at .hold)
+faultTest s at (Word word) = wordTest (causesIn s) (effectsIn s) (rowAt (widthOf Rows) s at .words) word
+faultTest s at BothForces = apart (rowAt (widthOf Rows) s at .words)
+faultTest s at SeveralForced = permitted (optionsIn s) (rowAt (widthOf Rows) s at .words)
 faultTest s at LastScan = false

@@ -1,14 +1,14 @@
 // Why a recording is refused: the section, the entry and what is wrong with it. Document 01, "Refusal numbers" and
 // "Recordings". The reader's refusal number and place already tell it all: the counts of the file say in which count or entry the place
 // stands, and the tests of that entry, in the order of its fields, say which one it fails.
-// It rests on `recording` and `rerun` for the refusal number and place, and on `layout` and `settings` for what is valid. How the reason is found may
-// change without moving a contract; `sentences` has the words.
+// It rests on `recording` and `rerun` for the refusal number and place, and on `layout` and `settings` for what is valid. How the reason
+// is found may change without moving a contract; `sentences` has the words.
 ghost use mathlib.Core.Path.{_≡_};
 ghost use Prim.Native.Nat.{_+_, _*_, _^_, _≤_, _<_};
 ghost use lib.Dec.{leb, ltb};
 ghost use lib.ListN.{length};
-ghost use Rattle.layout.specs.declared.Kind.the-variants.{Effects};
-ghost use Rattle.layout.specs.Entries.{effectAt};
+ghost use Rattle.layout.specs.declared.Kind.the-variants.{Rows};
+ghost use Rattle.layout.specs.Entries.{rowAt};
 ghost use Rattle.layout.specs.Sections.{widthOf};
 ghost use Rattle.reasons.specs.declared.Spot.the-variants.{Count, Entry};
 ghost use Rattle.reasons.specs.Spots.{farthest, mostCount, countAt, afterSection, spotIn, spotOf};
@@ -200,7 +200,7 @@ fn has_only(word: u16, n: u16) -> bool
     }
 }
 
-// Not several effects are forced, or option bit 2 permits it.
+// At most one effect is forced, or option bit 2 permits several.
 fn is_permitted(options: u8, w: Words) -> bool
     ensures { λ r. ⌜ r ≡ permitted options w ⌝ }
 {
@@ -281,15 +281,12 @@ fn row_fault(causes: u8, count: u16, options: u8, row: Row) -> Fault
     inputs_fault(causes, count, options, row.words)
 }
 
-// The effect at a place, which `layout` reads for itself alone.
-fn effect_at(s: &[u8], at: usize) -> Effect
-    requires { ⌜ at + widthOf Effects ≤ length (now s) ⌝ }
-    ensures { λ r. ⌜ r ≡ effectAt (now (s .entry)) at ⌝ }
+// The row that stands at `at`.
+fn row_in(s: &[u8], at: usize) -> Row
+    requires { ⌜ at + widthOf Rows ≤ length (now s) ⌝ }
+    ensures { λ r. ⌜ r ≡ rowAt (widthOf Rows) (now (s .entry)) at ⌝ }
 {
-    Effect {
-        association: bits::get16(s, at),
-        delay: bits::get32(s, at + 2),
-    }
+    layout::row_at(s, at, layout::width_of(Kind::Rows))
 }
 
 // The entry at a place, by the cause count, options and effect count that stand in the file before it.
@@ -303,12 +300,12 @@ fn fault_at(kind: Kind, s: &[u8], at: usize) -> Fault
             bits::get8(s, at + 1),
             bits::get16(s, at + 2),
         ),
-        Kind::Effects => effect_fault(bits::get8(s, CAUSES_AT), effect_at(s, at)),
+        Kind::Effects => effect_fault(bits::get8(s, CAUSES_AT), layout::effect_at(s, at)),
         Kind::Rows => row_fault(
             bits::get8(s, CAUSES_AT),
             bits::get16(s, EFFECTS_AT),
             bits::get8(s, OPTIONS_AT),
-            layout::row_at(s, at),
+            row_in(s, at),
         ),
     }
 }

@@ -124,7 +124,7 @@ module _ {s : List ℕ} {run : Run} {array : List ℕ} (g : Going s run array) w
   -- ## One row more
 
   module _ (more : run .rows < rowCount answer) where
-    -- its bytes are in the file
+    -- the bytes of the next row are in the file
     pub row-there : (widthOf Rows ≤ run .width) × (run .place + run .width ≤ length s)
     row-there =
         let there = row-in-the-file s (run .rows) more in

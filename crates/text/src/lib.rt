@@ -28,7 +28,7 @@ fn put_word(out: &mut [u8], at: usize, word: &[u8], end: u8) -> usize
 }
 
 // Puts a number, and the byte behind it.
-fn put_number(out: &mut [u8], at: usize, v: u64, end: u8) -> usize
+pub fn put_number(out: &mut [u8], at: usize, v: u64, end: u8) -> usize
     requires { ⌜ at + length (decimal v ++ (end ∷ [])) ≤ length (now out) ⌝ }
     ensures { λ r. ⌜ (r ≡ at + length (decimal v ++ (end ∷ []))) × (now (out .exit) ≡ sets (now (out .entry)) at (decimal v ++ (end ∷ []))) ⌝ }
 {
@@ -53,7 +53,7 @@ fn put_state(out: &mut [u8], at: usize, p: EffectState) -> usize
 }
 
 // Puts a word, a space, a number, and the byte behind it.
-fn put_total(out: &mut [u8], at: usize, word: &[u8], v: u64, end: u8) -> usize
+pub fn put_total(out: &mut [u8], at: usize, word: &[u8], v: u64, end: u8) -> usize
     requires { ⌜ at + length (total (now word) v end) ≤ length (now out) ⌝ }
     ensures { λ r. ⌜ (r ≡ at + length (total (now (word .entry)) v end)) × (now (out .exit) ≡ sets (now (out .entry)) at (total (now (word .entry)) v end)) ⌝ }
 {

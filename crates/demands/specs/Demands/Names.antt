@@ -47,7 +47,7 @@ pub use Rattle.walk.specs.Walks.{startOf, nextOf, movedOn, walked, given}
 pub use Rattle.rerun.specs.Replay.{started, refusedAt, answered, replay, rowOf}
 pub use Rattle.listing.specs.Printed.{hasRoom, written, placed}
 pub use Rattle.pohandira.specs.Crossing.{replayNumber}
--- this crate's
+-- names of this crate
 pub use Rattle.demands.specs.Answers.{Answers}
 pub use Rattle.demands.specs.Order.{firstOf, InOrder, settingsCases, wordsCases, rowCases, heldCases, scanCases, openingCases, rowPieceCases}
 pub use Rattle.demands.specs.Library.{CheckInOrder, ReplayInOrder, CountAsReplayed}

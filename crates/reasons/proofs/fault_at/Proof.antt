@@ -28,8 +28,8 @@ get16-requires-2 c κs = omega (arith, rw (c .before .enum-told3 .given .1) at (
 get8-requires-5 : tie.Need-get8-requires-5
 get8-requires-5 c κs = omega (arith, rw (c .before .before .enum-told3 .given .1) at (c .before .before .before .before .before .pre))
 
-row-at-requires : tie.Need-row-at-requires
-row-at-requires c κs = omega (arith, rw (c .before .before .before .enum-told3 .given .1) at (c .before .before .before .before .before .before .pre))
+row-in-requires : tie.Need-row-in-requires
+row-in-requires c κs = omega (arith, rw (c .before .before .before .enum-told3 .given .1) at (c .before .before .before .before .before .before .pre))
 
 returns : tie.Need-returns
 returns c = rw (c .before .before .before .before .enum-told .given .1, ← c .before .before .before .get8 .ensures, ← c .before .before .get82 .ensures, ← c .before .get16 .ensures) (c .block-fault .ensures)
@@ -38,7 +38,7 @@ returns-2 : tie.Need-returns-2
 returns-2 c = rw (c .before .before .before .enum-told2 .given .1, ← c .before .before .get83 .ensures, ← c .before .effect-at .ensures) (c .effect-fault .ensures)
 
 returns-3 : tie.Need-returns-3
-returns-3 c = rw (c .before .before .before .before .before .enum-told3 .given .1, ← c .before .before .before .before .get84 .ensures, ← c .before .before .before .get162 .ensures, ← c .before .before .get85 .ensures, ← c .before .row-at .ensures) (c .row-fault .ensures)
+returns-3 c = rw (c .before .before .before .before .before .enum-told3 .given .1, ← c .before .before .before .before .get84 .ensures, ← c .before .before .before .get162 .ensures, ← c .before .before .get85 .ensures, ← c .before .row-in .ensures) (c .row-fault .ensures)
 
 pub fault-at-spec : {M : Type 1} → statement M
 fault-at-spec =
@@ -59,7 +59,7 @@ fault-at-spec =
     get8-requires-4
     get16-requires-2
     get8-requires-5
-    row-at-requires
+    row-in-requires
     (λ c κs. search needs)
     returns
     returns-2
