@@ -25,6 +25,7 @@ use Rattle.effects.proofs.event_at.Reads as effects·event-at
 use Rattle.effects.proofs.put_record.Reads as effects·put-record
 use Rattle.layout.proofs.row_at.Reads as layout·row-at
 use Rattle.layout.proofs.words_at.Reads as layout·words-at
+use Rattle.layout.proofs.effect_at.Reads as layout·effect-at
 use Rattle.layout.proofs.effects_at.Reads as layout·effects-at
 use Rattle.layout.proofs.entries_of.Reads as layout·entries-of
 use Rattle.layout.proofs.width_of.Reads as layout·width-of
@@ -81,8 +82,15 @@ use Rattle.text.proofs.put_header.Reads as text·put-header
 use Rattle.text.proofs.put_lines.Reads as text·put-lines
 use Rattle.text.proofs.put_last.Reads as text·put-last
 use Rattle.text.proofs.put_refusal.Reads as text·put-refusal
+use Rattle.text.proofs.put_number.Reads as text·put-number
+use Rattle.text.proofs.put_total.Reads as text·put-total
 use Rattle.reasons.proofs.explain.Reads as reasons·explain
 use Rattle.sentences.proofs.put_reason.Reads as sentences·put-reason
+use Rattle.reports.proofs.put_heading.Reads as reports·put-heading
+use Rattle.reports.proofs.put_check.Reads as reports·put-check
+use Rattle.reports.proofs.put_explained.Reads as reports·put-explained
+use Rattle.summaries.proofs.put_summary.Reads as summaries·put-summary
+use Rattle.summaries.proofs.put_summary_header.Reads as summaries·put-summary-header
 use Rattle.wiring.specs.declared.Struck.{Struck}
 use Rattle.wiring.specs.Wiring.{Stroked}
 use Rattle.rerun.specs.Turn.{Totals}
@@ -151,6 +159,9 @@ layout-row-at κs = by-equation (layout·row-at.Learnt κs) _ (λ a r e h. h)
 
 pub layout-words-at : (κs : Lfts 1) → Unique (layout·words-at.Learnt κs) none
 layout-words-at κs = by-equation (layout·words-at.Learnt κs) _ (λ a r e h. h)
+
+pub layout-effect-at : (κs : Lfts 1) → Unique (layout·effect-at.Learnt κs) none
+layout-effect-at κs = by-equation (layout·effect-at.Learnt κs) _ (λ a r e h. h)
 
 pub layout-effects-at : (κs : Lfts 1) → Unique (layout·effects-at.Learnt κs) none
 layout-effects-at κs = by-equation (layout·effects-at.Learnt κs) _ (λ a r e h. h)
@@ -380,6 +391,12 @@ text-put-last κs = by-equations (text·put-last.Learnt κs) (λ e. now (e .0)) 
 pub text-put-refusal : (κs : Lfts 1) → Unique (text·put-refusal.Learnt κs) (λ e. now (e .0))
 text-put-refusal κs = by-equations (text·put-refusal.Learnt κs) (λ e. now (e .0)) _ _ (λ a r e h. h .0)
 
+pub text-put-number : (κs : Lfts 1) → Unique (text·put-number.Learnt κs) (λ e. now (e .0))
+text-put-number κs = by-equations (text·put-number.Learnt κs) (λ e. now (e .0)) _ _ (λ a r e h. h)
+
+pub text-put-total : (κs : Lfts 2) → Unique (text·put-total.Learnt κs) (λ e. now (e .0))
+text-put-total κs = by-equations (text·put-total.Learnt κs) (λ e. now (e .0)) _ _ (λ a r e h. h)
+
 -- ## Why a file is refused (`reasons`, `sentences`)
 
 pub reasons-explain : (κs : Lfts 1) → Unique (reasons·explain.Learnt κs) none
@@ -387,3 +404,20 @@ reasons-explain κs = by-equation (reasons·explain.Learnt κs) _ (λ a r e h. h
 
 pub sentences-put-reason : (κs : Lfts 1) → Unique (sentences·put-reason.Learnt κs) (λ e. now (e .0))
 sentences-put-reason κs = by-equations (sentences·put-reason.Learnt κs) (λ e. now (e .0)) _ _ (λ a r e h. h .0)
+
+-- ## Lines about a recording with its name (`reports`, `summaries`)
+
+pub reports-put-heading : (κs : Lfts 2) → Unique (reports·put-heading.Learnt κs) (λ e. now (e .0))
+reports-put-heading κs = by-equations (reports·put-heading.Learnt κs) (λ e. now (e .0)) _ _ (λ a r e h. h .0)
+
+pub reports-put-check : (κs : Lfts 2) → Unique (reports·put-check.Learnt κs) (λ e. now (e .0))
+reports-put-check κs = by-equations (reports·put-check.Learnt κs) (λ e. now (e .0)) _ _ (λ a r e h. h .0)
+
+pub reports-put-explained : (κs : Lfts 2) → Unique (reports·put-explained.Learnt κs) (λ e. now (e .0))
+reports-put-explained κs = by-equations (reports·put-explained.Learnt κs) (λ e. now (e .0)) _ _ (λ a r e h. h .0)
+
+pub summaries-put-summary : (κs : Lfts 2) → Unique (summaries·put-summary.Learnt κs) (λ e. now (e .0))
+summaries-put-summary κs = by-equations (summaries·put-summary.Learnt κs) (λ e. now (e .0)) _ _ (λ a r e h. h .0)
+
+pub summaries-put-summary-header : (κs : Lfts 1) → Unique (summaries·put-summary-header.Learnt κs) (λ e. now (e .0))
+summaries-put-summary-header κs = by-equations (summaries·put-summary-header.Learnt κs) (λ e. now (e .0)) _ _ (λ a r e h. h .0)

@@ -1,72 +1,246 @@
-// Replays the recording on standard input and prints its listing on standard output. Document 01, "One session, whole".
-// docs/DECISIONS.md says what happens where input or output fails, and how the program tells how it ended. It rests on `printing` and
-// what that rests on, and on the kit's `os`, `io` and `libc`. All but what it prints, and the digit that it tells, may change.
+// Replays recordings by name and prints their listings, or one line for each, on standard output. Document 01, "One session, whole";
+// docs/FORMAT.md, "A line for each file". docs/DECISIONS.md says what happens where input or output fails, and how the program tells how
+// it ended. The first argument says what is asked, and the others are names; without an argument it replays standard input and tells
+// nothing. It rests on `printing` for a listing, on `reports` and `summaries` for a line and on `inputs` for names, messages and statuses. All but what
+// it prints, and the digit that it tells, may change.
 ghost use mathlib.Core.Path.{_≡_};
 ghost use Prim.Native.Nat.{_+_, _≤_};
 ghost use lib.ListN.{length};
-ghost use Rattle.recording.specs.Encode.{mostLength};
-ghost use Rattle.printing.specs.Waiting.{Buffer};
+ghost use Rattle.reports.specs.Reports.{mostName};
+ghost use Rattle.replay.specs.Buffers.{Printing, Reading};
+use inputs::DONE;
+use inputs::REFUSED;
+use inputs::UNREAD;
+use inputs::UNWRITTEN;
+use recording::Answer;
 
-// Whether the input could be read, and how many bytes it has, up to the room for them.
-struct Input {
-    good: bool,
-    size: usize,
+// What is asked of each recording.
+enum Asked {
+    Listing,
+    Check,
+    Summary,
+    Explanation,
 }
 
-// Reads the input to the front of `file` until that is full or the input ends. Unlike with io::read_full, a read that fails is
-// not the end.
-fn read_input(file: &mut [u8]) -> Input
-    ensures { λ r. ⌜ r .size ≤ length (now (file .entry)) ⌝ }
-{
-    let mut size: usize = 0;
-    while size < file.len() {
-        let got = libc::read(libc::STDIN_FILENO, &mut file[size..]);
-        let more = io::count(got, &file[size..]);
-        if more == 0 {
-            return Input {
-                good: got == 0,
-                size: size,
-            };
-        }
-        size += more;
+// The name that messages begin with.
+const PROGRAM: [u8; 8] = *b"replay: ";
+
+// The argument that says what is asked, the first of the names, and how many arguments there are where one name is given.
+const ASKED: usize = 1;
+
+const FIRST_NAME: usize = 2;
+
+const ONE_NAME: usize = 3;
+
+// ---- one recording
+
+fn status_of(number: u8) -> u8 {
+    if number == 0 {
+        return DONE;
     }
-    Input {
-        good: true,
-        size: size,
-    }
+    REFUSED
 }
 
-// How it ended: 0 replayed, 1 refused, 2 the input can't be read or the output took no more, which standard error then says.
-// `file` has one byte more than the longest recording: what follows in the input changes no answer (`long-as-front`,
-// exactness/proofs/Theorems), and with a byte less an input that is one byte too long would pass for a recording.
-fn replay(file: &mut [u8], out: &mut [u8]) -> u8
-    requires { ⌜ (length (now file) ≡ mostLength + 1) × Buffer (length (now out)) ⌝ }
+// Writes a line that stands at the front of the buffer, and answers how a recording of this refusal number ended.
+fn write_line(out: &[u8], size: usize, number: u8) -> u8
+    requires { ⌜ size ≤ length (now out) ⌝ }
 {
-    let input = read_input(file);
-    if !input.good {
-        os::fail(b"replay: standard input");
-        return 2;
-    }
-    let size = input.size;
-    let ending = printing::print(&file[0..size], out);
+    let status = inputs::write(&PROGRAM, &out[0..size]);
+    inputs::graver(status, status_of(number))
+}
+
+fn list(s: &[u8], out: &mut [u8]) -> u8
+    requires { ⌜ Printing (now out) ⌝ }
+{
+    let ending = printing::print(s, out);
     let status = ending.status;
     if status == 2 {
-        os::fail(b"replay: standard output");
+        return inputs::say_unwritten(&PROGRAM);
     }
     status
 }
 
-// A program has no exit status of its own. Where it is started with an argument, it writes the status to descriptor 3 as a
-// digit; bin/replay does so and ends with it.
-fn tell(status: u8) -> bool {
-    if os::arg_count() < 2 {
-        return true;
+// A listing under a heading with its name. Without the heading nobody could tell whose listing it is, so it then is not written.
+fn list_named(name: &[u8], s: &[u8], out: &mut [u8]) -> u8
+    requires { ⌜ (length (now name) ≤ mostName) × Printing (now out) ⌝ }
+{
+    let size = reports::put_heading(out, name);
+    let status = write_line(out, size, 0);
+    if status != DONE {
+        return status;
     }
-    io::print_decimal(3, status as u64)
+    list(s, out)
+}
+
+fn number_of(answer: Answer) -> u8 {
+    match answer {
+        Answer::Accepted {
+            rows: _,
+            first: _,
+            width: _,
+        } => 0,
+        Answer::Refused { number, place: _ } => number,
+    }
+}
+
+fn check(name: &[u8], s: &[u8], out: &mut [u8]) -> u8
+    requires { ⌜ (length (now name) ≤ mostName) × Printing (now out) ⌝ }
+{
+    let reading = recording::read(s);
+    let answer = reading.answer;
+    let size = reports::put_check(out, name, answer);
+    write_line(out, size, number_of(answer))
+}
+
+fn summarize(name: &[u8], s: &[u8], out: &mut [u8]) -> u8
+    requires { ⌜ (length (now name) ≤ mostName) × Printing (now out) ⌝ }
+{
+    let replayed = rerun::replay(s);
+    let size = summaries::put_summary(out, name, replayed);
+    write_line(out, size, replayed.number)
+}
+
+fn explain(name: &[u8], s: &[u8], out: &mut [u8]) -> u8
+    requires { ⌜ (length (now name) ≤ mostName) × Printing (now out) ⌝ }
+{
+    let explained = reasons::explain(s);
+    let size = reports::put_explained(out, name, explained);
+    write_line(out, size, explained.number)
+}
+
+// Answers what is asked of a recording. If several are named, a listing has its name above it.
+fn answer(asked: Asked, several: bool, name: &[u8], s: &[u8], out: &mut [u8]) -> u8
+    requires { ⌜ (length (now name) ≤ mostName) × Printing (now out) ⌝ }
+{
+    match asked {
+        Asked::Listing => {
+            if several {
+                list_named(name, s, out)
+            } else {
+                list(s, out)
+            }
+        }
+        Asked::Check => check(name, s, out),
+        Asked::Summary => summarize(name, s, out),
+        Asked::Explanation => explain(name, s, out),
+    }
+}
+
+// ---- named recordings
+
+// Answers the recording of a name. If it cannot be read, `inputs` has said so, and it has no line and no heading.
+fn answer_named(asked: Asked, several: bool, name: &[u8], file: &mut [u8], out: &mut [u8]) -> u8
+    requires { ⌜ Reading (now name) (now file) × Printing (now out) ⌝ }
+{
+    let input = inputs::read_named(&PROGRAM, name, file);
+    if !input.good {
+        return UNREAD;
+    }
+    let size = input.size;
+    answer(asked, several, name, &file[0..size], out)
+}
+
+// Answers the recording that argument i names.
+fn answer_argument(
+    asked: Asked,
+    several: bool,
+    i: usize,
+    name: &mut [u8],
+    file: &mut [u8],
+    out: &mut [u8],
+) -> u8
+    requires { ⌜ Reading (now name) (now file) × Printing (now out) ⌝ }
+{
+    let argument = inputs::argument(&PROGRAM, i, name);
+    if !argument.good {
+        return UNREAD;
+    }
+    let size = argument.size;
+    answer_named(asked, several, &name[0..size], file, out)
+}
+
+// Answers all recordings that are named by arguments; a failed output ends the run.
+fn answer_all(asked: Asked, name: &mut [u8], file: &mut [u8], out: &mut [u8]) -> u8
+    requires { ⌜ Reading (now name) (now file) × Printing (now out) ⌝ }
+{
+    let count = os::arg_count();
+    let mut gravest = DONE;
+    let mut i: usize = FIRST_NAME;
+    while i < count {
+        let status = answer_argument(asked, ONE_NAME < count, i, name, file, out);
+        if status == UNWRITTEN {
+            return status;
+        }
+        gravest = inputs::graver(gravest, status);
+        i += 1;
+    }
+    gravest
+}
+
+// ---- what is asked
+
+// The word that says what is asked, by its first letter: listing, check, summary or explanation.
+fn asked_by(word: &[u8]) -> Asked {
+    if word.len() == 0 {
+        return Asked::Listing;
+    }
+    match word[0] {
+        b'c' => Asked::Check,
+        b's' => Asked::Summary,
+        b'e' => Asked::Explanation,
+        _ => Asked::Listing,
+    }
+}
+
+// The first line of summaries, which names the fields; other answers have none.
+fn begin(asked: Asked, out: &mut [u8]) -> u8
+    requires { ⌜ Printing (now out) ⌝ }
+{
+    match asked {
+        Asked::Listing => DONE,
+        Asked::Check => DONE,
+        Asked::Summary => {
+            let size = summaries::put_summary_header(out);
+            write_line(out, size, 0)
+        }
+        Asked::Explanation => DONE,
+    }
+}
+
+// Answers all named recordings, or standard input if none is named.
+fn answer_each(asked: Asked, name: &mut [u8], file: &mut [u8], out: &mut [u8]) -> u8
+    requires { ⌜ Reading (now name) (now file) × Printing (now out) ⌝ }
+{
+    let status = begin(asked, out);
+    if status != DONE {
+        return status;
+    }
+    if os::arg_count() <= FIRST_NAME {
+        return answer_named(asked, false, b"-", file, out);
+    }
+    answer_all(asked, name, file, out)
+}
+
+// What the first argument asks. If there is none, or it is longer than the buffer, a listing is asked.
+fn asked_first(name: &mut [u8]) -> Asked {
+    let size = os::arg(ASKED, name);
+    asked_by(&name[0..size])
+}
+
+// Answers what is asked, and tells the status. Without an argument nobody reads it, so it is not told.
+fn run(name: &mut [u8], file: &mut [u8], out: &mut [u8])
+    requires { ⌜ Reading (now name) (now file) × Printing (now out) ⌝ }
+{
+    let asked = asked_first(name);
+    let status = answer_each(asked, name, file, out);
+    if ASKED < os::arg_count() {
+        inputs::tell(status);
+    }
 }
 
 fn main() {
+    let mut name = io::buffer();
     let mut file = [0u8; 49259];
     let mut out = io::large_buffer();
-    tell(replay(&mut file, &mut out));
+    run(&mut name, &mut file, &mut out);
 }

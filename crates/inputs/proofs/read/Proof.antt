@@ -1,19 +1,19 @@
--- `replay::read_input` is safe and ends: each read puts a byte at least. The measure: bytes that are free.
+-- `inputs::read` is safe and ends: each read puts a byte at least. The measure: bytes that are free.
 use mathlib.Core.Path.{_≡_}
 use Prim.Native.Nat.{_≤_, _-_}
 use lib.ListN.{length}
 use borrow.Author.Needs.{needs}
-use Rattle.replay.proofs.read_input.Statement.{statement}
-use Rattle.replay.proofs.read_input.Tie as tie
+use Rattle.inputs.proofs.read.Statement.{statement}
+use Rattle.inputs.proofs.read.Tie as tie
 
 abbrev Inv-loop : tie.InvT-loop
-Inv-loop file₀ size₀ file size = (size ≤ length file₀) × (length file ≡ length file₀)
+Inv-loop fd₀ file₀ size₀ file size = (size ≤ length file₀) × (length file ≡ length file₀)
 
 abbrev μ-loop : tie.MeasureT-loop
-μ-loop file₀ size₀ file size = length file₀ - size
+μ-loop fd₀ file₀ size₀ file size = length file₀ - size
 
-pub read-input-spec : {M : Type 1} → statement M
-read-input-spec =
+pub read-spec : {M : Type 1} → statement M
+read-spec =
     tie.close
     (tie.spec
     Inv-loop

@@ -1,0 +1,2 @@
+pub mod Doubled
+pub mod Fields
