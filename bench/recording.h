@@ -61,7 +61,7 @@ static inline struct row row_at(const uint8_t *p) {
     return row;
 }
 
-/* Checks `count` rows from `p` and adds their holds; the first refusal's number, its row in `*refused`. */
+/* Checks `count` rows from `p` and adds their holds; the first refusal number, its row in `*refused`. */
 static inline unsigned read_rows(struct recording *r, const uint8_t *p, uint32_t count, uint32_t *refused) {
     uint64_t no_cause = ~r->causes & 0xffff, no_effect = ~r->effects & 0xffff, scans = 0;
     uint64_t never_a = no_cause << 16 | no_cause;
@@ -86,7 +86,7 @@ static inline unsigned refuse(struct recording *r, unsigned number, size_t place
     return number;
 }
 
-/* Reads a whole recording: 0, or the refusal's number with its place in `r`. */
+/* Reads a whole recording: 0, or the refusal number with its place in `r`. */
 static inline unsigned read_recording(struct recording *r, const uint8_t *p, size_t length) {
     if (length < 2) return refuse(r, 1, length);
     if (get16(p) != 1) return refuse(r, 2, 0);

@@ -1,7 +1,7 @@
 /*
  * The proved replay beside replays in plain C: that they agree to the byte, and what they take. bench/against_c builds and runs it.
  *
- *     table agree SEED COUNT      compares on COUNT random recordings, good and damaged
+ *     table agree SEED COUNT      compares on COUNT random recordings, valid and damaged
  *     table measure SEED          prints the figures
  */
 #define _POSIX_C_SOURCE 199309L /* the monotonic clock */
