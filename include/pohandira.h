@@ -84,9 +84,9 @@ static inline const char *pohandira_refusal_text(uint64_t number) {
 enum { POHANDIRA_CHECK_NUMBER, POHANDIRA_CHECK_PLACE, POHANDIRA_CHECK_ROWS };
 
 /*
- * Reads a recording and replays nothing. The result is 0 or the refusal's number: 1 to 7, else 10 if answer_room is below
- * POHANDIRA_CHECK_BYTES. With less room nothing is written. Otherwise POHANDIRA_CHECK_BYTES bytes are: the number, the place and
- * how many rows there are; the place is 0 where the number is 0, and the rows are 0 where it is not.
+ * Reads a recording and replays nothing. The result is 0 or the refusal number: 1 to 7, else 10 if answer_room is below
+ * POHANDIRA_CHECK_BYTES. With less room nothing is written. Otherwise POHANDIRA_CHECK_BYTES bytes are: the refusal number, the place and
+ * how many rows there are; the place is 0 where the refusal number is 0, and the rows are 0 where it is not.
  */
 uint8_t pohandira_check(const uint8_t *recording, size_t length, uint8_t *answer, size_t answer_room);
 
@@ -97,13 +97,13 @@ enum {
     POHANDIRA_SCANS,     /* scans of all rows */
     POHANDIRA_LIVE,      /* scans in which some effect changed its state */
     POHANDIRA_EXERCISED, /* scans of rows in which some effect had an active cause */
-    POHANDIRA_NUMBER,    /* 0, or the refusal's number */
+    POHANDIRA_NUMBER,    /* 0, or the refusal number */
     POHANDIRA_PLACE      /* the refusal's place, else 0 */
 };
 
 /*
  * Replays a whole recording from a fresh state, and only counts: it answers what pohandira_replay does where the room for records is
- * ample, and no record goes anywhere. The result is 0 or the refusal's number: 1 to 7, else 9, else 10 if totals_room is below
+ * ample, and no record goes anywhere. The result is 0 or the refusal number: 1 to 7, else 9, else 10 if totals_room is below
  * POHANDIRA_TOTALS_BYTES.
  *
  * With too little room for the totals no byte of `totals` is touched. Otherwise POHANDIRA_TOTALS_BYTES bytes of them are written;
@@ -113,7 +113,7 @@ enum {
 uint8_t pohandira_count(const uint8_t *recording, size_t length, uint8_t *totals, size_t totals_room);
 
 /*
- * Replays a whole recording from a fresh state. The result is 0 or the refusal's number: 1 to 7, else 9, else 10 if records_room
+ * Replays a whole recording from a fresh state. The result is 0 or the refusal number: 1 to 7, else 9, else 10 if records_room
  * is below POHANDIRA_RECORD_BYTES times the records due or totals_room below POHANDIRA_TOTALS_BYTES.
  *
  * On 0 the records stand at the start of `records`, by scan and then by effect. On a refusal no byte of `records` is touched.

@@ -6,7 +6,7 @@
  *     embed list < CASES      the listing of each recording in a stream of cases, as `second answer replay` prints it
  *
  * In the last two, every byte of every lent buffer is compared, and so are the bytes before and after it: what a call doesn't say
- * that it writes has to stay as it was. Exit status 1 if anything is wrong, which is said.
+ * that it writes has to stay as it was. Exit status 1 if anything is wrong; it then says what.
  */
 #include "pohandira.h"
 #include <stdint.h>
@@ -65,7 +65,7 @@ struct file {
     size_t length;
 };
 
-/* What a replay has to answer. On a refusal, with number and place alone, all else is 0. */
+/* What a replay has to answer. On a refusal, which has a refusal number and a place alone, all else is 0. */
 struct answer {
     uint64_t totals[7];
     const uint8_t *records;
@@ -158,7 +158,7 @@ static void try_session(void) {
     check_as("session, no room", session, 0, 10, 0, 0);
 }
 
-/* A file that the reader refuses, with rooms from none to ample: the reader's number comes first, and 10 never. */
+/* A file that the reader refuses, with rooms from none to ample: the reader's refusal number comes first, and 10 never. */
 static void try_refused(const char *name, struct file file, uint64_t number, uint64_t place) {
     static const size_t rooms[] = {0, 23, 24, 55, 56, 800};
     for (size_t i = 0; i < 6; i++) {

@@ -10,7 +10,7 @@ pub enum Question {
     Check,
     /// Whether the file can be replayed, and if not, why.
     Explain,
-    /// What its replay comes to, as a line of CSV.
+    /// What its replay results in, as a line of CSV.
     Summary,
 }
 

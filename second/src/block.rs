@@ -511,7 +511,7 @@ pub fn run(settings: &Settings, state: &State, row: &Row) -> Run {
 /// The whole answer of a scan or a held run.
 #[derive(Clone, Copy, Debug, PartialEq, Eq)]
 pub struct Answer {
-    /// 0, or the number of the refusal.
+    /// 0, or the refusal number.
     pub number: u8,
     pub place: u32,
     pub state: State,
@@ -522,7 +522,7 @@ pub struct Answer {
     pub exercised: u32,
 }
 
-/// A refusal: its number, place 0, the given state, and zeros.
+/// A refusal: its refusal number, place 0, the given state, and zeros.
 fn refused(number: u8, state: &State) -> Answer {
     Answer {
         number,

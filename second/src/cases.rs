@@ -346,8 +346,8 @@ fn read_lines(file: &[u8]) -> String {
     text + &hex(&written_back(&recording)) + "\n"
 }
 
-/// The last line of a recording's answer: the number and place of its replay from a fresh
-/// state, and what it comes to.
+/// The last line of a recording's answer: the refusal number and place of its replay from a
+/// fresh state, and what it results in.
 fn totals_line(listing: &Listing) -> String {
     let refusal = listing.refusal.unwrap_or(ACCEPTED);
     let totals = &listing.totals;

@@ -67,7 +67,7 @@ fn plain_row(settings: &Settings, hold: u32) -> Row {
     }
 }
 
-/// A file of the settings and rows, right or not.
+/// A file of the settings and rows, valid or not.
 pub fn file_of(settings: &Settings, rows: &[Row]) -> Vec<u8> {
     let mut file = opening_bytes(settings, rows.len() as u16);
     for row in rows {
@@ -508,8 +508,8 @@ pub fn file_cases(seed: u64, count: usize) -> Files {
 
 // ---- Writing ----
 
-/// Writing cases. What is planted is the number for the opening, then the number for the
-/// row; 0 is accepted.
+/// Writing cases. What is planted is the refusal number of the opening, then that of the row;
+/// 0 is accepted.
 pub type Pieces = Vec<Named<WritingCase>>;
 
 /// The length of the opening piece.

@@ -224,10 +224,10 @@ pub struct Ending {
 /// From 999 long rows on a row of 1,000,000 scans more is refused by 9.
 pub const LONG_ROWS_TO_9: u32 = 999;
 
-/// Room that rows of one line need to come to any length.
+/// Room that rows of one line need to reach any length.
 const LINES_ROOM: usize = 600;
 
-/// One try; other random rows may come to the ending where these do not.
+/// One try; other random rows may reach the ending if these do not.
 fn tried_file(random: &mut Random, buffer: usize, ending: &Ending) -> Option<Vec<u8>> {
     let mut filling = Filling::started(buffer, ending.long_rows);
     filling.add_rows_to_write(random, ending.writes);

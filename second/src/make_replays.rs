@@ -222,7 +222,7 @@ fn long_files(files: &mut Files) {
     add(files, "7 after the row of a 9", &[7], file);
 }
 
-/// For the stream of recordings, whose answers have what a replay comes to: totals of several
+/// For the stream of recordings, whose answers have what a replay results in: totals of several
 /// digits, and files that the reader accepts and a replay refuses by 9. What is planted is the
 /// reader's.
 pub fn totals_files(files: &mut Files) {
@@ -248,9 +248,9 @@ pub fn totals_files(files: &mut Files) {
     }
 }
 
-/// The most records that a recording can give: an effect leaves Normal by Delayed in every
-/// other row and comes back in the next, 3 changes in two rows, 49,152 in all. So the
-/// sequence number of a replay never wraps.
+/// The most records that we know a recording to give: an effect leaves Normal by Delayed in every
+/// other row and comes back in the next, 3 changes in two rows, 49,152 in all. So we
+/// know of no replay whose sequence numbers wrap.
 fn longest_listing(files: &mut Files) {
     let mut settings = plain_settings(16, 16);
     for slot in &mut settings.slots {

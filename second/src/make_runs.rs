@@ -88,7 +88,7 @@ fn plain_words(settings: &Settings) -> Words {
     }
 }
 
-/// A right case in which the effects stand in all states (never Delayed without a delay).
+/// A valid case in which the effects stand in all states (never Delayed without a delay).
 fn plain(causes: u8, effects: u8) -> RunCase {
     let settings = plain_settings(causes, effects);
     let mut case = RunCase {
@@ -1091,7 +1091,7 @@ fn wild(random: &mut Random) -> u32 {
     }
 }
 
-/// Overwrites one field, or plants one refusal. What comes of it may well be right.
+/// Overwrites one field, or plants one refusal. The case may still be valid after it.
 fn damage(random: &mut Random, case: &mut RunCase) {
     let index = random.between(0, SLOTS as u32 - 1) as usize;
     let number = wild(random);

@@ -151,16 +151,16 @@ pub fn read(bytes: &[u8]) -> Result<Recording, Refusal> {
     })
 }
 
-/// What stands right in a file before its first refusal.
+/// What is valid in a file before its first refusal.
 pub struct Front {
-    /// If both sections of the settings are right.
+    /// If both sections of the settings are valid.
     pub settings: Option<Settings>,
     /// The place of the first row's first byte, or 0 if no row is reached.
     pub first_row: usize,
     pub rows: Vec<Row>,
 }
 
-/// Reads a file as far as it is right, for a person to see what comes before a refusal.
+/// Reads a file as far as it is valid, for a person to see what comes before a refusal.
 pub fn read_front(bytes: &[u8]) -> Front {
     let mut reader = Reader { bytes, place: 0 };
     let mut settings = Settings::default();

@@ -128,7 +128,7 @@ pub fn run_row(settings: &Settings, state: &State, row: &Row) -> RowRun {
     }
 }
 
-/// What a whole replay comes to.
+/// What a whole replay results in.
 #[derive(Clone, Copy, Debug, Default, PartialEq, Eq)]
 pub struct Totals {
     pub records: u32,
@@ -138,7 +138,7 @@ pub struct Totals {
     pub exercised: u32,
 }
 
-/// What a replay prints, what it comes to, and the refusal, if there is one.
+/// What a replay prints, what it results in, and the refusal, if there is one.
 #[derive(Clone, Debug, PartialEq, Eq)]
 pub struct Listing {
     pub text: String,

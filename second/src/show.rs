@@ -133,7 +133,7 @@ fn show_file(file: &[u8]) -> String {
     text
 }
 
-/// The file, and what its replay comes to.
+/// The file, and what its replay results in.
 fn show_recording(file: &[u8]) -> String {
     let listing = replay(file);
     let replayed = match listing.refusal {

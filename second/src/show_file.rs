@@ -132,7 +132,7 @@ fn show_row(row: &Row, settings: &Settings, index: usize, place: usize) -> Strin
     text
 }
 
-/// The rows that are right; of a file that is refused these may be fewer than it counts.
+/// The rows that are valid; of a file that is refused these may be fewer than it counts.
 fn show_rows(front: &Front, settings: &Settings) -> String {
     if front.rows.is_empty() {
         return String::new();
@@ -174,7 +174,7 @@ fn show_length(bytes: &[u8]) -> String {
     }
 }
 
-/// A recording, of which `ENOUGH_BYTES` bytes are enough: what stands right in it, and why it is refused if it is.
+/// A recording, of which `ENOUGH_BYTES` bytes are enough: what is valid in it, and why it is refused if it is.
 pub fn show_recording(bytes: &[u8]) -> Shown {
     let front = read_front(bytes);
     let mut text = show_length(bytes);

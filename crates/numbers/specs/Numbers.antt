@@ -26,6 +26,6 @@ totalsBytes = numberBytes * 7
 abbrev pub fitted : List ℕ → List ℕ → List ℕ
 fitted piece out = cond (leb (length piece) (length out)) (sets out 0 piece) out
 
--- what a replay comes to: records, rows, scans, live, exercised, number, place
+-- what a replay results in: records, rows, scans, live, exercised, refusal number, place
 abbrev pub crossing : Replayed → List ℕ
 crossing r = r .records ∷ r .rows ∷ r .scans ∷ r .live ∷ r .exercised ∷ r .number ∷ r .place ∷ []

@@ -1,5 +1,5 @@
-// The numbers that cross to other languages, 8 bytes each: the answer to a check, and what a replay comes to, at the front of lent
-// bytes if they fit. It rests on `rerun` for what a replay comes to. `pohandira` says which of them cross, and when.
+// The numbers that cross to other languages, 8 bytes each: the answer to a check, and what a replay results in, at the front of lent
+// bytes if they fit. It rests on `rerun` for what a replay results in. `pohandira` says which of them cross, and when.
 ghost use mathlib.Core.Path.{_≡_};
 ghost use mathlib.Core.List.{[], _∷_};
 ghost use Prim.Native.Nat.{_+_, _*_, _≤_};
@@ -37,7 +37,7 @@ fn put_three(out: &mut [u8], at: usize, a: u64, b: u64, c: u64)
 
 // ---- the answer to a check
 
-// The number, or 10 if it is 0.
+// The refusal number, or 10 if it is 0.
 fn or_ten(number: u8) -> u8
     ensures { λ r. ⌜ r ≡ orElse number 10 ⌝ }
 {
@@ -47,7 +47,7 @@ fn or_ten(number: u8) -> u8
     10
 }
 
-// Writes the answer to a check, if it fits, and answers its number.
+// Writes the answer to a check, if it fits, and answers its refusal number.
 pub fn put_check(out: &mut [u8], number: u8, place: usize, rows: u16) -> u8
     ensures { λ r. ⌜ r ≡ orElse number (roomNumber checkBytes (length (now (out .entry)))) ⌝ }
     ensures { λ _. ⌜ now (out .exit) ≡ fitted (numbers (number ∷ place ∷ rows ∷ [])) (now (out .entry)) ⌝ }
@@ -59,9 +59,9 @@ pub fn put_check(out: &mut [u8], number: u8, place: usize, rows: u16) -> u8
     number
 }
 
-// ---- what a replay comes to
+// ---- what a replay results in
 
-// Writes what a replay comes to, if it fits.
+// Writes what a replay results in, if it fits.
 pub fn put_totals(out: &mut [u8], r: Replayed)
     ensures { λ _. ⌜ now (out .exit) ≡ fitted (numbers (crossing r)) (now (out .entry)) ⌝ }
 {
@@ -85,7 +85,7 @@ pub fn put_counted(out: &mut [u8], r: Replayed) -> u8
     r.number
 }
 
-// A refusal: its number and place, and no record.
+// A refusal: its refusal number and place, and no record.
 pub fn refuse(totals: &mut [u8], number: u8, place: usize) -> u8
     ensures { λ r. ⌜ r ≡ number ⌝ }
     ensures { λ _. ⌜ now (totals .exit) ≡ fitted (numbers (crossing (refusal place number))) (now (totals .entry)) ⌝ }

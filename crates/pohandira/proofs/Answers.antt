@@ -21,12 +21,12 @@ module _ (s records totals : List ℕ) where
   abbrev n : ℕ
   n = replayNumber s (length records) (length totals)
 
-  -- what a replay answers with the number r and these bytes
+  -- what a replay answers with the refusal number r and these bytes
   abbrev pub Answered : ℕ → List ℕ → List ℕ → Type 0
   Answered r records′ totals′ =
       (r ≡ n) × ((records′ ≡ recordsInto s (length totals) records) × (totals′ ≡ totalsInto s (length records) totals))
 
-  -- a refusal: no record, and its number and place if they fit
+  -- a refusal: no record, and its refusal number and place if they fit
   pub refused : (r m p : ℕ) (totals′ : List ℕ) → r ≡ m → m ≡ n → (m ≡ 0 → ⊥) → p ≡ replay s .place → totals′ ≡ fitted (numbers (crossing (refusal p m))) totals → Answered r records totals′
   refused r m p totals′ same e h at f =
       let other : n ≡ 0 → ⊥ = λ z. h (e ∙ z) in

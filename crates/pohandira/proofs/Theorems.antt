@@ -27,7 +27,7 @@ use Rattle.pohandira.specs.Crossing.{mostEffectBytes, checkNumber, count
 
 -- ## A check
 
--- a refused file has the reader's number, whatever the room
+-- a refused file has the reader's refusal number, whatever the room
 pub check-ten-is-last : (s : List ℕ) (room : ℕ) → (Accepted s → ⊥) → checkNumber s room ≡ number (reading s .answer)
 check-ten-is-last s room h = let n = number (reading s .answer) in sym (or-else-first n (roomNumber checkBytes room) n refl h)
 
@@ -106,7 +106,7 @@ module _ (s : List ℕ) (room totalsRoom : ℕ) where
       let most : 2 * n * rows ≤ 32 * rows = mul-le-mul-right rows few in
       omega (arith, two-records-an-effect-and-row s (whole-is-accepted s z), most, h))
 
-  -- the number that crosses is the result, and the place is the replay's
+  -- the refusal number that crosses is the result, and the place is the replay's
   pub the-number-crosses : totalsOrRefusal s room totalsRoom .number ≡ replayNumber s room totalsRoom
   the-number-crosses =
       granted-number (counts (replay s .replay)) (refusal (replay s .place)) (λ r. r .number) (replayNumber s room totalsRoom)
@@ -119,7 +119,7 @@ module _ (s : List ℕ) (room totalsRoom : ℕ) where
       (λ z. sym (no-place-for-ten s (or-else-none (replay s .number) _ z .0)))
       (λ k. refl)
 
--- on any number but 0 the records stay as they were
+-- on any refusal number but 0 the records stay as they were
 pub refused-untouched : (s records : List ℕ) (totalsRoom : ℕ) → (replayNumber s (length records) totalsRoom ≡ 0 → ⊥) → recordsInto s totalsRoom records ≡ records
 refused-untouched s records totalsRoom h =
     granted-refused (sets records 0 (bytes (replay s .replay .events))) (λ k. records) (replayNumber s (length records) totalsRoom) h

@@ -1,5 +1,5 @@
--- What crosses to a caller of the library, and when. The numbers 1 to 7, 9 and 10 are document 01's, "Refusal numbers", and
--- 10 comes last. A refusal gives its number, its place and zeros, and no record. Records are as in "The rules of one scan".
+-- What crosses to a caller of the library, and when. The refusal numbers 1 to 7, 9 and 10 are document 01's, "Refusal numbers", and
+-- 10 comes last. A refusal gives its refusal number, its place and zeros, and no record. Records are as in "The rules of one scan".
 use Prim.Native.Nat.{ℕ, _*_}
 use mathlib.Core.List.{List, [], _∷_}
 use lib.ListN.{length}
@@ -15,7 +15,7 @@ use Rattle.numbers.specs.Numbers.{checkBytes, totalsBytes, numbers, fitted, cro
 
 -- ## A check: what the reader answers
 
--- number, place, rows
+-- refusal number, place, rows
 abbrev pub checked : Answer → List ℕ
 checked answer = number answer ∷ place answer ∷ rowCount answer ∷ []
 
@@ -31,12 +31,12 @@ checkInto s out = fitted (numbers (checked (reading s .answer))) out
 abbrev pub mostEffectBytes : ℕ
 mostEffectBytes = recordLength * 2
 
--- the reader's number or 9; else 10 if the records due or the totals do not fit
+-- the reader's refusal number or 9; else 10 if the records due or the totals do not fit
 abbrev pub replayNumber : List ℕ → (room totalsRoom : ℕ) → ℕ
 replayNumber s room totalsRoom =
     orElse (replay s .number) (orElse (roomNumber (recordLength * length (replay s .replay .events)) room) (roomNumber totalsBytes totalsRoom))
 
--- on 0 all records, and on any other number nothing
+-- on 0 all records, and on any other refusal number nothing
 abbrev pub recordsInto : List ℕ → (totalsRoom : ℕ) → List ℕ → List ℕ
 recordsInto s totalsRoom out =
     granted (replayNumber s (length out) totalsRoom) (sets out 0 (bytes (replay s .replay .events))) (λ n. out)
@@ -50,7 +50,7 @@ totalsInto s room out = fitted (numbers (crossing (totalsOrRefusal s room (lengt
 
 -- ## A count: a replay whose records go nowhere
 
--- the reader's number or 9; else 10 if the totals do not fit
+-- the reader's refusal number or 9; else 10 if the totals do not fit
 abbrev pub countNumber : List ℕ → (totalsRoom : ℕ) → ℕ
 countNumber s totalsRoom = orElse (replay s .number) (roomNumber totalsBytes totalsRoom)
 

@@ -18,7 +18,7 @@ use rerun::Stop;
 
 // ---- the version
 
-// Those of the file VERSION, and what one of each is worth in one number.
+// The parts of the version, which are those of the file VERSION, and what each counts for in the one number.
 const MAJOR: u32 = 0;
 
 const MINOR: u32 = 1;
@@ -39,7 +39,7 @@ pub extern "C" fn pohandira_version() -> u32
 
 // ---- a check
 
-// Checks a recording: its number, and in `answer` 24 bytes: number, place, rows.
+// Checks a recording: answers its refusal number, and writes 24 bytes to `answer`: refusal number, place, rows.
 #[no_mangle]
 pub extern "C" fn pohandira_check(recording: &[u8], answer: &mut [u8]) -> u8
     ensures { λ r. ⌜ r ≡ checkNumber (now (recording .entry)) (length (now (answer .entry))) ⌝ }
@@ -59,8 +59,8 @@ pub extern "C" fn pohandira_check(recording: &[u8], answer: &mut [u8]) -> u8
 
 // ---- a count
 
-// Replays a recording and keeps no record: its refusal number, and in `totals` the 56 bytes that a replay with room for all records
-// gives. So a caller learns how many records there are before it lends room for them.
+// Replays a recording and keeps no record: answers its refusal number, and writes to `totals` the 56 bytes that a replay with room for
+// all records gives. So a caller learns how many records there are before it lends room for them.
 #[no_mangle]
 pub extern "C" fn pohandira_count(recording: &[u8], totals: &mut [u8]) -> u8
     ensures { λ r. ⌜ r ≡ countNumber (now (recording .entry)) (length (now (totals .entry))) ⌝ }
@@ -140,8 +140,8 @@ fn replay_accepted(
     replay_whole(s, run, board, records, totals)
 }
 
-// Replays a recording: its number, in `records` all records, and in `totals` 56 bytes: records, rows, scans, live, exercised,
-// number, place.
+// Replays a recording: answers its refusal number, and writes all records to `records` and 56 bytes to `totals`: records, rows, scans,
+// live, exercised, refusal number, place.
 #[no_mangle]
 pub extern "C" fn pohandira_replay(recording: &[u8], records: &mut [u8], totals: &mut [u8]) -> u8
     ensures { λ r. ⌜ r ≡ replayNumber (now (recording .entry)) (length (now (records .entry))) (length (now (totals .entry))) ⌝ }

@@ -110,7 +110,7 @@ pub closed : {s : List ℕ} {sent : Sent} {turn : Turn} {text : List ℕ} → Cl
     → soFar s (turn .run .rows) ++ closing end ≡ listing s
 closed {s} {turn = turn} c end e = rw e (pieces-are-the-listing s (c .accepted) turn (c .last))
 
--- a refused file has the reader's number
+-- a refused file has the reader's refusal number
 pub number-of-refused : (s : List ℕ) (n p : ℕ) → reading s .answer ≡ Refused n p → replay s .number ≡ n
 number-of-refused s n p e = ap (λ (o : Outcome). o .number) (refused-replay s n p e)
 

@@ -100,7 +100,7 @@ module _ {s : List ℕ} {start : Run} {from : ℕ} {out₀ : List ℕ} {run : Ru
       front : take (p .at) out′ ≡ take at out ++ rowLines s (run .rows)
       front = rw (put .0, put .1) (front-grows out (rowLines s (run .rows)) at (omega (arith, put .0, loop.put-within g r h)))
 
-      -- what the text before and the front of the buffer come to
+      -- the text before and the front of the buffer, joined
       grown : (given : List ℕ) → given ++ take from out₀ ≡ soFar s (start .rows) → given ++ take (p .at) out′ ≡ soFar s (run .rows) ++ rowLines s (run .rows)
       grown given e =
           ap (λ (l : List ℕ). given ++ l) front

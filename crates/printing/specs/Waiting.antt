@@ -21,7 +21,7 @@ pub record Buffer (n : ℕ) : Type 0 where
   pub roomy : mostPiece ≤ n
   pub small : n ≤ mostBuffer
 
--- what has gone, all of it written, and the text that waits come to this front of the listing
+-- what has gone, all of it written, and the text that waits, joined, are this front of the listing
 pub record Waiting (s : List ℕ) (sent : Sent) (text front : List ℕ) : Type 0 where
   pub written : sent .good ≡ true
   pub within : sent .gone ≤ length (listing s)

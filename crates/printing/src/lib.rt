@@ -21,7 +21,7 @@ use rerun::Turn;
 
 // ---- the text
 
-// Puts the lines of rows, from the one that the run has come to: all that are left, up to a refused one, or as many as fit.
+// Puts the lines of rows, from the one that the run has reached: all that are left, up to a refused one, or as many as fit.
 fn fill(s: &[u8], run: Run, board: &mut [u32; 64], out: &mut [u8], from: usize) -> Printed
     requires { ⌜ Going (now s) run (now board) ⌝ }
     ensures { λ r. ⌜ Filled (now (s .entry)) run from (now (out .entry)) r (now (board .exit)) (now (out .exit)) ⌝ }
@@ -55,7 +55,7 @@ fn fill(s: &[u8], run: Run, board: &mut [u32; 64], out: &mut [u8], from: usize) 
 
 // ---- standard output
 
-// How a replay ended, by whether all was written, and the refusal's number or 0.
+// How a replay ended, by whether all was written, and the refusal number or 0.
 fn status(good: bool, number: u8) -> u8
     ensures { λ r. ⌜ r ≡ statusOf good number ⌝ }
 {

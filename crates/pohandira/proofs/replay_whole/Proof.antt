@@ -23,7 +23,7 @@ returns c =
     let a = start .args in
     too-little-room (now (a .s)) (now (a .records)) (now (a .totals)) (start .pre .2) (c .if1 .taken)
 
--- ## The records' number is known
+-- ## The refusal number of the records is known
 
 abbrev start-of : tie.After-records-number → tie.Start
 start-of k = k .before .before .before .before .before .before
