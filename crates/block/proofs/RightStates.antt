@@ -100,6 +100,11 @@ module _ (st : Settings) (x : State) (right : stateNumber st x ≡ 0) where
   pub slots-right : allFrom (slotOk st) 0 (x .slots) ≡ true
   slots-right = and-right (leb (x .«scans_done») mostScans) _ state-ok
 
+-- a valid state has done no more scans than can be counted
+pub right-state-few : (st : Settings) (x : State) → stateNumber st x ≡ 0 → x .«scans_done» ≤ mostScans
+unfolding stateNumber
+right-state-few st x e = leb-true (x .«scans_done») mostScans (and-left _ _ (unless-none (stateOk st x) 7 e))
+
 pub right-state : (st : Settings) (x : State) → x .«scans_done» ≤ mostScans → allFrom (slotOk st) 0 (x .slots) ≡ true → stateNumber st x ≡ 0
 unfolding stateNumber
 right-state st x h a = rw (le-leb (x .«scans_done») mostScans h, a)

@@ -126,13 +126,7 @@ refused-untouched s records totalsRoom h =
 
 -- ## A count
 
--- the refusal number that a count tells is the replay's, and where that is 0 its records are those that are due
-pub counted-number : (s : List ℕ) → answered (replay s) .number ≡ replay s .number
-counted-number s =
-    granted-number (counts (replay s .replay)) (refusal (replay s .place)) (λ r. r .number) (replay s .number)
-    (λ z. refl)
-    (λ k. refl)
-
+-- where nothing is refused, the records that a count tells are those that are due
 pub counted-records : (s : List ℕ) → replay s .number ≡ 0 → answered (replay s) .records ≡ length (replay s .replay .events)
 counted-records s z = ap (λ (r : Replayed). r .records) (granted-none (counts (replay s .replay)) (refusal (replay s .place)) (replay s .number) z)
 

@@ -7,11 +7,12 @@ use native.Mathlib.Nat.{zero-add}
 use native.Mathlib.Numerals.{add-one}
 use native.Mathlib.Omega.{arith}
 use lib.Dec.{leb}
-use lib.ListN.{length, take, drop, take-append-drop}
+use lib.ListN.{length, take, drop, length-append, take-append-drop}
 use lib.Seq.{take-suc, take-add, take-all, length-take-le}
+use Rattle.effects.specs.declared.Event.{Event}
 use Rattle.settings.specs.declared.Settings.{Settings}
 use Rattle.rules.specs.Limits.{mostScans}
-use Rattle.settings.specs.Refusals.{granted}
+use Rattle.settings.specs.Refusals.{unless, granted}
 use Rattle.settings.specs.Right.{knownOf, settingsNumber, rowNumber}
 use Rattle.settings.proofs.Right.{count-few}
 use Rattle.block.specs.Scan.{scansNumber}
@@ -28,7 +29,7 @@ use Rattle.recording.proofs.Cases.{not-accepted}
 use Rattle.exactness.proofs.Theorems.{accepted-case, accepted-is-right}
 use Rattle.exactness.proofs.Trips.{length-rowsOf}
 use Rattle.rerun.specs.Replay.{Outcome, whole, started, joined, refusedAt, rowsFrom, replayRows, replay, firstRows, rowOf, rowRun, sumOfHolds}
-use Rattle.rerun.proofs.Rows.{Sound, then-the-others, refusal-ends, none-refused-whole, events-stay, rows-counted, records-few, done-after, sound-after, within-scans, sound-rows, done-is-holds, all-take, all-at}
+use Rattle.rerun.proofs.Rows.{Sound, then-the-others, refusal-ends, none-refused-whole, events-stay, rows-counted, records-few, done-after, sound-after, within-scans, sound-rows, done-is-holds, refused-by-holds, all-take, all-at}
 use Rattle.settings.proofs.Refusals.{granted-none, granted-refused, granted-number, unless-refused, limit-passed}
 
 module _ (s : List ℕ) where
@@ -106,15 +107,22 @@ module _ (s : List ℕ) where
   unfolding firstRows
   whole-so-far i z = none-refused-whole st width (take i (rowsOf s)) first started z
 
-  -- where none of the first i rows is refused, more rows keep their events
-  pub events-grow : (i j : ℕ) → i ≤ j → firstRows s i .number ≡ 0 → length (firstRows s i .replay .events) ≤ length (firstRows s j .replay .events)
+  -- the events of the rows from row i to the one before row j
+  abbrev pub eventsBetween : (i j : ℕ) → List Event
+  eventsBetween i j = drop (length (firstRows s i .replay .events)) (firstRows s j .replay .events)
+
+  -- where none of the first i rows is refused, more rows keep their events in front
+  pub events-behind : (i j : ℕ) → i ≤ j → firstRows s i .number ≡ 0 → firstRows s j .replay .events ≡ firstRows s i .replay .events ++ eventsBetween i j
   unfolding firstRows
-  events-grow i j l z =
+  events-behind i j l z =
       let others = take (j - i) (drop i (rowsOf s)) in
       let all : firstRows s j ≡ rowsFrom st width (first + width * length (take i (rowsOf s))) others (firstRows s i .replay) =
       ap (replayRows s) (in-two i j l) ∙ then-the-others st width (take i (rowsOf s)) others first started z
       in
       rw all (events-stay st width others _ (firstRows s i .replay))
+
+  pub events-grow : (i j : ℕ) → i ≤ j → firstRows s i .number ≡ 0 → length (firstRows s i .replay .events) ≤ length (firstRows s j .replay .events)
+  events-grow i j l z = omega (arith, ap length (events-behind i j l z), length-append (firstRows s i .replay .events) (eventsBetween i j))
 
   -- after a refused row nothing more changes
   pub stays-refused : (i j : ℕ) → i ≤ j → (firstRows s i .number ≡ 0 → ⊥) → firstRows s j ≡ firstRows s i
@@ -263,6 +271,12 @@ module _ (s : List ℕ) where
     scans-done =
         rw (accepted-replay a)
         (λ z. done-is-holds st (right .settings) width first (rowsOf s) (right .each-row) started started-sound z ∙ zero-add _)
+
+    pub nine-by-holds : replay s .number ≡ unless (leb (sumOfHolds (rowsOf s)) mostScans) 9
+    nine-by-holds =
+        ap (λ (o : Outcome). o .number) (accepted-replay a)
+        ∙ refused-by-holds st (right .settings) width first (rowsOf s) (right .each-row) started started-sound (omega arith)
+        ∙ ap (λ (n : ℕ). unless (leb n mostScans) 9) (zero-add (sumOfHolds (rowsOf s)))
 
     -- the state that row i leaves is valid, where its scans can be counted
     module _ (i : ℕ) (l : i < count) (z : numberAt i ≡ 0) where

@@ -16,8 +16,8 @@ use Rattle.recording.specs.Reader.{reading}
 use Rattle.rerun.specs.declared.Run.{Run}
 use Rattle.rerun.specs.declared.Turn.{Turn}
 use Rattle.rerun.specs.Replay.{Replay, Outcome, firstRows, rowRun}
-use Rattle.rerun.specs.Turn.{Going, Fits, rowInto, RowReady, RowDone, placeOf, rowsInto, roomOf, RowsReady, RowsDone}
-use Rattle.rerun.proofs.Files.{counted, stays-refused, refused-gives-nothing}
+use Rattle.rerun.specs.Turn.{Going, Fits, rowInto, RowReady, RowDone, recordsBetween, placeOf, rowsInto, roomOf, RowsReady, RowsDone}
+use Rattle.rerun.proofs.Files.{counted, events-grow, stays-refused, refused-gives-nothing}
 use Rattle.rerun.proofs.Filling.{part-into, length-into, row-into, stopped-into, place-within, next-fits}
 use Rattle.rerun.proofs.Turns.{records-so-far, rows-so-far, fits-any, one-row, unchanged}
 
@@ -55,21 +55,25 @@ module _ {s : List ℕ} {from : Run} {until : ℕ} {keep : Bool} {first out : Li
         }
 
     -- one row more, whose records go to this place
-    module _ (more : run .rows < until) (at : ℕ) (at-is : at ≡ placeOf keep (run .records)) where
+    -- the records before the loop are among those so far
+    pub records-before : from .records ≤ run .records
+    records-before = omega (arith, records-so-far (ready .going), records-so-far (p .going), events-grow s (from .rows) (run .rows) (p .onward) (ready .going .none-refused))
+
+    module _ (more : run .rows < until) (at : ℕ) (at-is : at ≡ placeOf keep (run .records - from .records)) where
       in-file : run .rows < rowCount (reading s .answer)
       in-file = omega (arith, ready .within, more)
 
-      room : roomOf s until keep ≤ length buf
+      room : roomOf s (from .rows) until keep ≤ length buf
       room = omega (arith, ready .fits, length-passed)
 
-      place : at ≡ placeOf keep (length (firstRows s (run .rows) .replay .events))
-      place = at-is ∙ ap (placeOf keep) (records-so-far (p .going))
+      place : at ≡ placeOf keep (recordsBetween s (from .rows) (run .rows))
+      place = at-is ∙ (λ j. placeOf keep (records-so-far (p .going) j - records-so-far (ready .going) j))
 
       pub at-within : at ≤ length buf
-      at-within = rw place (place-within s (run .rows) (p .going .none-refused) until keep (length buf) room (omega (arith, more)))
+      at-within = rw place (place-within s (from .rows) (run .rows) (ready .going .none-refused) (p .going .none-refused) (p .onward) until keep (length buf) room (omega (arith, more)))
 
       fits : Fits s (run .rows) (length buf - at)
-      fits = rw place (next-fits s (run .rows) (p .going .none-refused) until keep (length buf) room more in-file (fits-any (p .going) in-file))
+      fits = rw place (next-fits s (from .rows) (run .rows) (ready .going .none-refused) (p .going .none-refused) (p .onward) until keep (length buf) room more in-file (fits-any (p .going) in-file))
 
       abbrev part : List ℕ
       part = take (length buf - at) (drop at buf)

@@ -1,21 +1,25 @@
 -- Laws of rows that are replayed one after the other: what follows rows that were all replayed, that a refusal ends the replay, and
 -- what holds from row to row (the state is valid, and the counts are small).
-use mathlib.Core.Path.{_≡_, refl, ap, _∙_}
+use mathlib.Core.Path.{_≡_, refl, sym, ap, _∙_}
 use mathlib.Core.Bool.{Bool, true, false}
-use mathlib.Core.List.{List, [], _∷_, _++_}
+use mathlib.Core.List.{List, [], _∷_, _++_, append-assoc, append-nil}
 use Prim.Native.Nat.{ℕ, zero, suc, _+_, _*_, _≤_, _<_}
 use native.Mathlib.Nat.{add-zero, mul-suc, mul-zero}
 use native.Mathlib.Numerals.{add-one}
 use native.Mathlib.Omega.{arith}
-use lib.ListN.{length, getD, take, length-append}
+use borrow.Author.Tests.{le-leb, lt-leb, leb-false}
+use lib.Dec.{leb}
+use lib.ListN.{length, getD, take, drop, length-append}
+use lib.Seq.{drop-at}
 use Rattle.bits.specs.Words.{one}
+use Rattle.effects.specs.declared.Event.{Event}
 use Rattle.effects.specs.Scan.{anyExercised}
 use Rattle.settings.specs.declared.Settings.{Settings}
 use Rattle.settings.specs.declared.Row.{Row}
 use Rattle.rules.specs.Limits.{mostScans}
 use Rattle.settings.specs.Right.{knownOf, settingsNumber, rowNumber}
 use Rattle.settings.specs.Signals.{signals}
-use Rattle.settings.specs.Refusals.{granted}
+use Rattle.settings.specs.Refusals.{unless, granted}
 use Rattle.settings.proofs.Refusals.{granted-none, granted-either, granted-alike, limit-kept}
 use Rattle.settings.proofs.Right.{count-few}
 use Rattle.block.specs.State.{stateNumber}
@@ -25,6 +29,16 @@ use Rattle.block.proofs.Runs.{due-few}
 use Rattle.block.proofs.Theorems.{right-input-is-accepted, a-held-run-keeps-right, a-held-run-keeps-its-slots, live-at-most-twice-the-effects, exercised-is-the-hold-or-nothing, scans-done-grow-by-the-hold}
 use Rattle.recording.specs.Encode.{All}
 use Rattle.rerun.specs.Replay.{Replay, Outcome, whole, afterRow, refusedAt, rowsFrom, sumOfHolds}
+
+-- a list begins with another
+abbrev InFront : List Event → List Event → Type 0
+InFront front es = es ≡ front ++ drop (length front) es
+
+in-front : (front es rest : List Event) → es ≡ front ++ rest → InFront front es
+in-front front es rest e = e ∙ ap (λ (l : List Event). front ++ l) (sym (ap (drop (length front)) e ∙ drop-at front rest (length front) refl))
+
+in-front-of-itself : (es : List Event) → InFront es es
+in-front-of-itself es = in-front es es [] (sym (append-nil es))
 
 -- ## Rows, and the rows after them
 
@@ -63,13 +77,15 @@ module _ (st : Settings) (w : ℕ) where
       let p = none-refused x xs at r h in
       rw (p .0) (none-refused-whole xs (at + w) (afterRow st x r) (p .1))
 
-  -- more rows never remove events
-  pub events-stay : (xs : List Row) (at : ℕ) (r : Replay) → length (r .events) ≤ length (rowsFrom st w at xs r .replay .events)
-  events-stay [] at r = omega arith
+  -- more rows keep the events before them in front
+  pub events-stay : (xs : List Row) (at : ℕ) (r : Replay) → InFront (r .events) (rowsFrom st w at xs r .replay .events)
+  events-stay [] at r = in-front-of-itself (r .events)
   events-stay (x ∷ xs) at r =
-      granted-either (rowsFrom st w (at + w) xs (afterRow st x r)) (refusedAt at r) (λ o. length (r .events) ≤ length (o .replay .events)) (scansNumber (r .state .«scans_done») (x .hold))
-      (λ z. omega (arith, length-append (r .events) (run st x (r .state) .events), events-stay xs (at + w) (afterRow st x r)))
-      (λ k. omega arith)
+      let more = run st x (r .state) .events in
+      let last = rowsFrom st w (at + w) xs (afterRow st x r) .replay .events in
+      granted-either (rowsFrom st w (at + w) xs (afterRow st x r)) (refusedAt at r) (λ o. InFront (r .events) (o .replay .events)) (scansNumber (r .state .«scans_done») (x .hold))
+      (λ z. in-front (r .events) last _ (events-stay xs (at + w) (afterRow st x r) ∙ append-assoc (r .events) more (drop (length (r .events ++ more)) last)))
+      (λ k. in-front-of-itself (r .events))
 
   -- where no row is refused, each row is counted
   pub rows-counted : (xs : List Row) (at : ℕ) (r : Replay) → rowsFrom st w at xs r .number ≡ 0 → rowsFrom st w at xs r .replay .rows ≡ r .rows + length xs
@@ -143,6 +159,30 @@ module _ (st : Settings) (right : settingsNumber st ≡ 0) where
       let p = none-refused st w x xs at r h in
       let e = done-is-holds w (at + w) xs (all .1) (afterRow st x r) (sound-after x (all .0) r sound (p .0)) (p .1) in
       rw (p .0) (omega (arith, e, done-after x (all .0) r sound (p .0)))
+
+  -- a row is refused exactly if the holds of all rows, with the scans before them, are too many
+  pub refused-by-holds : (w at : ℕ) (xs : List Row) → All (rowNumber (knownOf st)) xs → (r : Replay) → Sound st r → r .state .«scans_done» ≤ mostScans
+      → rowsFrom st w at xs r .number ≡ unless (leb (r .state .«scans_done» + sumOfHolds xs) mostScans) 9
+  refused-by-holds w at [] all r sound few = sym (ap (λ (b : Bool). unless b 9) (le-leb (r .state .«scans_done» + 0) mostScans (omega arith)))
+  refused-by-holds w at (x ∷ xs) all r sound few =
+      go (leb (r .state .«scans_done» + x .hold) mostScans) refl
+      (λ z. refused-by-holds w (at + w) xs (all .1) (afterRow st x r) (sound-after x (all .0) r sound z) (within-scans x (all .0) r sound z))
+    where
+      done : ℕ
+      done = r .state .«scans_done»
+
+      rest : Outcome
+      rest = rowsFrom st w (at + w) xs (afterRow st x r)
+
+      go : (b : Bool) → leb (done + x .hold) mostScans ≡ b
+          → (scansNumber done (x .hold) ≡ 0 → rest .number ≡ unless (leb (afterRow st x r .state .«scans_done» + sumOfHolds xs) mostScans) 9)
+          → granted (unless b 9) rest (refusedAt at r) .number ≡ unless (leb (done + (x .hold + sumOfHolds xs)) mostScans) 9
+      go true e others =
+          let z : scansNumber done (x .hold) ≡ 0 = ap (λ (b : Bool). unless b 9) e in
+          let sum : afterRow st x r .state .«scans_done» + sumOfHolds xs ≡ done + (x .hold + sumOfHolds xs) = omega (arith, done-after x (all .0) r sound z) in
+          others z ∙ ap (λ (n : ℕ). unless (leb n mostScans) 9) sum
+      go false e others =
+          sym (ap (λ (b : Bool). unless b 9) (lt-leb (done + (x .hold + sumOfHolds xs)) mostScans (omega (arith, leb-false (done + x .hold) mostScans e))))
 
 -- ## What holds of all rows holds of some
 

@@ -8,12 +8,13 @@ use Prim.Native.Nat.{ℕ, _+_, _*_, _≤_, _<_}
 use native.Mathlib.Nat.{mul-le-mul-left}
 use native.Mathlib.Numerals.{add-one}
 use native.Mathlib.Omega.{arith}
+use lib.Dec.{leb}
 use lib.ListN.{length}
 use Rattle.effects.specs.declared.Event.{Event}
 use Rattle.effects.specs.Records.{recordLength, mostRowBytes}
 use Rattle.rules.specs.Limits.{mostScans}
-use Rattle.settings.specs.Refusals.{orElse, granted, roomNumber}
-use Rattle.settings.proofs.Refusals.{granted-refused, room-enough, or-else-alone}
+use Rattle.settings.specs.Refusals.{unless, orElse, granted, roomNumber}
+use Rattle.settings.proofs.Refusals.{granted-refused, granted-number, room-enough, or-else-alone}
 use Rattle.block.specs.State.{stateNumber}
 use Rattle.block.specs.Scan.{scansNumber, inputNumber}
 use Rattle.block.specs.Held.{run, grantedHeld, refusedHeld, heldNumber, heldOf}
@@ -21,9 +22,18 @@ use Rattle.recording.specs.Answers.{number, place, rowCount}
 use Rattle.recording.specs.Reader.{reading}
 use Rattle.recording.specs.Steps.{rowPlace, rowsOf}
 use Rattle.recording.specs.Accepted.{Accepted}
-use Rattle.rerun.specs.Replay.{Outcome, whole, started, joined, refusedAt, replayRows, replay, firstRows, rowOf, rowRun, eventsOf, sumOfHolds}
+use Rattle.rerun.specs.Replay.{Outcome, whole, started, joined, refusedAt, replayRows, replay, counts, refusal, answered, firstRows, rowOf, rowRun, eventsOf, sumOfHolds}
 use Rattle.rerun.proofs.Files as files
 use Rattle.rerun.proofs.Files.{by-rows}
+
+-- ## The answer
+
+-- its refusal number is the replay's
+pub an-answer-has-the-number : (s : List ℕ) → answered (replay s) .number ≡ replay s .number
+an-answer-has-the-number s =
+    granted-number (counts (replay s .replay)) (refusal (replay s .place)) (λ r. r .number) (replay s .number)
+    (λ z. refl)
+    (λ k. refl)
 
 -- ## Row by row
 
@@ -85,6 +95,10 @@ module _ (s : List ℕ) (accepted : Accepted s) where
       ((o .number ≡ 0) × (o .place ≡ 0) × (r .rows ≡ rowCount (reading s .answer)))
       ⊎ ((o .number ≡ 9) × (o .place ≡ rowPlace s (r .rows)) × (r .rows < rowCount (reading s .answer)) × (mostScans < r .state .«scans_done» + rowOf s (r .rows) .hold))
   whole-or-stopped = files.how-it-ends s accepted
+
+  -- which is so exactly if the holds are more than 1,000,000,000 in all
+  pub nine-for-too-many-scans : replay s .number ≡ unless (leb (sumOfHolds (rowsOf s)) mostScans) 9
+  nine-for-too-many-scans = files.nine-by-holds s accepted
 
   -- ## Counts
 

@@ -7,7 +7,7 @@ use native.Mathlib.Nat.{mul-suc, mul-zero, mul-le-mul}
 use native.Mathlib.Numerals.{add-one}
 use native.Mathlib.Omega.{arith}
 use lib.Dec.{leb}
-use lib.ListN.{length, length-append}
+use lib.ListN.{length, drop, length-append}
 use lib.Seq.{sets}
 use Rattle.bits.specs.Words.{one}
 use Rattle.effects.specs.Records.{recordLength, bytes, mostRecords, mostRowBytes}
@@ -38,8 +38,8 @@ use Rattle.rerun.specs.declared.Run.{Run}
 use Rattle.rerun.specs.declared.Turn.{Turn}
 use Rattle.rerun.specs.Replay.{Replay, Outcome, whole, joined, refusedAt, started, replay, counts, refusal, answered, firstRows, rowOf, rowRun}
 use Rattle.rerun.specs.Turn.{Begun, Totals, totalsAt, totalsOf, totalsIn, Going, Begins, Fits, RowDone, runAfter, SmallSums, rowsInto, roomOf, RowsReady, RowsDone, answerOf}
-use Rattle.rerun.proofs.Files.{refusal-number, refused-replay, no-rows, all-the-rows, whole-so-far, counted, numberAt, next-number, next-runs, stops-there, told, settings-right, most-effects, row-right, few-rows, sound, sound-next, scans-next, records-next}
-use Rattle.rerun.proofs.Filling.{all-kept}
+use Rattle.rerun.proofs.Files.{refusal-number, refused-replay, no-rows, all-the-rows, whole-so-far, counted, eventsBetween, events-grow, numberAt, next-number, next-runs, stops-there, told, settings-right, most-effects, row-right, few-rows, sound, sound-next, scans-next, records-next}
+use Rattle.rerun.proofs.Filling.{length-between, all-kept}
 
 -- ## The beginning: what the reader answers
 
@@ -63,7 +63,7 @@ begins {s} {rows} {first} {width} {r} b a =
 
 -- at the beginning all rows of the file can be run
 pub ready-all : {s : List ℕ} {rows first width : ℕ} {r : Begun} → Begins (reading s .settings) rows first width r → reading s .answer ≡ A.Accepted rows first width
-    → {room : ℕ} {keep : Bool} → roomOf s rows keep ≤ room → RowsReady s (r .run) rows (r .board) room keep
+    → {room : ℕ} {keep : Bool} → roomOf s (r .run .rows) rows keep ≤ room → RowsReady s (r .run) rows (r .board) room keep
 ready-all b a enough =
     record { going = begins b a; onward = omega (arith, ap (λ (u : Totals). u .rows) (b .totals)); within = omega (arith, ap rowCount a); fits = enough }
 
@@ -347,6 +347,31 @@ module _ {s : List ℕ} {run : Run} {until : ℕ} {keep : Bool} {buf : List ℕ}
       ∙ (λ j. answered (record { number = d .number-is j; place = granted (o .number) 0 (λ n. rowPlace s (o .replay .rows)); replay = firstRows s (d .rows-are j) .replay }))
       ∙ ap answered (sym (told s until l))
 
+  -- the records that were kept are those of the rows from the run's own on
+  pub kept-between : keep ≡ true → firstRows s (run .rows) .number ≡ 0 → run .rows ≤ until → until ≤ rowCount (reading s .answer)
+      → buf′ ≡ sets buf 0 (bytes (eventsBetween s (run .rows) until))
+  kept-between kept none l in-file =
+      let sum : run .rows + (until - run .rows) ≡ until = omega arith in
+      d .laid
+      ∙ ap (λ (k : Bool). rowsInto s k (run .rows) (until - run .rows) buf) kept
+      ∙ all-kept s (run .rows) none buf (until - run .rows) (omega arith)
+      ∙ ap (λ (n : ℕ). sets buf 0 (bytes (eventsBetween s (run .rows) n))) sum
+
+  -- where none of them is refused, the run has reached the row, with their records more
+  module _ {array : List ℕ} (g : Going s run array) (l : run .rows ≤ until) (in-file : until ≤ rowCount (reading s .answer)) (ran : firstRows s until .number ≡ 0) where
+    pub reached : r .run .rows ≡ until
+    reached = d .rows-are ∙ counted s until in-file ran
+
+    pub records-more : r .run .records ≡ run .records + length (eventsBetween s (run .rows) until)
+    records-more =
+        omega (
+          arith,
+          records-so-far g,
+          records-so-far (d .going) ∙ ap (λ (n : ℕ). length (firstRows s n .replay .events)) reached,
+          length-between s (run .rows) until,
+          events-grow s (run .rows) until l (g .none-refused),
+        )
+
   module _ (all : until ≡ rowCount (reading s .answer)) where
     all-rows : firstRows s until ≡ replay s
     all-rows = ap (firstRows s) all ∙ sym (all-the-rows s (d .going .accepted))
@@ -365,12 +390,10 @@ module _ {s : List ℕ} {run : Run} {until : ℕ} {keep : Bool} {buf : List ℕ}
 
     -- after all rows, the records that were kept from the first row on are those of the whole file
     pub kept-all : keep ≡ true → run .rows ≡ 0 → buf′ ≡ sets buf 0 (bytes (replay s .replay .events))
-    kept-all kept none =
-        let n : until - run .rows ≡ until = omega (arith, none) in
-        d .laid
-        ∙ (λ j. rowsInto s (kept j) (none j) (n j) buf)
-        ∙ all-kept s buf until (omega (arith, all))
-        ∙ ap (λ (o : Outcome). sets buf 0 (bytes (o .replay .events))) all-rows
+    kept-all kept first =
+        kept-between kept (ap (λ (n : ℕ). firstRows s n .number) first ∙ ap (λ (o : Outcome). o .number) (no-rows s)) (omega (arith, first)) (omega (arith, all))
+        ∙ (λ j. sets buf 0 (bytes (drop (length (firstRows s (first j) .replay .events)) (all-rows j .replay .events))))
+        ∙ (λ j. sets buf 0 (bytes (drop (length (no-rows s j .replay .events)) (replay s .replay .events))))
 
 -- ## A file that the reader refuses
 

@@ -11,7 +11,7 @@ use Rattle.effects.specs.Records.{recordLength, mostRowBytes, bytes}
 use Rattle.boards.specs.Board.{Board, boardOf}
 use Rattle.engine.specs.Marks.{boardAt, begun}
 use Rattle.settings.specs.declared.Settings.{Settings}
-use Rattle.rules.specs.Limits.{mostEffects, mostScans}
+use Rattle.rules.specs.Limits.{mostScans}
 use Rattle.settings.specs.Refusals.{granted}
 use Rattle.wiring.specs.declared.Struck.{Struck}
 use Rattle.plans.specs.Plans.{Wired}
@@ -141,6 +141,10 @@ pub record SmallSums (run : Run) (hold : ℕ) (ran : Struck) : Type 0 where
 
 -- ## Some rows
 
+-- how many records the rows from row i to the one before row k have
+abbrev pub recordsBetween : List ℕ → (i k : ℕ) → ℕ
+recordsBetween s i k = length (firstRows s k .replay .events) - length (firstRows s i .replay .events)
+
 -- where the records of a row go, after so many records
 abbrev pub placeOf : (keep : Bool) → (records : ℕ) → ℕ
 placeOf keep records = cond keep (recordLength * records) 0
@@ -149,17 +153,18 @@ placeOf keep records = cond keep (recordLength * records) 0
 unfoldable pub rowsInto : List ℕ → (keep : Bool) → (i n : ℕ) → List ℕ → List ℕ
 rowsInto s keep i zero buf = buf
 rowsInto s keep i (suc n) buf =
-    rowInto s (i + n) (placeOf keep (length (firstRows s (i + n) .replay .events))) (rowsInto s keep i n buf)
+    rowInto s (i + n) (placeOf keep (recordsBetween s i (i + n))) (rowsInto s keep i n buf)
 
--- the room that the rows before one need: that of all their records where they are kept, and else that of any one row
-abbrev pub roomOf : List ℕ → (until : ℕ) → (keep : Bool) → ℕ
-roomOf s until keep = cond keep (recordLength * length (firstRows s until .replay .events)) mostRowBytes
+-- the room that the rows from row i to the one before another need: that of all their records where they are kept, and else that of any
+-- one row
+abbrev pub roomOf : List ℕ → (i until : ℕ) → (keep : Bool) → ℕ
+roomOf s i until keep = cond keep (recordLength * recordsBetween s i until) mostRowBytes
 
 pub record RowsReady (s : List ℕ) (run : Run) (until : ℕ) (array : List ℕ) (room : ℕ) (keep : Bool) : Type 0 where
   pub going : Going s run array
   pub onward : run .rows ≤ until
   pub within : until ≤ rowCount (reading s .answer)
-  pub fits : roomOf s until keep ≤ room
+  pub fits : roomOf s (run .rows) until keep ≤ room
 
 -- what the rows before `until`, up to a refused one, result in
 pub record RowsDone (s : List ℕ) (run : Run) (until : ℕ) (keep : Bool) (buf : List ℕ) (r : Turn) (array′ buf′ : List ℕ) : Type 0 where

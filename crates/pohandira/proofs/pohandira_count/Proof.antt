@@ -6,8 +6,8 @@ use lib.ListN.{length}
 use borrow.Author.Needs.{needs}
 use Rattle.settings.specs.Refusals.{orElse, roomNumber}
 use Rattle.rerun.specs.declared.Replayed.{Replayed}
+use Rattle.rerun.proofs.Theorems.{an-answer-has-the-number}
 use Rattle.numbers.specs.Numbers.{totalsBytes, numbers, fitted, crossing}
-use Rattle.pohandira.proofs.Theorems.{counted-number}
 use Rattle.pohandira.proofs.pohandira_count.Statement.{statement}
 use Rattle.pohandira.proofs.pohandira_count.Tie as tie
 
@@ -19,7 +19,7 @@ returns c =
     let totals = now (a .totals) in
     let is = k .replay .ensures in
     let put = c .before .before .put-counted .ensures in (
-      put .0 ∙ ap (λ (n : ℕ). orElse n (roomNumber totalsBytes (length totals))) (ap (λ (r : Replayed). r .number) is ∙ counted-number s),
+      put .0 ∙ ap (λ (n : ℕ). orElse n (roomNumber totalsBytes (length totals))) (ap (λ (r : Replayed). r .number) is ∙ an-answer-has-the-number s),
       put .1 ∙ ap (λ (r : Replayed). fitted (numbers (crossing r)) totals) is,
     )
 
