@@ -1,0 +1,4 @@
+pub mod Answers
+pub mod Joins
+pub mod Loop
+pub mod Theorems

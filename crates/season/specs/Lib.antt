@@ -1,0 +1,3 @@
+pub mod Season
+pub mod Rows
+pub mod Overall

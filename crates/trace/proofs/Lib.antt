@@ -1,0 +1,5 @@
+pub mod Changes
+pub mod Scans
+pub mod Rows
+pub mod Numbered
+pub mod Theorems
