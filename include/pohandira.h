@@ -1,6 +1,7 @@
 /*
- * Replays recordings of shutdown logic, for C99 and C++. The functions of the library are proved. "Document 01" is the owner's requirement;
- * docs/FORMAT.md says all of it: the recording byte by byte, the rules, the event records and the refusals.
+ * Replays recordings of shutdown logic, and adds up season totals over many, for C99 and C++. The functions of the library are proved.
+ * "Document 01" is the owner's requirement; docs/FORMAT.md says all of it: the recording byte by byte, the rules, the event records and the
+ * refusals. Season totals are "document 02", L1, which it says too.
  * The static library is target/staticlib/libpohandira.a (`rt staticlib pohandira`), for x86-64 Linux.
  *
  * What is asked of the caller, and nothing else: no pointer is null, even where its length is 0; the bytes that a pointer and
@@ -24,10 +25,10 @@ extern "C" {
 
 /*
  * The version that this header is of: 1,000,000 for each major version, 1,000 for each minor one and 1 for each patch, so that a
- * later version is a greater number. It is compared with pohandira_version(), the library's own: records and totals may grow, and then
- * a program that was compiled with another header must not read them.
+ * later version is a greater number. It is compared with pohandira_version(), the library's own: records, totals and reports may grow,
+ * and then a program that was compiled with another header must not read them.
  */
-#define POHANDIRA_VERSION 1000 /* 0.1.0 */
+#define POHANDIRA_VERSION 2000 /* 0.2.0 */
 
 uint32_t pohandira_version(void);
 
@@ -37,14 +38,21 @@ uint32_t pohandira_version(void);
 #define POHANDIRA_TOTALS_BYTES 56       /* the totals of pohandira_count and pohandira_replay: 7 numbers */
 #define POHANDIRA_RECORD_BYTES 12       /* one event record */
 #define POHANDIRA_ROW_RECORDS_BYTES 384 /* room for the records of one row, always enough: two for each of 16 effects */
-#define POHANDIRA_MOST_ROWS 2048        /* rows of the largest recording */
-#define POHANDIRA_MOST_BYTES 49258      /* bytes of the largest recording */
+#define POHANDIRA_REPORT_BYTES 904      /* the report of pohandira_season: 113 numbers */
+#define POHANDIRA_MOST_BYTES 49258      /* the largest recording */
+
+/* ---- Counts ---- */
+
+#define POHANDIRA_MOST_ROWS 2048     /* rows of the largest recording */
+#define POHANDIRA_MOST_EFFECTS 16    /* effects of a recording, and of every report */
+#define POHANDIRA_STATES 6           /* states of an effect */
+#define POHANDIRA_REPORT_NUMBERS 113 /* numbers of a report: 7 for each effect, and one */
 
 /* ---- Refusals (document 01, "Refusal numbers") ---- */
 
 /*
  * The first that applies is given, in this order: 1 to 6 as the file is read, section by section and entry by entry (the bytes
- * of a count, the count, then for each entry its bytes, its fields, 5, 6); then 7, then 9, then 10. The place is counted in
+ * of a count, the count, then for each entry its bytes, its fields, 5, 6); then 7, then 9, then 10, then 11. The place is counted in
  * bytes from the start of the recording.
  */
 enum {
@@ -58,7 +66,8 @@ enum {
     POHANDIRA_SPARE_BYTES = 7,    /* bytes left over; the place is the first of them */
     /* 8, a state that breaks the rules, can't be met here: every replay starts from a fresh state. */
     POHANDIRA_TOO_MANY_SCANS = 9, /* more than 1,000,000,000 scans; the place is the first byte of the row that passes them */
-    POHANDIRA_NO_ROOM = 10        /* an output is too small; the place is 0 */
+    POHANDIRA_NO_ROOM = 10,       /* an output is too small; the place is 0 */
+    POHANDIRA_REPORT_FULL = 11    /* a number of a report would pass 64 bits; the place is 0 */
 };
 
 /* A refusal number in words; "unknown" for a number that no function here answers. */
@@ -74,6 +83,7 @@ static inline const char *pohandira_refusal_text(uint64_t number) {
     case POHANDIRA_SPARE_BYTES: return "bytes left over";
     case POHANDIRA_TOO_MANY_SCANS: return "more than 1,000,000,000 scans";
     case POHANDIRA_NO_ROOM: return "an output is too small";
+    case POHANDIRA_REPORT_FULL: return "a number of a report would pass 64 bits";
     default: return "unknown";
     }
 }
@@ -126,9 +136,25 @@ uint8_t pohandira_count(const uint8_t *recording, size_t length, uint8_t *totals
 uint8_t pohandira_replay(const uint8_t *recording, size_t length, uint8_t *records, size_t records_room, uint8_t *totals,
                          size_t totals_room);
 
+/*
+ * Adds one recording, replayed from a fresh state, to a report of season totals, in place. The result is 0 or the refusal number: 1 to 7,
+ * else 9, else 10 if report_room is below POHANDIRA_REPORT_BYTES, else 11 if a number of the report after it would pass 2^64 - 1.
+ *
+ * On 0 the first POHANDIRA_REPORT_BYTES bytes are the report with the recording; on a refusal no byte of it is touched. (Its place is
+ * told by pohandira_check, and by pohandira_count for 9.) An empty report is POHANDIRA_REPORT_BYTES zeros, and any report is accepted.
+ *
+ * A report is POHANDIRA_REPORT_NUMBERS numbers of 8 bytes, big-endian. The first is number 0:
+ *     7 (e - 1) + c   the scans after which effect e (1 to 16) stood in the state c (POHANDIRA_TRIPPED to POHANDIRA_DELAYED)
+ *     7 (e - 1) + 6   the changes of effect e into Tripped
+ *     112             the exercised scans
+ * Effects that a recording does not have add nothing. So the six numbers of an effect's states, of a report that has grown from an empty
+ * one, add up to the scans of the recordings that have it.
+ */
+uint8_t pohandira_season(const uint8_t *recording, size_t length, uint8_t *report, size_t report_room);
+
 /* ---- Readers ---- */
 
-/* An effect's state, in a record. */
+/* An effect's state, in a record and in a report. */
 enum {
     POHANDIRA_TRIPPED = 0,
     POHANDIRA_WAIT_RESET = 1,
@@ -162,6 +188,13 @@ struct pohandira_totals {
     uint64_t place;
 };
 
+/* Season totals, as the numbers of a report. Those of effect e stand at e - 1. */
+struct pohandira_report {
+    uint64_t scans[POHANDIRA_MOST_EFFECTS][POHANDIRA_STATES]; /* after which it stood in each state, as scans[0][POHANDIRA_NORMAL] */
+    uint64_t trips[POHANDIRA_MOST_EFFECTS];                   /* its changes into Tripped */
+    uint64_t exercised;
+};
+
 /* One change of one effect's state (document 01, "The rules of one scan"). */
 struct pohandira_event {
     uint16_t sequence;  /* from 0; after 65,535 comes 0 */
@@ -179,7 +212,7 @@ static inline uint64_t pohandira_number(const uint8_t *bytes, size_t size) {
     return number;
 }
 
-/* Number `field` of an answer or of totals, as POHANDIRA_CHECK_ROWS or POHANDIRA_LIVE. */
+/* Number `field` of an answer, of totals or of a report, as POHANDIRA_CHECK_ROWS or POHANDIRA_LIVE. */
 static inline uint64_t pohandira_field(const uint8_t *numbers, size_t field) {
     return pohandira_number(numbers + 8 * field, 8);
 }
@@ -195,6 +228,18 @@ static inline struct pohandira_totals pohandira_totals_at(const uint8_t *bytes) 
     totals.number = pohandira_field(bytes, POHANDIRA_NUMBER);
     totals.place = pohandira_field(bytes, POHANDIRA_PLACE);
     return totals;
+}
+
+/* All season totals, of the POHANDIRA_REPORT_BYTES bytes of a report. */
+static inline struct pohandira_report pohandira_report_at(const uint8_t *bytes) {
+    struct pohandira_report report;
+    size_t field = 0;
+    for (size_t e = 0; e < POHANDIRA_MOST_EFFECTS; e++) {
+        for (size_t state = 0; state < POHANDIRA_STATES; state++) report.scans[e][state] = pohandira_field(bytes, field++);
+        report.trips[e] = pohandira_field(bytes, field++);
+    }
+    report.exercised = pohandira_field(bytes, field);
+    return report;
 }
 
 /* Record `index` of a replay, from 0; it must be below the field POHANDIRA_RECORDS. */

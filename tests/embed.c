@@ -4,8 +4,9 @@
  *     embed version           the version of the header, and that of the library
  *     embed checks            cases whose answers were worked out by hand from document 01
  *     embed list < CASES      the listing of each recording in a stream of cases, as `second answer replay` prints it
+ *     embed season < CASES    the report of each case with its recording added, as `second answer season` prints it
  *
- * In the last two, every byte of every lent buffer is compared, and so are the bytes before and after it: what a call doesn't say
+ * In the last three, every byte of every lent buffer is compared, and so are the bytes before and after it: what a call doesn't say
  * that it writes has to stay as it was. Exit status 1 if anything is wrong; it then says what.
  */
 #include "pohandira.h"
@@ -116,6 +117,32 @@ static void replay_as(const char *name, struct file file, size_t records_room, s
     if (!holds(given, file.length, file.bytes, file.length)) fail("the replay changed the recording");
 }
 
+/* The numbers of a report: those that it has, or those that a recording adds to it. */
+struct report {
+    uint64_t numbers[POHANDIRA_REPORT_NUMBERS];
+};
+
+static void put_report(uint8_t bytes[POHANDIRA_REPORT_BYTES], const struct report *report) {
+    for (size_t k = 0; k < POHANDIRA_REPORT_NUMBERS; k++) put_number(bytes + 8 * k, 8, report->numbers[k]);
+}
+
+/* Adds a file to as much of a report as the room takes; on 0 what the file adds has to be added, and else nothing. */
+static void season_as(const char *name, struct file file, const struct report *before, size_t room, unsigned number,
+                      const struct report *added) {
+    uint8_t *given = lend(file.length), *lent = lend(room), expected[POHANDIRA_REPORT_BYTES];
+    size_t size = room < POHANDIRA_REPORT_BYTES ? room : POHANDIRA_REPORT_BYTES;
+    struct report after = *before;
+    at_hand = name;
+    memcpy(given, file.bytes, file.length);
+    put_report(expected, before), memcpy(lent, expected, size);
+    for (size_t k = 0; number == 0 && k < POHANDIRA_REPORT_NUMBERS; k++) after.numbers[k] += added->numbers[k];
+    put_report(expected, &after);
+    unsigned result = pohandira_season(given, file.length, lent, room);
+    if (result != number) fail("the result of the season totals");
+    if (!holds(lent, room, expected, size)) fail("the report");
+    if (!holds(given, file.length, file.bytes, file.length)) fail("the season totals changed the recording");
+}
+
 /* ---- Cases by hand ---- */
 
 static const uint8_t session_bytes[] = { /* document 01, "One session, whole" */
@@ -158,9 +185,82 @@ static void try_session(void) {
     check_as("session, no room", session, 0, 10, 0, 0);
 }
 
+/* ---- Season totals by hand ---- */
+
+static const struct report empty = {{0}};
+
+/* A report whose numbers are all the same. */
+static struct report filled(uint64_t number) {
+    struct report report;
+    for (size_t k = 0; k < POHANDIRA_REPORT_NUMBERS; k++) report.numbers[k] = number;
+    return report;
+}
+
+/* What a recording adds for an effect that is in three states alone, and trips. */
+static void add_effect(struct report *report, unsigned effect, uint64_t tripped, uint64_t normal, uint64_t delayed, uint64_t trips) {
+    uint64_t *numbers = report->numbers + 7 * (effect - 1);
+    numbers[0] = tripped, numbers[4] = normal, numbers[5] = delayed, numbers[6] = trips;
+}
+
+/* Document 01's session: both effects are Normal after scans 1 to 3; effect 1 trips in scan 4, effect 2 is Delayed then and trips in 7. */
+static struct report session_report(void) {
+    struct report report = empty;
+    add_effect(&report, 1, 5, 3, 0, 1);
+    add_effect(&report, 2, 2, 3, 3, 1);
+    report.numbers[112] = 5;
+    return report;
+}
+
+/* Rooms about that of a report, and reports that are empty, full but for what is added, and random. */
+static void try_season(void) {
+    static const size_t rooms[] = {904, 905, 1000}, little[] = {0, 1, 8, 895, 896, 903};
+    struct report added = session_report(), least = filled(UINT64_MAX), full = least, other;
+    for (size_t k = 0; k < POHANDIRA_REPORT_NUMBERS; k++) {
+        least.numbers[k] -= added.numbers[k];
+        other.numbers[k] = 0x0123456789abcdef * (k + 1) >> 1;
+    }
+    for (size_t i = 0; i < sizeof rooms / sizeof rooms[0]; i++) {
+        season_as("session, added to nothing", session, &empty, rooms[i], 0, &added);
+        season_as("session, added to itself", session, &added, rooms[i], 0, &added);
+        season_as("session, added to some numbers", session, &other, rooms[i], 0, &added);
+        season_as("session, added to numbers that just take it", session, &least, rooms[i], 0, &added);
+        season_as("session, added to a full report", session, &full, rooms[i], 11, NULL);
+    }
+    for (size_t i = 0; i < sizeof little / sizeof little[0]; i++) {
+        season_as("session, too little room for a report", session, &empty, little[i], 10, NULL);
+        season_as("session, too little room for a full report", session, &full, little[i], 10, NULL);
+    }
+}
+
+/* Each number of a report alone: it takes what the session adds up to 2^64 - 1, and by one more the session is refused. */
+static void try_season_limits(void) {
+    struct report added = session_report();
+    for (size_t k = 0; k < POHANDIRA_REPORT_NUMBERS; k++) {
+        struct report report = added;
+        report.numbers[k] = UINT64_MAX - added.numbers[k];
+        season_as("session, one number just takes it", session, &report, POHANDIRA_REPORT_BYTES, 0, &added);
+        if (!added.numbers[k]) continue;
+        report.numbers[k]++;
+        season_as("session, one number would pass 64 bits", session, &report, POHANDIRA_REPORT_BYTES, 11, NULL);
+    }
+}
+
+/* ---- Refusals by hand ---- */
+
+/* A refusal of the recording itself comes before 10 and 11, and touches no byte of a report. */
+static void season_refused(const char *name, struct file file, unsigned number) {
+    static const size_t rooms[] = {0, 903, 904, 905};
+    struct report full = filled(UINT64_MAX);
+    for (size_t i = 0; i < sizeof rooms / sizeof rooms[0]; i++) {
+        season_as(name, file, &empty, rooms[i], number, NULL);
+        season_as(name, file, &full, rooms[i], number, NULL);
+    }
+}
+
 /* A file that the reader refuses, with rooms from none to ample: the reader's refusal number comes first, and 10 never. */
 static void try_refused(const char *name, struct file file, uint64_t number, uint64_t place) {
     static const size_t rooms[] = {0, 23, 24, 55, 56, 800};
+    season_refused(name, file, (unsigned)number);
     for (size_t i = 0; i < 6; i++) {
         check_as(name, file, rooms[i], number, place, 0);
         count_as(name, file, rooms[i], refused(number, place));
@@ -212,6 +312,10 @@ static void try_bad(void) {
     records[44] = POHANDIRA_TRIPPED;
     replay_as("a masked cause is Bad", (struct file){bytes, sizeof bytes}, 96, 56,
               (struct answer){{4, 2, 8, 2, 0, 0, 0}, records});
+    struct report added = empty;
+    add_effect(&added, 1, 5, 3, 0, 1);
+    add_effect(&added, 2, 5, 3, 0, 1);
+    season_as("a masked cause is Bad", (struct file){bytes, sizeof bytes}, &empty, POHANDIRA_REPORT_BYTES, 0, &added);
 }
 
 /* One cause, `effects` effects with one delay, period 100, both permits; rows by turns with the cause normal and `other`. */
@@ -236,7 +340,11 @@ static void try_scans(uint8_t *bytes) {
     struct answer answer = {{1, 1000, 1000000000, 1, 0, 0, 0}, record};
     replay_as("all scans", file, 24000, 56, answer);
     count_as("all scans, counted", file, 56, answer);
+    struct report added = empty;
+    add_effect(&added, 1, 0, 1000000000, 0, 0);
+    season_as("all scans, season totals", file, &added, POHANDIRA_REPORT_BYTES, 0, &added);
     file = turns(bytes, 1, 0, 1001, 1000000, 1);
+    season_refused("too many scans, season totals", file, 9);
     replay_as("too many scans", file, 1001 * 384, 56, refused(9, 24016));
     replay_as("too many scans, no room for records", file, 0, 56, refused(9, 24016));
     replay_as("too many scans, no room for totals", file, 24024, 55, refused(9, 24016));
@@ -280,6 +388,10 @@ static void try_largest(uint8_t *bytes) {
     replay_as("largest recording, just enough room", file, size, 56, answer);
     replay_as("largest recording, one byte too little", file, size - 1, 56, refused(10, 0));
     free(records);
+    struct report added = empty;
+    for (unsigned e = 1; e <= 16; e++) add_effect(&added, e, 1024, 3072, 2048, 1024);
+    added.numbers[112] = 3072;
+    season_as("largest recording, season totals", file, &empty, POHANDIRA_REPORT_BYTES, 0, &added);
 }
 
 static void same_text(const char *text, const char *expected) {
@@ -291,7 +403,8 @@ static void try_texts(void) {
     static const char *const refusals[] = {
         "accepted", "bytes end before a count or an entry does", "block section wrong", "effects section wrong",
         "row count, hold or a row word wrong", "one effect in both force words", "several forced without option bit 2",
-        "bytes left over", "unknown", "more than 1,000,000,000 scans", "an output is too small", "unknown",
+        "bytes left over", "unknown", "more than 1,000,000,000 scans", "an output is too small",
+        "a number of a report would pass 64 bits", "unknown",
     };
     static const char *const states[] = {"tripped", "wait-reset", "ready", "wait-start", "normal", "delayed", "unknown"};
     at_hand = "texts";
@@ -316,11 +429,34 @@ static void try_totals(void) {
     if (totals.place != 0x3132333435363738) fail("place");
 }
 
+/* The reader of a report, on numbers of which no two are alike: number k is k + 1, in its upper half too. */
+static void try_report(void) {
+    uint8_t bytes[POHANDIRA_REPORT_BYTES];
+    struct report report;
+    uint64_t twice = ((uint64_t)1 << 32) + 1;
+    for (size_t k = 0; k < POHANDIRA_REPORT_NUMBERS; k++) report.numbers[k] = (k + 1) * twice;
+    put_report(bytes, &report);
+    struct pohandira_report totals = pohandira_report_at(bytes);
+    at_hand = "the reader of a report";
+    if (totals.scans[0][POHANDIRA_TRIPPED] != 1 * twice) fail("effect 1, tripped");
+    if (totals.scans[0][POHANDIRA_DELAYED] != 6 * twice) fail("effect 1, delayed");
+    if (totals.trips[0] != 7 * twice) fail("effect 1, trips");
+    if (totals.scans[1][POHANDIRA_WAIT_RESET] != 9 * twice) fail("effect 2, wait-reset");
+    if (totals.scans[2][POHANDIRA_READY] != 17 * twice) fail("effect 3, ready");
+    if (totals.scans[3][POHANDIRA_WAIT_START] != 25 * twice) fail("effect 4, wait-start");
+    if (totals.scans[15][POHANDIRA_NORMAL] != 110 * twice) fail("effect 16, normal");
+    if (totals.trips[15] != 112 * twice) fail("effect 16, trips");
+    if (totals.exercised != 113 * twice) fail("exercised");
+}
+
 static int checks(void) {
     uint8_t *bytes = allocated(POHANDIRA_MOST_BYTES);
     try_texts();
     try_totals();
+    try_report();
     try_session();
+    try_season();
+    try_season_limits();
     try_refusals();
     try_bad();
     try_scans(bytes);
@@ -415,6 +551,51 @@ static int list_stream(void) {
     return failures ? 1 : 0;
 }
 
+/* ---- Season totals ---- */
+
+static void print_hex(const uint8_t *bytes, size_t size) {
+    for (size_t i = 0; i < size; i++) printf("%02x", bytes[i]);
+}
+
+/* Where a recording has the low byte of its effect count, whose high byte is 0. */
+enum { EFFECT_COUNT_AT = 7 };
+
+/*
+ * Adds a recording to a report and prints the refusal number, the place, which a check tells, the effect count of one that was added, which
+ * the library does not tell, and the report after it.
+ */
+static void add_and_print(const uint8_t start[POHANDIRA_REPORT_BYTES], struct file file) {
+    uint8_t *lent = lend(POHANDIRA_REPORT_BYTES), answer[POHANDIRA_CHECK_BYTES], report[POHANDIRA_REPORT_BYTES], number, effects;
+    memcpy(lent, start, POHANDIRA_REPORT_BYTES);
+    pohandira_check(file.bytes, file.length, answer, sizeof answer);
+    number = pohandira_season(file.bytes, file.length, lent, POHANDIRA_REPORT_BYTES);
+    memcpy(report, lent, sizeof report);
+    effects = number ? 0 : file.bytes[EFFECT_COUNT_AT];
+    print_hex(&number, 1), print_hex(answer + 8 * POHANDIRA_CHECK_PLACE, 8), print_hex(&effects, 1), print_hex(report, sizeof report);
+    printf("\n");
+    if (!holds(lent, POHANDIRA_REPORT_BYTES, report, sizeof report)) fail("bytes about the report");
+}
+
+/* Cases: a length of 4 bytes, a report and a recording, each answered by a line. */
+static int add_stream(void) {
+    enum { MOST = POHANDIRA_REPORT_BYTES + 50000 };
+    uint8_t *bytes = allocated(MOST), size[4];
+    static char name[40];
+    unsigned number = 0;
+    while (fread(size, 1, 4, stdin) == 4) {
+        size_t length = (size_t)pohandira_number(size, 4);
+        if (length < POHANDIRA_REPORT_BYTES || length > MOST || fread(bytes, 1, length, stdin) != length) {
+            fprintf(stderr, "embed: the stream breaks off\n");
+            return 2;
+        }
+        snprintf(name, sizeof name, "season case %u", ++number);
+        at_hand = name;
+        add_and_print(bytes, (struct file){bytes + POHANDIRA_REPORT_BYTES, length - POHANDIRA_REPORT_BYTES});
+    }
+    if (ferror(stdin) || fflush(stdout)) return 2;
+    return failures ? 1 : 0;
+}
+
 static int version(void) {
     printf("header %lu library %lu\n", (unsigned long)POHANDIRA_VERSION, (unsigned long)pohandira_version());
     return 0;
@@ -424,6 +605,7 @@ int main(int count, char **words) {
     if (count == 2 && !strcmp(words[1], "version")) return version();
     if (count == 2 && !strcmp(words[1], "checks")) return checks();
     if (count == 2 && !strcmp(words[1], "list")) return list_stream();
-    fprintf(stderr, "usage: embed version | embed checks | embed list < CASES\n");
+    if (count == 2 && !strcmp(words[1], "season")) return add_stream();
+    fprintf(stderr, "usage: embed version | embed checks | embed list < CASES | embed season < CASES\n");
     return 2;
 }

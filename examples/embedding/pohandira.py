@@ -2,10 +2,12 @@
 """The proved replay from Python, by ctypes; include/pohandira.h says what the functions do.
 
     examples/embedding/pohandira.py LIBRARY < RECORDING
+    examples/embedding/pohandira.py LIBRARY FILE...
 
-prints the listing of a recording (document 01, "One session, whole"). LIBRARY is a shared object that is made
-from the static library; README.md says how. The exit status is 0; 1 if the recording is refused, and standard error then says
-why; 2 if the library or the recording could not be read, the listing could not be written, or the library is of another version.
+prints the listing of a recording (document 01, "One session, whole"), or the season totals of the recordings in files
+(docs/FORMAT.md, "Season totals"). LIBRARY is a shared object that is made from the static library; README.md says how. The exit status is
+0; 1 if a recording is refused, and standard error then says why; 2 if the library or a recording could not be read, the text could not be
+written, or the library is of another version.
 """
 
 import ctypes
@@ -14,8 +16,9 @@ import struct
 import sys
 from typing import NamedTuple
 
-VERSION = 1000  # that this file is for, as one number
+VERSION = 2000  # that this file is for, as one number
 CHECK_BYTES, TOTALS_BYTES, RECORD_BYTES = 24, 56, 12
+REPORT_NUMBERS, REPORT_BYTES, EFFECT_NUMBERS = 113, 904, 7
 STATES = ("tripped", "wait-reset", "ready", "wait-start", "normal", "delayed")
 
 
@@ -28,6 +31,7 @@ REFUSALS = {
     6: "several forced without option bit 2",
     7: "bytes left over",
     9: "more than 1,000,000,000 scans",
+    11: "a number of a report would pass 64 bits",
 }
 
 
@@ -67,6 +71,18 @@ class Replay(NamedTuple):
     totals: Totals
 
 
+class Report:
+    """Season totals, an empty report at first. Library.season adds recordings."""
+
+    def __init__(self):
+        self.bytes = ctypes.create_string_buffer(REPORT_BYTES)
+
+    def totals(self):
+        """For each of 16 effects its numbers, the scans after which it stood in each of STATES and its trips; and the exercised scans."""
+        *numbers, exercised = struct.unpack(f">{REPORT_NUMBERS}Q", self.bytes.raw)
+        return [numbers[at : at + EFFECT_NUMBERS] for at in range(0, len(numbers), EFFECT_NUMBERS)], exercised
+
+
 def totals_in(numbers):
     """The totals of a count or a replay; their refusal is raised."""
     *totals, number, place = struct.unpack(">7Q", numbers.raw)
@@ -87,9 +103,10 @@ class Library:
             raise OtherVersion(f"the library is version {library.pohandira_version()}, and this program is for {VERSION}")
         lent = [ctypes.c_char_p, ctypes.c_size_t]
         self._check, self._count, self._replay = library.pohandira_check, library.pohandira_count, library.pohandira_replay
-        self._check.argtypes = self._count.argtypes = lent * 2
+        self._season = library.pohandira_season
+        self._check.argtypes = self._count.argtypes = self._season.argtypes = lent * 2
         self._replay.argtypes = lent * 3
-        self._check.restype = self._count.restype = self._replay.restype = ctypes.c_uint8
+        self._check.restype = self._count.restype = self._replay.restype = self._season.restype = ctypes.c_uint8
 
     def check(self, recording):
         """How many rows a recording has; nothing is replayed."""
@@ -119,6 +136,16 @@ class Library:
         return Replay([event(*fields) for fields in struct.iter_unpack(">HIBBBxH", records.raw[:room])], totals)
 
 
+    def season(self, report, recording):
+        """Adds a recording to a report. One that is refused adds nothing."""
+        recording = bytes(recording)
+        number = self._season(recording, len(recording), report.bytes, REPORT_BYTES)
+        if number in (9, 11):
+            raise Refused(number, 0)
+        if number:
+            self.check(recording)  # raises the refusal, with its place
+
+
 def listing(replay):
     lines = ["seq scan effect from to first"]
     lines += [" ".join(map(str, change)) for change in replay.events]
@@ -135,34 +162,89 @@ def answer(library, recording):
         return f"{refused}\n", refused.text
 
 
+def table(report, added, refused):
+    """Up to the last effect that some recording has: after each of its scans the effect stood in a state."""
+    effects, exercised = report.totals()
+    while effects and not any(effects[-1]):
+        effects.pop()
+    lines = [" ".join(["effect", *STATES, "trips"])]
+    lines += [" ".join(map(str, [number, *totals])) for number, totals in enumerate(effects, 1)]
+    lines += [f"recordings {added} refused {refused} exercised {exercised}"]
+    return "\n".join(lines) + "\n"
+
+
 def say(message):
     print(f"pohandira.py: {message}", file=sys.stderr)
 
 
-def main():
-    if len(sys.argv) != 2:
-        print("usage: pohandira.py LIBRARY < RECORDING", file=sys.stderr)
-        return 2
-    at_work_on = sys.argv[1]
+def say_error(what, error):
+    say(f"{what}: {error.strerror or error}")
+
+
+def write(text):
+    """Whether the text was written."""
     try:
-        library = Library(sys.argv[1])
-        at_work_on = "standard input"
-        with open(0, "rb", closefd=False) as given:
-            text, refused = answer(library, given.read())
-        at_work_on = "standard output"
         # print would only fill a buffer, which fails once more when Python ends.
         with open(1, "w", closefd=False) as output:
             output.write(text)
-    except OtherVersion as error:
-        say(error)
-        return 2
     except OSError as error:
-        say(f"{at_work_on}: {error.strerror or error}")
+        say_error("standard output", error)
+        return False
+    return True
+
+
+def replay_input(library):
+    """Prints the listing of standard input; the exit status."""
+    try:
+        with open(0, "rb", closefd=False) as given:
+            text, refused = answer(library, given.read())
+    except OSError as error:
+        say_error("standard input", error)
+        return 2
+    if not write(text):
         return 2
     if refused:
         say(f"refused: {refused}")
         return 1
     return 0
+
+
+def add_file(library, report, name):
+    """Adds the recording in a file to a report; 0, or the exit status of what went wrong."""
+    try:
+        with open(name, "rb") as file:
+            library.season(report, file.read())
+    except OSError as error:
+        say_error(name, error)
+        return 2
+    except Refused as refused:
+        say(f"{name}: refused: {refused.text}")
+        return 1
+    return 0
+
+
+def season(library, names):
+    """Prints the season totals of files; the exit status."""
+    report = Report()
+    ended = [add_file(library, report, name) for name in names]
+    if not write(table(report, ended.count(0), ended.count(1))):
+        return 2
+    return max(ended)
+
+
+def main():
+    if len(sys.argv) < 2:
+        print("usage: pohandira.py LIBRARY < RECORDING | pohandira.py LIBRARY FILE...", file=sys.stderr)
+        return 2
+    try:
+        library = Library(sys.argv[1])
+    except OtherVersion as error:
+        say(error)
+        return 2
+    except OSError as error:
+        say_error(sys.argv[1], error)
+        return 2
+    return season(library, sys.argv[2:]) if sys.argv[2:] else replay_input(library)
 
 
 if __name__ == "__main__":

@@ -1,7 +1,7 @@
 //! A safe wrapper of the proved replay; include/pohandira.h says what the functions do.
 //!
 //! All that they ask of a caller is kept here: a slice's pointer is never null, not even an empty one's, and what is borrowed
-//! mutably overlaps nothing. So no input is out of bounds, and `check`, `count` and `replay` are safe for any bytes.
+//! mutably overlaps nothing. So no input is out of bounds, and `check`, `count`, `replay` and `Report::add` are safe for any bytes.
 
 use std::fmt;
 
@@ -17,14 +17,16 @@ extern "C" {
         totals: *mut u8,
         totals_room: usize,
     ) -> u8;
+    fn pohandira_season(recording: *const u8, length: usize, report: *mut u8, report_room: usize) -> u8;
 }
 
 /// The version that this file is for, as one number. A program stops where `version` answers another: what crosses may have grown.
-pub const VERSION: u32 = 1000;
+pub const VERSION: u32 = 2000;
 
 const CHECK_BYTES: usize = 24;
 const TOTALS_BYTES: usize = 56;
 const RECORD_BYTES: usize = 12;
+const REPORT_BYTES: usize = 904;
 
 /// Why a recording is refused (document 01, "Refusal numbers").
 #[derive(Clone, Copy, Debug, PartialEq, Eq)]
@@ -37,6 +39,7 @@ pub enum Reason {
     SeveralForced = 6,
     SpareBytes = 7,
     TooManyScans = 9,
+    ReportFull = 11,
 }
 
 impl Reason {
@@ -50,6 +53,7 @@ impl Reason {
             Reason::SeveralForced => "several forced without option bit 2",
             Reason::SpareBytes => "bytes left over",
             Reason::TooManyScans => "more than 1,000,000,000 scans",
+            Reason::ReportFull => "a number of a report would pass 64 bits",
         }
     }
 }
@@ -130,8 +134,8 @@ fn field(numbers: &[u8], index: usize) -> u64 {
 }
 
 /// The library gives no other numbers to callers that lend it enough room.
-fn refused(number: u8, place: u64) -> Refused {
-    let reason = match number {
+fn reason(number: u8) -> Reason {
+    match number {
         1 => Reason::TooShort,
         2 => Reason::BlockWrong,
         3 => Reason::EffectsWrong,
@@ -140,9 +144,13 @@ fn refused(number: u8, place: u64) -> Refused {
         6 => Reason::SeveralForced,
         7 => Reason::SpareBytes,
         9 => Reason::TooManyScans,
+        11 => Reason::ReportFull,
         _ => panic!("the library refused by {number}"),
-    };
-    Refused { reason, place }
+    }
+}
+
+fn refused(number: u8, place: u64) -> Refused {
+    Refused { reason: reason(number), place }
 }
 
 fn state(code: u8) -> State {
@@ -218,4 +226,42 @@ pub fn replay(recording: &[u8]) -> Result<Replay, Refused> {
     let totals = totals(number, &numbers)?;
     let events = records.chunks(RECORD_BYTES).map(event).collect();
     Ok(Replay { events, totals })
+}
+
+/// Season totals: how long each effect stood in each state, over recordings.
+#[derive(Clone, Debug, PartialEq, Eq)]
+pub struct Report([u8; REPORT_BYTES]);
+
+impl Report {
+    /// Every recording has at most so many effects.
+    pub const EFFECTS: usize = 16;
+
+    pub fn empty() -> Report {
+        Report([0; REPORT_BYTES])
+    }
+
+    /// Adds a recording, replayed from a fresh state. One that is refused adds nothing; `check` tells the place.
+    pub fn add(&mut self, recording: &[u8]) -> Result<(), Reason> {
+        let Report(bytes) = self;
+        // SAFETY: the head of this file says why.
+        let number = unsafe { pohandira_season(recording.as_ptr(), recording.len(), bytes.as_mut_ptr(), bytes.len()) };
+        match number {
+            0 => Ok(()),
+            _ => Err(reason(number)),
+        }
+    }
+
+    /// The scans after which an effect, from 1, stood in each state: by `State as usize`.
+    pub fn scans(&self, effect: usize) -> [u64; 6] {
+        std::array::from_fn(|state| field(&self.0, 7 * (effect - 1) + state))
+    }
+
+    /// The changes of an effect, from 1, into Tripped.
+    pub fn trips(&self, effect: usize) -> u64 {
+        field(&self.0, 7 * (effect - 1) + 6)
+    }
+
+    pub fn exercised(&self) -> u64 {
+        field(&self.0, 7 * Report::EFFECTS)
+    }
 }

@@ -38,7 +38,7 @@ fn put_three(out: &mut [u8], at: usize, a: u64, b: u64, c: u64)
 // ---- the answer to a check
 
 // The refusal number, or 10 if it is 0.
-fn or_ten(number: u8) -> u8
+pub fn or_ten(number: u8) -> u8
     ensures { λ r. ⌜ r ≡ orElse number 10 ⌝ }
 {
     if number != 0 {

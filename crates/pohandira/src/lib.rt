@@ -1,8 +1,8 @@
-// The library that other languages link, by the C ABI: its version, and a check, a count and a whole replay of a recording. Each of
-// these takes bytes and lent buffers, keeps nothing, and answers any bytes. What crosses is in specs/Crossing, and
-// include/pohandira.h says it in C. It rests on `rerun` for the replay and on `numbers` for the bytes of what crosses. How the room is
-// found out (a bound, or a pass that counts) may change without moving a contract; the numbers that cross, their order and their 8
-// bytes may not.
+// The library that other languages link, by the C ABI: its version, a check, a count and a whole replay of a recording, and season totals
+// over many. Each of these takes bytes and lent buffers, keeps nothing, and answers any bytes. What crosses is in specs/Crossing, and for
+// season totals in season_bytes/specs/Bytes; include/pohandira.h says it in C. It rests on `rerun` for the replay, on `numbers` for the
+// bytes of what crosses, and on `season_bytes` for the totals. How the room is found out (a bound, or a pass that counts) may change
+// without moving a contract; the numbers that cross, their order and their 8 bytes may not.
 ghost use mathlib.Core.Path.{_≡_};
 ghost use Prim.Native.Nat.{_*_};
 ghost use lib.ListN.{length};
@@ -12,6 +12,7 @@ ghost use Rattle.rerun.specs.Replay.{replay};
 ghost use Rattle.rerun.specs.Turn.{Going, stopOf};
 ghost use Rattle.pohandira.specs.Crossing.{checkNumber, checkInto, countNumber, countInto, replayNumber, recordsInto, totalsInto};
 ghost use Rattle.pohandira.specs.Version.{version};
+ghost use Rattle.season_bytes.specs.Bytes.{intoNumber, seasonInto};
 use recording::Answer;
 use rerun::Run;
 use rerun::Stop;
@@ -21,7 +22,7 @@ use rerun::Stop;
 // The parts of the version, which are those of the file VERSION, and what each counts for in the one number.
 const MAJOR: u32 = 0;
 
-const MINOR: u32 = 1;
+const MINOR: u32 = 2;
 
 const PATCH: u32 = 0;
 
@@ -160,4 +161,16 @@ pub extern "C" fn pohandira_replay(recording: &[u8], records: &mut [u8], totals:
         }
         Answer::Refused { number, place } => numbers::refuse(totals, number, place),
     }
+}
+
+// ---- season totals
+
+// Adds a recording to a report: answers its refusal number, and on 0 `report` begins with the 904 bytes of the report after it. On any
+// refusal no byte is touched.
+#[no_mangle]
+pub extern "C" fn pohandira_season(recording: &[u8], report: &mut [u8]) -> u8
+    ensures { λ r. ⌜ r ≡ intoNumber (now (recording .entry)) (now (report .entry)) ⌝ }
+    ensures { λ _. ⌜ now (report .exit) ≡ seasonInto (now (recording .entry)) (now (report .entry)) ⌝ }
+{
+    season_bytes::add(recording, report)
 }
