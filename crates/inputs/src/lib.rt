@@ -1,13 +1,13 @@
-// Named inputs of a program: each argument names a file, or standard input by `-`, which is read to the front of a lent buffer. If an
-// input cannot be opened or read, standard error says so with its name; it is not taken for an empty one. Every command that takes names
-// stands on this crate. It rests on `bits` and on the kit's `os`, `io` and `libc`; no contract can say what is read or written. All but the
+// Named inputs of a program: each argument but the first names a file, or standard input by `-`, which is read to the front of a lent buffer.
+// If an input cannot be opened or read, standard error says so with its name; it is not taken for an empty one. Every command that takes
+// names stands on this crate. It rests on `bits` and on the kit's `os`, `io` and `libc`; no contract can say what is read or written. All but the
 // messages and the statuses may change.
 ghost use mathlib.Core.Path.{_≡_};
 ghost use mathlib.Core.Logic.{_⊎_};
 ghost use Prim.Native.Nat.{_+_, _≤_, max, min};
 ghost use lib.ListN.{length};
 ghost use Rattle.inputs.specs.Lengths.{mostProgram, mostName, mostMessage};
-ghost use Rattle.inputs.specs.Statuses.{done, unread, unwritten};
+ghost use Rattle.inputs.specs.Statuses.{done, refused, unread, unwritten};
 
 // ---- statuses
 
@@ -76,6 +76,14 @@ fn fail(program: &[u8], what: &[u8])
 {
     let mut text = [0u8; MESSAGE_BYTES];
     fail_through(&mut text, program, what);
+}
+
+// Says the line of a refused input, and answers the status of that. If standard error takes no more, nobody can be told.
+pub fn say_refused(line: &[u8]) -> u8
+    ensures { λ r. ⌜ r ≡ refused ⌝ }
+{
+    io::write_all(libc::STDERR_FILENO, line);
+    REFUSED
 }
 
 // Says that standard output takes no more, and answers the status of that.
@@ -180,6 +188,11 @@ pub fn read_named(program: &[u8], name: &[u8], file: &mut [u8]) -> Input
         read_file(program, name, file)
     }
 }
+
+// The argument that says what is asked of the inputs, and the first that names one.
+pub const ASKED: usize = 1;
+
+pub const FIRST_NAME: usize = 2;
 
 // Whether an argument is in the lent buffer whole, and how many bytes it has.
 pub struct Name {

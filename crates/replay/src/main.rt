@@ -6,9 +6,11 @@
 ghost use mathlib.Core.Path.{_≡_};
 ghost use Prim.Native.Nat.{_+_, _≤_};
 ghost use lib.ListN.{length};
-ghost use Rattle.reports.specs.Reports.{mostName};
-ghost use Rattle.replay.specs.Buffers.{Printing, Reading};
+ghost use Rattle.reports.specs.Reports.{mostName, InputRoom};
+ghost use Rattle.replay.specs.Buffers.{Printing};
+use inputs::ASKED;
 use inputs::DONE;
+use inputs::FIRST_NAME;
 use inputs::REFUSED;
 use inputs::UNREAD;
 use inputs::UNWRITTEN;
@@ -25,11 +27,7 @@ enum Asked {
 // The name that messages begin with.
 const PROGRAM: [u8; 8] = *b"replay: ";
 
-// The argument that says what is asked, the first of the names, and how many arguments there are where one name is given.
-const ASKED: usize = 1;
-
-const FIRST_NAME: usize = 2;
-
+// How many arguments there are where one name is given.
 const ONE_NAME: usize = 3;
 
 // ---- one recording
@@ -130,7 +128,7 @@ fn answer(asked: Asked, several: bool, name: &[u8], s: &[u8], out: &mut [u8]) ->
 
 // Answers the recording of a name. If it cannot be read, `inputs` has said so, and it has no line and no heading.
 fn answer_named(asked: Asked, several: bool, name: &[u8], file: &mut [u8], out: &mut [u8]) -> u8
-    requires { ⌜ Reading (now name) (now file) × Printing (now out) ⌝ }
+    requires { ⌜ InputRoom (now name) (now file) × Printing (now out) ⌝ }
 {
     let input = inputs::read_named(&PROGRAM, name, file);
     if !input.good {
@@ -149,7 +147,7 @@ fn answer_argument(
     file: &mut [u8],
     out: &mut [u8],
 ) -> u8
-    requires { ⌜ Reading (now name) (now file) × Printing (now out) ⌝ }
+    requires { ⌜ InputRoom (now name) (now file) × Printing (now out) ⌝ }
 {
     let argument = inputs::argument(&PROGRAM, i, name);
     if !argument.good {
@@ -161,7 +159,7 @@ fn answer_argument(
 
 // Answers all recordings that are named by arguments; a failed output ends the run.
 fn answer_all(asked: Asked, name: &mut [u8], file: &mut [u8], out: &mut [u8]) -> u8
-    requires { ⌜ Reading (now name) (now file) × Printing (now out) ⌝ }
+    requires { ⌜ InputRoom (now name) (now file) × Printing (now out) ⌝ }
 {
     let count = os::arg_count();
     let mut gravest = DONE;
@@ -209,7 +207,7 @@ fn begin(asked: Asked, out: &mut [u8]) -> u8
 
 // Answers all named recordings, or standard input if none is named.
 fn answer_each(asked: Asked, name: &mut [u8], file: &mut [u8], out: &mut [u8]) -> u8
-    requires { ⌜ Reading (now name) (now file) × Printing (now out) ⌝ }
+    requires { ⌜ InputRoom (now name) (now file) × Printing (now out) ⌝ }
 {
     let status = begin(asked, out);
     if status != DONE {
@@ -229,7 +227,7 @@ fn asked_first(name: &mut [u8]) -> Asked {
 
 // Answers what is asked, and tells the status. Without an argument nobody reads it, so it is not told.
 fn run(name: &mut [u8], file: &mut [u8], out: &mut [u8])
-    requires { ⌜ Reading (now name) (now file) × Printing (now out) ⌝ }
+    requires { ⌜ InputRoom (now name) (now file) × Printing (now out) ⌝ }
 {
     let asked = asked_first(name);
     let status = answer_each(asked, name, file, out);

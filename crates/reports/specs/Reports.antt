@@ -1,6 +1,7 @@
 -- The lines of `bin/replay --check` and `--explain`, and the heading above a listing, as bytes. docs/FORMAT.md, "A line for each file";
 -- document 01 has no word on them. LF ends every line.
-use Prim.Native.Nat.{ℕ, _≤_}
+use Prim.Native.Nat.{ℕ, _+_, _≤_}
+use mathlib.Core.Path.{_≡_}
 use mathlib.Core.List.{List, _++_}
 use lib.ListN.{length}
 use Rattle.bits.specs.Decimal.{ascii, decimal}
@@ -10,6 +11,7 @@ use Rattle.settings.specs.Refusals.{granted}
 use Rattle.reasons.specs.declared.Reason.{Reason}
 use Rattle.reasons.specs.declared.Explained.{Explained}
 use Rattle.sentences.specs.Sentences.{sentence}
+use Rattle.recording.specs.Encode.{mostLength}
 use Rattle.recording.specs.declared.Answer.{Answer}
 use Rattle.recording.specs.declared.Answer.the-variants.{Accepted, Refused}
 
@@ -48,6 +50,11 @@ mostReport = 16384
 
 abbrev pub Roomy : (name out : List ℕ) → Type 0
 Roomy name out = (length name ≤ mostName) × (mostReport ≤ length out)
+
+-- a program lends a buffer for a name, and one for a recording: one byte more than the longest, since what follows in an input changes no
+-- answer (`long-as-front`, exactness/proofs/Theorems), and with a byte less an input that is one byte too long would pass for a recording
+abbrev pub InputRoom : (name file : List ℕ) → Type 0
+InputRoom name file = (length name ≤ mostName) × (length file ≡ mostLength + 1)
 
 -- ## Pieces, as the code writes them
 
