@@ -64,6 +64,11 @@ fn refused(refusal: &Refusal) -> String {
     format!(": refused {} at {}", refusal.number, refusal.place)
 }
 
+/// The line of a refused file.
+pub fn refusal_line(name: &[u8], refusal: &Refusal) -> Vec<u8> {
+    line_of(name, &refused(refusal), true).bytes
+}
+
 fn check(name: &[u8], file: &[u8]) -> Line {
     match read(file) {
         Ok(recording) => line_of(name, &accepted(recording.rows.len()), false),

@@ -3,6 +3,7 @@
 use crate::block::{held, scan, Answer, Phase, Row, Slot, State, Words};
 use crate::recording::{read, row_of, write_opening, write_row, Recording, Refusal, ROW_BYTES};
 use crate::replay::{replay, Listing};
+use crate::season::{add, Report, REPORT_BYTES};
 use crate::settings::{Effect, Settings, SLOTS};
 
 /// The largest room of a scan or held case.
@@ -20,6 +21,7 @@ pub enum Kind {
     Recording,
     Writing,
     Replay,
+    Season,
 }
 
 impl Kind {
@@ -30,6 +32,7 @@ impl Kind {
             "recording" => Some(Kind::Recording),
             "writing" => Some(Kind::Writing),
             "replay" => Some(Kind::Replay),
+            "season" => Some(Kind::Season),
             _ => None,
         }
     }
@@ -51,6 +54,13 @@ pub struct WritingCase {
     pub row_count: u16,
     pub row: Row,
     pub room: u16,
+}
+
+/// A season case: a recording and the report that it is added to.
+#[derive(Clone, Debug, PartialEq, Eq)]
+pub struct SeasonCase {
+    pub report: Report,
+    pub file: Vec<u8>,
 }
 
 // ---- Bytes of the parts ----
@@ -103,6 +113,11 @@ pub fn put_writing_case(case: &WritingCase, out: &mut Vec<u8>) {
     out.extend_from_slice(&case.row.hold.to_be_bytes());
     put_words(&case.row.words, out);
     out.extend_from_slice(&case.room.to_be_bytes());
+}
+
+pub fn put_season_case(case: &SeasonCase, out: &mut Vec<u8>) {
+    let bytes = [&case.report.to_bytes()[..], &case.file].concat();
+    put_file(&bytes, out);
 }
 
 // ---- Taking a stream apart ----
@@ -215,15 +230,31 @@ impl<'a> Stream<'a> {
         })
     }
 
-    pub fn file(&mut self) -> Result<&'a [u8], String> {
+    /// A length, which is at most `most`, and so many bytes.
+    fn with_length(&mut self, most: usize) -> Result<&'a [u8], String> {
         let length = self.number32()? as usize;
-        if length > MAX_FILE {
+        if length > most {
             return Err(format!(
-                "a file of {length} bytes before byte {}",
+                "a length of {length} bytes before byte {}",
                 self.place
             ));
         }
         self.take(length)
+    }
+
+    pub fn file(&mut self) -> Result<&'a [u8], String> {
+        self.with_length(MAX_FILE)
+    }
+
+    pub fn season_case(&mut self) -> Result<SeasonCase, String> {
+        let bytes = self.with_length(REPORT_BYTES + MAX_FILE)?;
+        let Some((report, file)) = bytes.split_first_chunk() else {
+            return Err(format!("no whole report before byte {}", self.place));
+        };
+        Ok(SeasonCase {
+            report: Report::of_bytes(report),
+            file: file.to_vec(),
+        })
     }
 
     pub fn writing_case(&mut self) -> Result<WritingCase, String> {
@@ -397,6 +428,21 @@ pub fn answer_replay(file: &[u8]) -> String {
     replay(file).text + "\n"
 }
 
+/// The refusal number, the place in 8 bytes, the effect count of a recording that was added or 0,
+/// and the report after the call.
+pub fn answer_season(case: &SeasonCase) -> String {
+    let mut report = case.report;
+    let (refusal, effects) = match add(&mut report, &case.file) {
+        Ok(effects) => (ACCEPTED, effects),
+        Err(refusal) => (refusal, 0),
+    };
+    let mut out = vec![refusal.number];
+    out.extend_from_slice(&u64::from(refusal.place).to_be_bytes());
+    out.push(effects);
+    out.extend_from_slice(&report.to_bytes());
+    hex(&out) + "\n"
+}
+
 /// Answers the next case of a stream.
 pub fn answer_next(kind: Kind, stream: &mut Stream) -> Result<String, String> {
     Ok(match kind {
@@ -404,5 +450,6 @@ pub fn answer_next(kind: Kind, stream: &mut Stream) -> Result<String, String> {
         Kind::Recording => answer_file(stream.file()?),
         Kind::Writing => answer_writing(&stream.writing_case()?),
         Kind::Replay => answer_replay(stream.file()?),
+        Kind::Season => answer_season(&stream.season_case()?),
     })
 }

@@ -1,11 +1,12 @@
 //! `second answer|make|show KIND ...`, `second replay`, `second show FILE` and
-//! `second check|explain|summary NAME...`: see `USAGE`.
+//! `second check|explain|summary|season NAME...`: see `USAGE`.
 
-use second::answers::Question;
+use second::answers::{refusal_line, Question};
 use second::cases::{answer_next, Kind, Stream};
 use second::make::{filled_stream, stream_of};
 use second::make_filled::FILLED_BUFFERS;
 use second::replay::{replay, ENOUGH_BYTES};
+use second::season::Season;
 use second::show::show_next;
 use second::show_file::show_recording;
 use std::ffi::{OsStr, OsString};
@@ -17,12 +18,13 @@ use std::str::FromStr;
 
 const USAGE: &str = "usage:
   second replay < recording > listing
-  second answer scan|held|recording|writing|replay < cases > answers
-  second make scan|held|recording|writing|replay SEED COUNT > cases
+  second answer scan|held|recording|writing|replay|season < cases > answers
+  second make scan|held|recording|writing|replay|season SEED COUNT > cases
   second fill BUFFER SEED COUNT > replay cases
-  second show scan|held|recording|writing|replay < cases
+  second show scan|held|recording|writing|replay|season < cases
   second show FILE > a recording in words; - is standard input, ./scan a file of that name
   second check|explain|summary [NAME...] > a line for each file; - or no NAME is standard input
+  second season [NAME...] > the totals of all files; NAME as above
 exit status: 0; 1 if a recording that is replayed, shown or asked for is refused; 2 on bad usage,
 a bad stream, or failing input or output";
 
@@ -152,19 +154,52 @@ fn ask_file(question: Question, name: &OsStr, out: &mut impl Write) -> Result<u8
     }
 }
 
-/// The lines of the named files, or of standard input if there is no name.
-fn ask(question: Question, names: &[OsString], out: &mut impl Write) -> Result<u8, String> {
-    let standard_input = [OsString::from("-")];
-    let names = if names.is_empty() {
-        &standard_input
+/// The names that are given, or that of standard input if there is none.
+fn names_or_input(names: &[OsString]) -> Vec<OsString> {
+    if names.is_empty() {
+        vec![OsString::from("-")]
     } else {
-        names
-    };
+        names.to_vec()
+    }
+}
+
+/// The lines of the named files.
+fn ask(question: Question, names: &[OsString], out: &mut impl Write) -> Result<u8, String> {
     written(out.write_all(question.heading().as_bytes()))?;
     let mut worst = DONE;
-    for name in names {
-        worst = worst.max(ask_file(question, name, out)?);
+    for name in names_or_input(names) {
+        worst = worst.max(ask_file(question, &name, out)?);
     }
+    Ok(worst)
+}
+
+/// Adds the recording in a file to the season; one that is refused or cannot be read has a
+/// message.
+fn add_file(season: &mut Season, name: &OsStr) -> Result<u8, String> {
+    let file = match recording_in(name) {
+        Ok(file) => file,
+        Err(message) => {
+            eprintln!("second: {message}");
+            return Ok(FAILED);
+        }
+    };
+    let Err(refusal) = season.add(&file) else {
+        return Ok(DONE);
+    };
+    io::stderr()
+        .write_all(&refusal_line(name.as_bytes(), &refusal))
+        .map_err(|error| format!("writing standard error: {error}"))?;
+    Ok(REFUSED)
+}
+
+/// One report over the named files, and its table.
+fn season(names: &[OsString], out: &mut impl Write) -> Result<u8, String> {
+    let mut season = Season::empty();
+    let mut worst = DONE;
+    for name in names_or_input(names) {
+        worst = worst.max(add_file(&mut season, &name)?);
+    }
+    written(out.write_all(season.table().as_bytes()))?;
     Ok(worst)
 }
 
@@ -183,6 +218,7 @@ fn work(given: &[OsString], out: &mut impl Write) -> Result<u8, String> {
         ["show", _] => status = show_kind_or_file(&given[1], out)?,
         ["make", kind, seed, count] => make(kind_of(kind)?, seed, count, out)?,
         ["fill", buffer, seed, count] => fill(buffer, seed, count, out)?,
+        ["season", ..] => status = season(&given[1..], out)?,
         [question, ..] => status = ask(question_of(question)?, &given[1..], out)?,
         [] => return Err(USAGE.to_string()),
     }

@@ -1,11 +1,12 @@
 //! Making case streams: named cases first, then random ones. The same seed and count
 //! always give the same stream.
 
-use crate::cases::{put_file, put_run_case, put_writing_case, Kind};
+use crate::cases::{put_file, put_run_case, put_season_case, put_writing_case, Kind};
 use crate::make_files::{file_cases, writing_cases};
 use crate::make_filled::{filled_file, random_ending};
 use crate::make_replays::replay_cases;
 use crate::make_runs::run_cases;
+use crate::make_season::season_cases;
 
 /// A case with its name and, if it was made on purpose, the refusals planted in it.
 #[derive(Clone, Debug)]
@@ -76,6 +77,11 @@ pub fn stream_of(kind: Kind, seed: u64, count: usize) -> Vec<u8> {
         Kind::Replay => {
             for named in replay_cases(seed, count) {
                 put_file(&named.case, &mut out);
+            }
+        }
+        Kind::Season => {
+            for named in season_cases(seed, count) {
+                put_season_case(&named.case, &mut out);
             }
         }
         Kind::Writing => {

@@ -19,7 +19,7 @@ pub const LARGE_FROM: usize = 1_000;
 // ---- Rows to start from ----
 
 /// Nothing active, with both permits for every effect.
-fn quiet(settings: &Settings) -> Words {
+pub fn quiet(settings: &Settings) -> Words {
     Words {
         values: existing(settings.causes),
         reset_permit: existing(settings.effects),
@@ -199,7 +199,7 @@ fn long_rows(settings: &Settings, rows: u16, last: &[u32]) -> Vec<Row> {
 }
 
 /// The end of the scan numbers: reached and passed.
-fn long_files(files: &mut Files) {
+pub fn long_files(files: &mut Files) {
     let settings = plain_settings(2, 2);
     for (rows, last, planted) in [
         (1_000, &[][..], &[][..]),
@@ -269,18 +269,28 @@ fn longer_file(files: &mut Files) {
     add(files, "longer than the largest", &[7], file);
 }
 
+/// The named files of few rows.
+pub fn small_files(files: &mut Files) {
+    session_files(files);
+    reset_files(files);
+    delay_files(files);
+    exercised_files(files);
+    refused_files(files);
+}
+
+/// The named files of the largest size, and one above it.
+pub fn large_files(files: &mut Files) {
+    longest_listing(files);
+    longer_file(files);
+}
+
 fn named_replays(with_large: bool) -> Files {
     let mut files = Vec::new();
-    session_files(&mut files);
-    reset_files(&mut files);
-    delay_files(&mut files);
-    exercised_files(&mut files);
-    refused_files(&mut files);
+    small_files(&mut files);
     long_files(&mut files);
     filled_files(&mut files);
     if with_large {
-        longest_listing(&mut files);
-        longer_file(&mut files);
+        large_files(&mut files);
     }
     files
 }
@@ -420,6 +430,11 @@ fn random_replay(random: &mut Random) -> Vec<u8> {
         let ending = random_ending(random, CASES_BUFFER);
         return filled_file(random, CASES_BUFFER, &ending);
     }
+    random_recording(random)
+}
+
+/// A recording of any size, most often of a few rows.
+pub fn random_recording(random: &mut Random) -> Vec<u8> {
     let mut settings = random_replay_settings(random);
     let (rows, long) = random_size(random);
     if rows > 200 {

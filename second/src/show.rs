@@ -1,9 +1,10 @@
 //! Cases and answers for a person to read.
 
 use crate::block::{Answer, Row, State, RECORD_BYTES};
-use crate::cases::{answer_writing, call_run, hex, Kind, RunCase, Stream, WritingCase};
+use crate::cases::{answer_writing, call_run, hex, Kind, RunCase, SeasonCase, Stream, WritingCase};
 use crate::recording::{number16, number32, read};
 use crate::replay::replay;
+use crate::season::{add, Report, EFFECT_NUMBERS, EXERCISED};
 use crate::settings::Settings;
 
 fn show_settings(settings: &Settings) -> String {
@@ -166,6 +167,31 @@ fn show_writing(case: &WritingCase) -> String {
         + &answer_writing(case)
 }
 
+/// A report; effects whose numbers are all 0 have no line.
+fn show_report(title: &str, report: &Report) -> String {
+    let mut text = format!("  {title}: exercised {}\n", report.numbers[EXERCISED]);
+    let effects = report.numbers[..EXERCISED].chunks(EFFECT_NUMBERS);
+    for (index, numbers) in effects.enumerate() {
+        if numbers.iter().any(|number| *number != 0) {
+            text += &format!("    effect {}: {numbers:?}\n", index + 1);
+        }
+    }
+    text
+}
+
+/// The file, the report before, and the refusal or the report after.
+fn show_season(case: &SeasonCase) -> String {
+    let mut report = case.report;
+    let answer = match add(&mut report, &case.file) {
+        Ok(_) => show_report("report after", &report),
+        Err(refusal) => format!(
+            "  season: refused {} at {}\n",
+            refusal.number, refusal.place
+        ),
+    };
+    show_file(&case.file) + &show_report("report before", &case.report) + &answer
+}
+
 /// Shows the next case of a stream.
 pub fn show_next(kind: Kind, stream: &mut Stream) -> Result<String, String> {
     Ok(match kind {
@@ -173,5 +199,6 @@ pub fn show_next(kind: Kind, stream: &mut Stream) -> Result<String, String> {
         Kind::Recording => show_recording(stream.file()?),
         Kind::Writing => show_writing(&stream.writing_case()?),
         Kind::Replay => show_replay(stream.file()?),
+        Kind::Season => show_season(&stream.season_case()?),
     })
 }

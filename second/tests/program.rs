@@ -364,7 +364,7 @@ fn bad_usage_fails() {
 
 #[test]
 fn truncated_streams_fail() {
-    for kind in ["scan", "held", "recording", "writing", "replay"] {
+    for kind in ["scan", "held", "recording", "writing", "replay", "season"] {
         let made = run(&["make", kind, "1", "3"], &[]).stdout;
         assert_eq!(run(&["answer", kind], &made).status.code(), Some(0));
         let cut = &made[..made.len() - 1];
@@ -389,6 +389,27 @@ fn streams_outside_the_format_fail() {
     file.resize(4 + 49_263, 0);
     fails(&run(&["answer", "recording"], &file));
     fails(&run(&["answer", "replay"], &file));
+    // A season case holds a whole report, and no file above the largest.
+    for length in [0, 903, 904 + 49_263] {
+        let mut case = (length as u32).to_be_bytes().to_vec();
+        case.resize(4 + length, 0);
+        fails(&run(&["answer", "season"], &case));
+    }
+}
+
+#[test]
+fn season_line() {
+    let case = format!("000003ce {} {SESSION}", zeros(904));
+    let number = |number: u64| format!("{number:016x}");
+    let effects = [5, 0, 0, 0, 3, 0, 1, 2, 0, 0, 0, 3, 3, 1].map(number);
+    let expected = format!(
+        "00 {} 02 {} {} {}",
+        zeros(8),
+        effects.concat(),
+        zeros(98 * 8),
+        number(5)
+    );
+    assert_eq!(answer("season", &case), line(&expected));
 }
 
 #[test]
@@ -415,6 +436,7 @@ fn seeds_repeat_and_differ() {
         ("recording", "1000"),
         ("writing", "600"),
         ("replay", "300"),
+        ("season", "300"),
     ] {
         let made = |seed| run(&["make", kind, seed, count], &[]).stdout;
         let one = made("1");
