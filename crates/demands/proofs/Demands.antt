@@ -53,12 +53,15 @@ use Rattle.numbers.proofs.Stores.{length-numbers, fits, stays}
 use Rattle.pohandira.proofs.Theorems as pohandira
 use Rattle.demands.specs.Order.{InOrder, heldCases, scanCases}
 use Rattle.demands.specs.Library.{CheckInOrder, ReplayInOrder, CountAsReplayed}
-use Rattle.demands.specs.Demands.{Demand1, RightInput, slot, ByTheRules, Demand2, Equals, OneScanMore, Demand3}
+use Rattle.demands.specs.Demands.{Demand1, RightInput, slot, ByTheRules, Demand2, Equals, OneScanMore, Demand3, SeasonTotals}
 use Rattle.demands.proofs.Order as order
 use Rattle.demands.proofs.Order.{granted-in-order, piece-in-order}
 use Rattle.demands.proofs.Back.{same-bytes}
 use Rattle.demands.proofs.Scans.{scan-granted, row-accepted, slot-after, slot-past, latent-bit, latent-inside, one-more, exercised-yes, exercised-no, scan-more}
 use Rattle.demands.proofs.Unique.{answers}
+use Rattle.demands.proofs.Season as season
+use Rattle.season.proofs.Theorems.{six-totals-are-the-holds}
+use Rattle.worked.proofs.Reported.{the-session-is-added}
 
 -- ## Demand 1
 
@@ -246,4 +249,16 @@ demand-3 st x w hold right =
       exercised = λ i h some. exercised-by st x w hold right true (exercised-yes st w i h some) ∙ mul-one hold;
       not-exercised = λ none. exercised-by st x w hold right false (exercised-no st w none) ∙ mul-zero hold;
       few-live = few st x w hold right;
+    }
+
+-- ## Requests that came later
+
+pub season-totals : SeasonTotals
+season-totals =
+    record {
+      counts-single-scans = season.counts-single-scans;
+      adds-in-order = season.adds-in-order;
+      six-add-up = six-totals-are-the-holds;
+      the-session = the-session-is-added;
+      crosses-in-order = season.season-in-order;
     }

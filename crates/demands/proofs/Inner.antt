@@ -75,9 +75,21 @@ use Rattle.rerun.proofs.row.Reads as rerun·row
 use Rattle.rerun.proofs.go.Reads as rerun·go
 use Rattle.listing.proofs.row.Reads as listing·row
 use Rattle.numbers.proofs.put_check.Reads as numbers·put-check
+use Rattle.numbers.proofs.or_ten.Reads as numbers·or-ten
 use Rattle.numbers.proofs.put_totals.Reads as numbers·put-totals
 use Rattle.numbers.proofs.put_counted.Reads as numbers·put-counted
 use Rattle.numbers.proofs.refuse.Reads as numbers·refuse
+use Rattle.sums.proofs.in_range.Reads as sums·in-range
+use Rattle.sums.proofs.add_all.Reads as sums·add-all
+use Rattle.tally.specs.Tally.{Count}
+use Rattle.tally.proofs.close_all.Reads as tally·close-all
+use Rattle.tally.proofs.count_events.Reads as tally·count-events
+use Rattle.season_table.proofs.Table.empty.Reads as season-table·empty
+use Rattle.season_table.proofs.Table.with_file.Reads as season-table·with-file
+use Rattle.season_table.proofs.put_table.Reads as season-table·put-table
+use Rattle.season_bytes.proofs.report_at.Reads as season-bytes·report-at
+use Rattle.season_bytes.proofs.put_report.Reads as season-bytes·put-report
+use Rattle.season_bytes.proofs.add.Reads as season-bytes·add
 use Rattle.text.proofs.put_header.Reads as text·put-header
 use Rattle.text.proofs.put_lines.Reads as text·put-lines
 use Rattle.text.proofs.put_last.Reads as text·put-last
@@ -364,6 +376,9 @@ listing-row κs a r q e f h k =
 pub numbers-put-check : (κs : Lfts 1) → Unique (numbers·put-check.Learnt κs) (λ e. now (e .0))
 numbers-put-check κs = by-equations (numbers·put-check.Learnt κs) (λ e. now (e .0)) _ _ (λ a r e h. h)
 
+pub numbers-or-ten : (κs : Lfts 0) → Unique (numbers·or-ten.Learnt κs) none
+numbers-or-ten κs = by-equation (numbers·or-ten.Learnt κs) _ (λ a r e h. h)
+
 pub numbers-put-totals : (κs : Lfts 1) → Unique (numbers·put-totals.Learnt κs) (λ e. now (e .0))
 numbers-put-totals κs = by-equations (numbers·put-totals.Learnt κs) (λ e. now (e .0)) (λ a. tt) _ (λ a r e h. (refl, h))
 
@@ -372,6 +387,42 @@ numbers-put-counted κs = by-equations (numbers·put-counted.Learnt κs) (λ e. 
 
 pub numbers-refuse : (κs : Lfts 1) → Unique (numbers·refuse.Learnt κs) (λ e. now (e .0))
 numbers-refuse κs = by-equations (numbers·refuse.Learnt κs) (λ e. now (e .0)) _ _ (λ a r e h. h)
+
+-- ## Season totals (`sums`, `tally`, `season_bytes`)
+
+pub sums-in-range : (κs : Lfts 2) → Unique (sums·in-range.Learnt κs) none
+sums-in-range κs = by-equation (sums·in-range.Learnt κs) _ (λ a r e h. h)
+
+pub sums-add-all : (κs : Lfts 2) → Unique (sums·add-all.Learnt κs) (λ e. now (e .0))
+sums-add-all κs = by-equations (sums·add-all.Learnt κs) (λ e. now (e .0)) (λ a. tt) _ (λ a r e h. (refl, h))
+
+pub tally-close-all : (κs : Lfts 2) → Unique (tally·close-all.Learnt κs) (λ e. now (e .1 .1 .0))
+tally-close-all κs = by-equations (tally·close-all.Learnt κs) (λ e. now (e .1 .1 .0)) (λ a. tt) _ (λ a r e h. (refl, h))
+
+pub tally-count-events : (κs : Lfts 3) → UniqueWhereAsked (tally·count-events.Asked κs) (tally·count-events.Learnt κs) (both (λ e. now (e .1 .1 .0)) (λ e. now (e .1 .1 .1 .0)))
+tally-count-events κs a r q e f asked h k =
+    let same = h (asked .0) (asked .1) (asked .2) ∙ sym (k (asked .0) (asked .1) (asked .2)) in
+    (refl, lent (ap (λ (c : Count). c .sums) same) (ap (λ (c : Count). c .stretches) same))
+
+pub season-bytes-report-at : (κs : Lfts 1) → Unique (season-bytes·report-at.Learnt κs) none
+season-bytes-report-at κs = by-equation (season-bytes·report-at.Learnt κs) _ (λ a r e h. h)
+
+pub season-bytes-put-report : (κs : Lfts 1) → Unique (season-bytes·put-report.Learnt κs) (λ e. now (e .0))
+season-bytes-put-report κs = by-equations (season-bytes·put-report.Learnt κs) (λ e. now (e .0)) (λ a. tt) _ (λ a r e h. (refl, h))
+
+pub season-bytes-add : (κs : Lfts 2) → Unique (season-bytes·add.Learnt κs) (λ e. now (e .1 .0))
+season-bytes-add κs = by-equations (season-bytes·add.Learnt κs) (λ e. now (e .1 .0)) _ _ (λ a r e h. h)
+
+-- ## The table of season totals (`season_table`)
+
+pub season-table-empty : (κs : Lfts 0) → Unique (season-table·empty.Learnt κs) none
+season-table-empty κs = by-equation (season-table·empty.Learnt κs) _ (λ a r e h. h)
+
+pub season-table-with-file : (κs : Lfts 0) → Unique (season-table·with-file.Learnt κs) none
+season-table-with-file κs = by-equation (season-table·with-file.Learnt κs) _ (λ a r e h. h)
+
+pub season-table-put-table : (κs : Lfts 1) → Unique (season-table·put-table.Learnt κs) (λ e. now (e .0))
+season-table-put-table κs = by-equations (season-table·put-table.Learnt κs) (λ e. now (e .0)) _ _ (λ a r e h. h .0)
 
 -- ## Lines of text (`text`)
 

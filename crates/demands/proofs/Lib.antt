@@ -4,4 +4,5 @@ pub mod Scans
 pub mod Determined
 pub mod Unique
 pub mod Inner
+pub mod Season
 pub mod Demands

@@ -1,7 +1,7 @@
 -- What a call of each entry point gives. Its contract asks nothing of a caller (`Asked`), and a caller learns that the result and
 -- the parameters at exit (`Learnt`) are those of the definitions named here. Rattle makes `Asked` and `Learnt` from the
 -- clauses in src/ and proves that they are what a call gives (`known` beside them), so this page is about the contracts themselves.
--- Arguments stand in the order of src/, and `_` is what follows the last. Document 01, "What each contract has to exclude".
+-- Arguments stand in the order of src/, and `_` is what follows the last. Document 01, "What each contract has to exclude"; document 02, L1.
 use mathlib.Core.Path.{_≡_}
 use mathlib.Core.Bool.{cond}
 use Prim.Native.Nat.{_-_, _^_}
@@ -28,6 +28,7 @@ use Rattle.writing.proofs as writing
 use Rattle.walk.proofs as walk
 use Rattle.rerun.proofs as rerun
 use Rattle.listing.proofs as listing
+use Rattle.season.proofs as season
 use Rattle.pohandira.proofs as pohandira
 use Rattle.rules.specs.Limits.{mostDelay, mostHold, mostScans}
 use Rattle.rules.specs.Rules.{code, same}
@@ -46,6 +47,8 @@ use Rattle.listing.specs.Printed.{opening, hasRoom, placed, written}
 use Rattle.text.specs.Room.{mostPiece}
 use Rattle.pohandira.specs.Crossing.{checkNumber, checkInto, countNumber, countInto, replayNumber, recordsInto, totalsInto}
 use Rattle.pohandira.specs.Version.{version}
+use Rattle.season.specs.Season.{empty, addedTo}
+use Rattle.season_bytes.specs.Bytes.{intoNumber, seasonInto}
 use Rattle.demands.specs.Contracts.{Gives, Returns, both}
 
 -- κ0, κ1, κ2 and κ3 are the lifetimes of what is lent
@@ -76,6 +79,11 @@ pub record EntryPoints (κ0 : Lfts 0) (κ1 : Lfts 1) (κ2 : Lfts 2) (κ3 : Lfts 
       (λ e. now (e .1 .0)) (λ (s, (totals, _)). countInto (now s) (now totals))
   pub pohandira-replay : Gives (pohandira.pohandira_replay.Reads.Asked κ3) (pohandira.pohandira_replay.Reads.Learnt κ3) (λ (s, (records, (totals, _))). replayNumber (now s) (length (now records)) (length (now totals)))
       (both (λ e. now (e .1 .0)) (λ e. now (e .1 .1 .0))) (both (λ (s, (records, (totals, _))). recordsInto (now s) (length (now totals)) (now records)) (λ (s, (records, (totals, _))). totalsInto (now s) (length (now records)) (now totals)))
+  -- season totals (`season`), and the static library's
+  pub season-empty : Returns (season.Report.empty.Reads.Asked κ0) (season.Report.empty.Reads.Learnt κ0) (λ _. empty)
+  pub season-add : Returns (season.Report.add.Reads.Asked κ1) (season.Report.add.Reads.Learnt κ1) (λ (r, (s, _)). addedTo r (now s))
+  pub pohandira-season : Gives (pohandira.pohandira_season.Reads.Asked κ2) (pohandira.pohandira_season.Reads.Learnt κ2) (λ (s, (report, _)). intoNumber (now s) (now report))
+      (λ e. now (e .1 .0)) (λ (s, (report, _)). seasonInto (now s) (now report))
   -- listings (`listing`)
   pub opening : Gives (listing.opening.Reads.Asked κ1) (listing.opening.Reads.Learnt κ1) (λ (file, (out, (at, _))). written (length (now out)) at (opening (file .answer)))
       (λ e. now (e .1 .0)) (λ (file, (out, (at, _))). placed (now out) at (opening (file .answer)))

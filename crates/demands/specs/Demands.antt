@@ -1,6 +1,7 @@
--- What the user demanded, in the user's words and order: one record of propositions for each demand. They are about the definitions that
--- the contracts of the entry points cite; that the contracts say so is `Answers`. `demand-1`, `demand-2` and `demand-3` (proofs/Demands)
--- prove them, so a reader who believes the definitions need read no proof: docs/PROMISES.md lists them, "What has to be believed".
+-- What the user demanded, in the user's words and order: one record of propositions for each demand, and one for each request that came
+-- later. They are about the definitions that the contracts of the entry points cite; that the contracts say so is `Answers`. `demand-1`,
+-- `demand-2`, `demand-3` and `season-totals` (proofs/Demands) prove them, so a reader who believes the definitions need read no proof:
+-- docs/PROMISES.md lists them, "What has to be believed".
 mod Names
 use Names.*
 
@@ -161,3 +162,21 @@ pub record OneStroke (st : Settings) (x : State) (w : Words) (hold : ℕ) : Type
 -- for every accepted setting, state and row, and every hold that the demand names
 abbrev pub Demand3 : Type 0
 Demand3 = (st : Settings) (x : State) (w : Words) (hold : ℕ) → RightInput st x w hold → OneStroke st x w hold
+
+-- ## Requests that came later
+
+-- Document 02, L1. A report in 64-bit sums over recordings, each from a fresh state: per effect, the scans after which it stood in each
+-- state and the changes into Tripped; for all, the exercised scans. In a report grown from an empty one, an effect's six state totals add up
+-- to the holds of the recordings that have it. Totals are those of single steps. Refusals: 11, a total would pass 64 bits, after 9; on any
+-- refusal the report comes back unchanged.
+pub record SeasonTotals : Type 0 where
+  -- totals are those of single steps
+  pub counts-single-scans : (s : List ℕ) → CountsSingleScans s
+  -- any report is accepted to start from (it has 113 sums, as the array has), and any bytes; the refusals stand in order
+  pub adds-in-order : (r : Report) (s : List ℕ) → length (r .sums) ≡ 113 → AddsInOrder r s (addedTo r s)
+  -- in a report grown from an empty one by any recordings, the six state totals of an effect (from 0) are the holds of those that have it
+  pub six-add-up : (i : ℕ) → i < 16 → (ss : List (List ℕ)) → sixOf (overAll empty ss) i ≡ holdsOf empty i ss
+  -- document 01's session, added to an empty report
+  pub the-session : addedTo empty session ≡ record { number = 0; place = 0; effects = 2; report = sessionReport }
+  -- the same of a report in lent bytes (`pohandira_season`)
+  pub crosses-in-order : (s bytes : List ℕ) → SeasonInOrder s bytes (intoNumber s bytes) (seasonInto s bytes)

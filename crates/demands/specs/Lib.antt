@@ -3,4 +3,5 @@ pub mod Answers
 pub mod Order
 pub mod Back
 pub mod Library
+pub mod Season
 pub mod Demands

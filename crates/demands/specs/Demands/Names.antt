@@ -47,8 +47,16 @@ pub use Rattle.walk.specs.Walks.{startOf, nextOf, movedOn, walked, given}
 pub use Rattle.rerun.specs.Replay.{started, refusedAt, answered, replay, rowOf}
 pub use Rattle.listing.specs.Printed.{hasRoom, written, placed}
 pub use Rattle.pohandira.specs.Crossing.{replayNumber}
+-- season totals
+pub use Rattle.season.specs.declared.Report.{Report}
+pub use Rattle.season.specs.Season.{empty, addedTo}
+pub use Rattle.season.specs.Overall.{overAll, sixOf, holdsOf}
+pub use Rattle.season_bytes.specs.Bytes.{intoNumber, seasonInto}
+pub use Rattle.worked.specs.Recorded.{session}
+pub use Rattle.worked.specs.Reported.{sessionReport}
 -- names of this crate
 pub use Rattle.demands.specs.Answers.{Answers}
 pub use Rattle.demands.specs.Order.{firstOf, InOrder, settingsCases, wordsCases, rowCases, heldCases, scanCases, openingCases, rowPieceCases}
 pub use Rattle.demands.specs.Library.{CheckInOrder, ReplayInOrder, CountAsReplayed}
 pub use Rattle.demands.specs.Back.{Recording, writtenBack}
+pub use Rattle.demands.specs.Season.{CountsSingleScans, AddsInOrder, SeasonInOrder}
