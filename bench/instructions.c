@@ -1,6 +1,6 @@
 /*
- * Replays and checks recordings like those of bench/table.c, and passes a marker after each call, so that the instructions between
- * two markers can be counted (bench/instructions). It prints the marker's address.
+ * Replays and checks recordings like those of bench/table.c, adds them to a report, and passes a marker after each call, so that the
+ * instructions between two markers can be counted (bench/instructions). It prints the marker's address.
  */
 #define main table_main
 #include "table.c"
@@ -26,6 +26,8 @@ static void count(uint32_t effects, uint32_t rows, uint32_t most)
             marker();
         }
         pohandira_check(files[i].bytes, files[i].length, numbers, POHANDIRA_CHECK_BYTES);
+        marker();
+        pohandira_season(files[i].bytes, files[i].length, report, POHANDIRA_REPORT_BYTES);
         marker();
     }
 }

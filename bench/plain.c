@@ -1,6 +1,6 @@
 /*
- * A replay in plain C, written for speed: the yardstick of bench/against_c. It answers as include/pohandira.h says, with no
- * proof. One struct for each effect, one pass over them for each round; a delay is kept as the number of the scan in which it
+ * A replay and season totals in plain C, written for speed: the yardstick of bench/against_c. They answer as include/pohandira.h says,
+ * with no proof. One struct for each effect, one pass over them for each round; a delay is kept as the number of the scan in which it
  * runs out, so that a jump over scans moves nothing.
  */
 #include "recording.h"
@@ -63,8 +63,14 @@ static inline uint32_t state_after(const struct effect *e, const struct words *w
     }
 }
 
-static inline struct totals run(const struct recording *r, uint8_t *records, int writing) {
+/*
+ * Runs all rows. `writing` and whether there are `sums` are known where it is called, and it is compiled for each. A stretch is the
+ * scans from one change of an effect to the next, and `since` the scans before it.
+ */
+__attribute__((always_inline)) static inline struct totals run(const struct recording *r, uint8_t *records, int writing,
+                                                               uint64_t *sums) {
     struct effect effects[MOST_EFFECTS];
+    uint32_t since[MOST_EFFECTS] = {0};
     struct totals t = {0, 0, 0, 0};
     uint32_t count = r->effect_count, done = 0;
     for (uint32_t i = 0; i < count; i++) {
@@ -86,6 +92,11 @@ static inline struct totals run(const struct recording *r, uint8_t *records, int
                     if (before == NORMAL) e->first_out = e->association & w.tripped;
                     if (after == NORMAL) e->first_out = 0;
                     if (after == DELAYED) e->due = scan + e->delay;
+                    if (sums) {
+                        sums[EFFECT_NUMBERS * i + before] += scan - 1 - since[i];
+                        sums[EFFECT_NUMBERS * i + TRIPS] += after == TRIPPED;
+                        since[i] = scan - 1;
+                    }
                     e->state = after;
                     changed = 1;
                     if (writing) put_record(records + RECORD_BYTES * t.records, t.records, scan, i + 1, before, after, e->first_out);
@@ -100,11 +111,16 @@ static inline struct totals run(const struct recording *r, uint8_t *records, int
         if (any_active) t.exercised += row.hold;
     }
     t.scans = done;
+    if (sums) {
+        for (uint32_t i = 0; i < count; i++) sums[EFFECT_NUMBERS * i + effects[i].state] += done - since[i];
+        sums[EXERCISED] = t.exercised;
+    }
     return t;
 }
 
-static struct totals run_writing(const struct recording *r, uint8_t *records) { return run(r, records, 1); }
-static struct totals run_counting(const struct recording *r, uint8_t *records) { return run(r, records, 0); }
+static struct totals run_writing(const struct recording *r, uint8_t *records) { return run(r, records, 1, NULL); }
+static struct totals run_counting(const struct recording *r, uint8_t *records) { return run(r, records, 0, NULL); }
+static void run_summing(const struct recording *r, uint64_t *sums) { run(r, NULL, 0, sums); }
 
 uint8_t plain_check(const uint8_t *recording, size_t length, uint8_t *answer, size_t answer_room) {
     return check_by(recording, length, answer, answer_room);
@@ -113,4 +129,8 @@ uint8_t plain_check(const uint8_t *recording, size_t length, uint8_t *answer, si
 uint8_t plain_replay(const uint8_t *recording, size_t length, uint8_t *records, size_t records_room, uint8_t *totals,
                      size_t totals_room) {
     return replay_by(run_writing, run_counting, recording, length, records, records_room, totals, totals_room);
+}
+
+uint8_t plain_season(const uint8_t *recording, size_t length, uint8_t *report, size_t report_room) {
+    return season_by(run_summing, recording, length, report, report_room);
 }

@@ -1,6 +1,6 @@
 /*
- * The second form of the replay in plain C: one bit an effect, so that the rules of a scan are some forty operations on words,
- * however many effects there are. It answers as bench/plain.c does; bench/against_c shows both.
+ * The second form of the replay and season totals in plain C: one bit an effect, so that the rules of a scan are some forty operations on
+ * words, however many effects there are. It answers as bench/plain.c does; bench/against_c shows both.
  */
 #include "recording.h"
 
@@ -103,8 +103,11 @@ static inline uint32_t soonest(const struct block *b) {
     return next;
 }
 
-static inline struct totals run(const struct recording *r, uint8_t *records, int writing) {
+/* Runs all rows, as bench/plain.c does: with `writing` and `sums` known where it is called. */
+__attribute__((always_inline)) static inline struct totals run(const struct recording *r, uint8_t *records, int writing,
+                                                               uint64_t *sums) {
     struct block b = fresh(r);
+    uint32_t since[MOST_EFFECTS] = {0};
     struct totals t = {0, 0, 0, 0};
     uint32_t done = 0;
     for (const uint8_t *p = r->rows, *end = p + (size_t)ROW_BYTES * r->row_count; p != end; p += ROW_BYTES) {
@@ -121,6 +124,11 @@ static inline struct totals run(const struct recording *r, uint8_t *records, int
                 if (b.now.normal >> i & 1) b.first_out[i] = r->association[i] & w.tripped;
                 if (after.normal >> i & 1) b.first_out[i] = 0;
                 b.due[i] = scan + b.delay[i]; /* read in Delayed alone */
+                if (sums) {
+                    sums[EFFECT_NUMBERS * i + code_of(&b.now, i)] += scan - 1 - since[i];
+                    sums[EFFECT_NUMBERS * i + TRIPS] += after.tripped >> i & 1;
+                    since[i] = scan - 1;
+                }
                 if (writing)
                     put_record(records + RECORD_BYTES * t.records, t.records, scan, i + 1, code_of(&b.now, i), code_of(&after, i),
                                b.first_out[i]);
@@ -134,11 +142,16 @@ static inline struct totals run(const struct recording *r, uint8_t *records, int
         } while (scan <= done);
     }
     t.scans = done;
+    if (sums) {
+        for (uint32_t i = 0; i < r->effect_count; i++) sums[EFFECT_NUMBERS * i + code_of(&b.now, i)] += done - since[i];
+        sums[EXERCISED] = t.exercised;
+    }
     return t;
 }
 
-static struct totals run_writing(const struct recording *r, uint8_t *records) { return run(r, records, 1); }
-static struct totals run_counting(const struct recording *r, uint8_t *records) { return run(r, records, 0); }
+static struct totals run_writing(const struct recording *r, uint8_t *records) { return run(r, records, 1, NULL); }
+static struct totals run_counting(const struct recording *r, uint8_t *records) { return run(r, records, 0, NULL); }
+static void run_summing(const struct recording *r, uint64_t *sums) { run(r, NULL, 0, sums); }
 
 uint8_t plain_words_check(const uint8_t *recording, size_t length, uint8_t *answer, size_t answer_room) {
     return check_by(recording, length, answer, answer_room);
@@ -147,4 +160,8 @@ uint8_t plain_words_check(const uint8_t *recording, size_t length, uint8_t *answ
 uint8_t plain_words_replay(const uint8_t *recording, size_t length, uint8_t *records, size_t records_room, uint8_t *totals,
                            size_t totals_room) {
     return replay_by(run_writing, run_counting, recording, length, records, records_room, totals, totals_room);
+}
+
+uint8_t plain_words_season(const uint8_t *recording, size_t length, uint8_t *report, size_t report_room) {
+    return season_by(run_summing, recording, length, report, report_room);
 }

@@ -13,6 +13,7 @@
 enum { TRIP_IF_BAD = 1, PERMIT_NOT_REQUIRED = 2, SEVERAL_FORCED = 4 }; /* options */
 enum { TRIPPED, WAIT_RESET, READY, WAIT_START, NORMAL, DELAYED };
 enum { ROW_BYTES = 24, RECORD_BYTES = 12, TOTALS_BYTES = 56, ANSWER_BYTES = 24 };
+enum { EFFECT_NUMBERS = 7, TRIPS = 6, EXERCISED = 112, REPORT_NUMBERS = 113, REPORT_BYTES = 904 }; /* season totals */
 enum { MOST_EFFECTS = 16, MOST_HOLD = 1000000, MOST_SCANS = 1000000000, MOST_DELAY = 3600000 };
 
 /* Numbers in bytes, big-endian. They are turned round by name: of shifts clang makes one load only where no mask comes between. */
@@ -175,6 +176,30 @@ static inline uint8_t check_by(const uint8_t *recording, size_t length, uint8_t 
     put64(answer + 8, number ? r.place : 0);
     put64(answer + 16, number ? 0 : r.row_count);
     return (uint8_t)number;
+}
+
+/* The sums of a recording, in the order of a report's numbers. */
+typedef void sum_rows(const struct recording *r, uint64_t *sums);
+
+/* Whether a sum fits on top of its number in a report, and adding it. */
+static inline int fits(const uint8_t *report, const uint64_t *sums, uint32_t k) { return sums[k] <= UINT64_MAX - get64(report + 8 * k); }
+static inline void grow(uint8_t *report, const uint64_t *sums, uint32_t k) { put64(report + 8 * k, get64(report + 8 * k) + sums[k]); }
+
+/* Season totals, as include/pohandira.h says it, by a function that runs the rows. Effects that are not there add nothing. */
+static inline uint8_t season_by(sum_rows *summing, const uint8_t *recording, size_t length, uint8_t *report, size_t report_room) {
+    struct recording r;
+    uint64_t sums[REPORT_NUMBERS] = {0};
+    unsigned number = read_recording(&r, recording, length);
+    if (!number) number = too_many_scans(&r, recording);
+    if (!number && report_room < REPORT_BYTES) number = 10;
+    if (number) return (uint8_t)number;
+    summing(&r, sums);
+    uint32_t count = EFFECT_NUMBERS * r.effect_count, all_fit = 1;
+    for (uint32_t k = 0; k < count; k++) all_fit &= fits(report, sums, k);
+    if (!all_fit || !fits(report, sums, EXERCISED)) return 11;
+    for (uint32_t k = 0; k < count; k++) grow(report, sums, k);
+    grow(report, sums, EXERCISED);
+    return 0;
 }
 
 /* Writes a record. */

@@ -39,7 +39,9 @@ static struct effect effect_after(struct effect e, const struct recording *r, co
     return after;
 }
 
-static struct totals step_all(const struct recording *r, uint8_t *records, int writing) {
+/* Every scan. With `sums` each effect adds 1 to the number of its state after each scan, and 1 for a change into Tripped. */
+__attribute__((always_inline)) static inline struct totals step_all(const struct recording *r, uint8_t *records, int writing,
+                                                                    uint64_t *sums) {
     struct effect effects[MOST_EFFECTS] = {{TRIPPED, 0, 0}};
     struct totals t = {0, 0, 0, 0};
     for (uint32_t n = 0; n < r->row_count; n++) {
@@ -53,6 +55,8 @@ static struct totals step_all(const struct recording *r, uint8_t *records, int w
             for (uint32_t i = 0; i < r->effect_count; i++) {
                 struct effect e = effects[i];
                 effects[i] = effect_after(e, r, &row, i);
+                if (sums) sums[EFFECT_NUMBERS * i + effects[i].state]++;
+                if (sums && effects[i].state == TRIPPED && e.state != TRIPPED) sums[EFFECT_NUMBERS * i + TRIPS]++;
                 if (effects[i].state == e.state) continue;
                 if (writing)
                     put_record(records + RECORD_BYTES * t.records, t.records, (uint32_t)t.scans, i + 1, e.state,
@@ -63,13 +67,19 @@ static struct totals step_all(const struct recording *r, uint8_t *records, int w
             row.reset = 0;
         }
     }
+    if (sums) sums[EXERCISED] = t.exercised;
     return t;
 }
 
-static struct totals run_writing(const struct recording *r, uint8_t *records) { return step_all(r, records, 1); }
-static struct totals run_counting(const struct recording *r, uint8_t *records) { return step_all(r, records, 0); }
+static struct totals run_writing(const struct recording *r, uint8_t *records) { return step_all(r, records, 1, NULL); }
+static struct totals run_counting(const struct recording *r, uint8_t *records) { return step_all(r, records, 0, NULL); }
+static void run_summing(const struct recording *r, uint64_t *sums) { step_all(r, NULL, 0, sums); }
 
 uint8_t stepping_replay(const uint8_t *recording, size_t length, uint8_t *records, size_t records_room, uint8_t *totals,
                         size_t totals_room) {
     return replay_by(run_writing, run_counting, recording, length, records, records_room, totals, totals_room);
+}
+
+uint8_t stepping_season(const uint8_t *recording, size_t length, uint8_t *report, size_t report_room) {
+    return season_by(run_summing, recording, length, report, report_room);
 }

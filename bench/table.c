@@ -1,7 +1,8 @@
 /*
- * The proved replay beside replays in plain C: that they agree to the byte, and what they take. bench/against_c builds and runs it.
+ * The proved replay and season totals beside those of plain C: that they agree to the byte, and what they take. bench/against_c builds
+ * and runs it.
  *
- *     table agree SEED COUNT      compares on COUNT random recordings, valid and damaged
+ *     table agree SEED COUNT      compares on COUNT random recordings, valid and damaged, and as many reports
  *     table measure SEED          prints the figures
  */
 #define _POSIX_C_SOURCE 199309L /* the monotonic clock */
@@ -13,8 +14,10 @@
 #include <time.h>
 
 typedef uint8_t check_function(const uint8_t *, size_t, uint8_t *, size_t);
+typedef uint8_t season_function(const uint8_t *, size_t, uint8_t *, size_t);
 typedef uint8_t replay_function(const uint8_t *, size_t, uint8_t *, size_t, uint8_t *, size_t);
 check_function plain_check;
+season_function plain_season, plain_words_season, stepping_season;
 replay_function plain_replay, plain_words_replay, stepping_replay;
 
 enum { MOST_ROOM = POHANDIRA_MOST_ROWS * POHANDIRA_ROW_RECORDS_BYTES };
@@ -121,7 +124,7 @@ static void damage(struct file *f, const struct plan *p) {
 
 /* ---- Agreement ---- */
 
-enum { OUTPUT = POHANDIRA_MOST_ROWS * POHANDIRA_ROW_RECORDS_BYTES + 64, SMALL = 128 };
+enum { OUTPUT = POHANDIRA_MOST_ROWS * POHANDIRA_ROW_RECORDS_BYTES + 64, SMALL = 128, MOST_NUMBER = 11 };
 
 struct output {
     unsigned number;
@@ -163,6 +166,44 @@ static void agree_on_replay(const struct file *f, struct output *proved, struct 
     }
 }
 
+enum { REPORT = POHANDIRA_REPORT_BYTES + 64, KINDS = 4 };
+
+/*
+ * Numbers to start from: an empty report, one far from the limit, one in which each number may pass it, and one in which one number
+ * may. A recording adds less than 2 to the 30 to a number.
+ */
+static void start_report(uint8_t *report) {
+    uint32_t kind = below(KINDS), full = below(POHANDIRA_REPORT_NUMBERS);
+    for (uint32_t k = 0; k < POHANDIRA_REPORT_NUMBERS; k++) {
+        uint64_t number = kind == 0 ? 0 : random64() >> 1;
+        if (kind == 2 || (kind == 3 && k == full)) number = UINT64_MAX - (random64() >> (33 + below(31)));
+        for (uint32_t i = 0; i < 8; i++) report[8 * k + i] = (uint8_t)(number >> (56 - 8 * i));
+    }
+    memset(report + POHANDIRA_REPORT_BYTES, 0x5a, REPORT - POHANDIRA_REPORT_BYTES);
+}
+
+/* The refusal number of the library. */
+static unsigned agree_on_season(const struct file *f, size_t room, int stepping) {
+    season_function *others[] = {plain_season, plain_words_season, stepping_season};
+    const char *names[] = {"plain C", "plain C by words", "stepping C"};
+    uint8_t start[REPORT], proved[REPORT], plain[REPORT];
+    start_report(start);
+    memcpy(proved, start, REPORT);
+    unsigned number = pohandira_season(f->bytes, f->length, proved, room);
+    for (int i = 0; i < (stepping ? 3 : 2); i++) {
+        memcpy(plain, start, REPORT);
+        if (number != others[i](f->bytes, f->length, plain, room)) differ(f, "the number of the season totals", names[i]);
+        if (memcmp(proved, plain, REPORT)) differ(f, "the season totals", names[i]);
+    }
+    return number;
+}
+
+static void print_numbers(const uint32_t numbers[MOST_NUMBER + 1]) {
+    for (int n = 1; n <= MOST_NUMBER; n++)
+        if (numbers[n]) printf(" %d: %u", n, numbers[n]);
+    printf("\n");
+}
+
 static struct plan random_plan(int *stepping) {
     struct plan p = {between(1, 16), between(1, 16), below(8), between(1, 1000), between(1, 60), 1, 1, one_in(2)};
     *stepping = 1;
@@ -178,7 +219,7 @@ static struct plan random_plan(int *stepping) {
 static int agree(uint32_t count) {
     struct file f = {allocated(POHANDIRA_MOST_BYTES + 64), 0};
     struct output proved = {0, allocated(OUTPUT), {0}}, plain = {0, allocated(OUTPUT), {0}};
-    uint32_t numbers[11] = {0};
+    uint32_t numbers[MOST_NUMBER + 1] = {0}, seasons[MOST_NUMBER + 1] = {0};
     for (uint32_t i = 0; i < count; i++) {
         int stepping;
         struct plan p = random_plan(&stepping);
@@ -192,11 +233,13 @@ static int agree(uint32_t count) {
         agree_on_replay(&f, &proved, &plain, used, records, 56, 0); /* just enough */
         if (records) agree_on_replay(&f, &proved, &plain, used, records - 1, 56, 0);
         agree_on_replay(&f, &proved, &plain, used, below((uint32_t)used), below(SMALL), 0);
+        size_t room = one_in(8) ? below(POHANDIRA_REPORT_BYTES) : between(POHANDIRA_REPORT_BYTES, REPORT);
+        seasons[agree_on_season(&f, room, stepping)]++;
     }
     printf("table: %u random recordings, all equal: %u replayed, refused by", count, numbers[0]);
-    for (int n = 1; n <= 10; n++)
-        if (numbers[n]) printf(" %d: %u", n, numbers[n]);
-    printf("\n");
+    print_numbers(numbers);
+    printf("table: season totals, all equal: %u added, refused by", seasons[0]);
+    print_numbers(seasons);
     return 0;
 }
 
@@ -204,7 +247,7 @@ static int agree(uint32_t count) {
 
 enum { FILES = 8, ROUNDS = 101, STEPPED_ROWS = 2, STEPPED_ROUNDS = 3 };
 
-static uint8_t *records, numbers[SMALL];
+static uint8_t *records, numbers[SMALL], report[POHANDIRA_REPORT_BYTES];
 
 static double now(void) {
     struct timespec time;
@@ -212,9 +255,10 @@ static double now(void) {
     return (double)time.tv_sec * 1e9 + (double)time.tv_nsec;
 }
 
-/* One thing that is timed over a set of recordings: a check or a replay. */
+/* One thing that is timed over a set of recordings: a check, season totals or a replay. */
 struct side {
     check_function *check;
+    season_function *season;
     replay_function *replay;
     uint32_t repeats;             /* in each round */
     double rounds[ROUNDS], least; /* nanoseconds a row */
@@ -225,6 +269,7 @@ static double pass(const struct side *s, const struct file *files, uint32_t repe
     for (uint32_t n = 0; n < repeats; n++)
         for (int i = 0; i < FILES; i++) {
             if (s->check) s->check(files[i].bytes, files[i].length, numbers, POHANDIRA_CHECK_BYTES);
+            else if (s->season) s->season(files[i].bytes, files[i].length, report, POHANDIRA_REPORT_BYTES);
             else s->replay(files[i].bytes, files[i].length, records, MOST_ROOM, numbers, POHANDIRA_TOTALS_BYTES);
         }
     return now() - start;
@@ -296,6 +341,19 @@ static void replay_line(const char *name, const struct file *files, uint32_t eff
     printf(" %.1f, %.1f |\n", sides[3].least, sides[4].least);
 }
 
+/* Season totals beside a replay of the same recordings. The report starts empty and takes what all rounds add. */
+static void season_line(const char *name, const struct file *files, uint32_t effects, uint32_t rows) {
+    struct side sides[] = {{.season = pohandira_season}, {.replay = pohandira_replay}, {.season = plain_season},
+                           {.season = plain_words_season}};
+    memset(report, 0, sizeof report);
+    measure(sides, 4, files, rows);
+    printf("| %s | %u | %.1f | %.1f |", name, effects, sides[0].least, sides[1].least);
+    print_ratio(&sides[0], &sides[1]);
+    printf(" %.1f | %.1f |", sides[2].least, sides[3].least);
+    print_ratio(&sides[0], sides[2].least < sides[3].least ? &sides[2] : &sides[3]);
+    printf("\n");
+}
+
 /* A hold of 1,000,000 by single scans, over few rows and in few rounds. */
 static void stepping_line(struct file *files, uint64_t with_seed, uint32_t effects) {
     struct side proved = {.replay = pohandira_replay}, stepping = {.replay = stepping_replay};
@@ -346,6 +404,15 @@ static int measure_all(uint64_t with_seed) {
         snprintf(name, sizeof name, "%u", held[i]);
         replay_line(name, files, 16, 512);
     }
+    printf("\nSeason totals, the same words whatever the hold, 512 rows, ns a row, reading included:\n\n");
+    printf("| hold | effects | proved | proved replay | ratio to it | of rounds: least, median, most | plain C | by words | ratio to C | "
+           "of rounds: least, median, most |\n|---|---|---|---|---|---|---|---|---|---|\n");
+    for (int e = 0; e < 3; e++)
+        for (int i = 0; i < 3; i++) {
+            make_files(files, with_seed, effects[e], 512, held[i], held[i]);
+            snprintf(name, sizeof name, "%u", held[i]);
+            season_line(name, files, effects[e], 512);
+        }
     printf("\nA hold of 1,000,000 beside stepping through it in C, 2 rows, ns a row:\n\n");
     printf("| effects | proved | stepping | times faster |\n|---|---|---|---|\n");
     for (int e = 0; e < 3; e++) stepping_line(files, with_seed, effects[e]);
