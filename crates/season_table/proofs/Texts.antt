@@ -10,7 +10,7 @@ use Rattle.bits.proofs.Decimal.{length-of-64-bits}
 use Rattle.text.specs.Pieces.{total}
 use Rattle.tally.specs.Tally.{sumsOfEffect, stateSum}
 use Rattle.rules.specs.declared.EffectState.the-variants.{Tripped, WaitReset, Ready, WaitStart, Normal, Delayed}
-use Rattle.season_table.specs.Lines.{stood, trips, effectLine, effectLines, closingLine}
+use Rattle.season_table.specs.Lines.{scansText, tripsText, effectLine, effectLines, closingLine}
 use Rattle.season_table.specs.Pieces.{spaced, sumsText, mostClosing}
 
 -- ## The line of an effect
@@ -30,7 +30,7 @@ module _ (sums : List ℕ) (i : ℕ) where
   unfolding effectLine sumsText
   line-pieces =
       sym
-      (regrouped (decimal (i + 1)) (ascii " ") (ascii "\n") (stood sums i Tripped) (stood sums i WaitReset) (stood sums i Ready) (stood sums i WaitStart) (stood sums i Normal) (stood sums i Delayed) (trips sums i))
+      (regrouped (decimal (i + 1)) (ascii " ") (ascii "\n") (scansText sums i Tripped) (scansText sums i WaitReset) (scansText sums i Ready) (scansText sums i WaitStart) (scansText sums i Normal) (scansText sums i Delayed) (tripsText sums i))
 
 pub one-line-more : (sums : List ℕ) (n : ℕ) → effectLines sums (n + 1) ≡ effectLines sums n ++ effectLine sums n
 unfolding effectLines

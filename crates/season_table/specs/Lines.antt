@@ -15,18 +15,18 @@ use Rattle.season_table.specs.declared.Table.{Table}
 unfoldable pub tableHeader : List ℕ
 tableHeader = ascii "effect tripped wait-reset ready wait-start normal delayed trips\n"
 
--- the scans after which the effect in slot i stood in a state, and its changes into Tripped
-abbrev pub stood : (sums : List ℕ) (i : ℕ) → EffectState → List ℕ
-stood sums i p = decimal (getD sums (stateSum i (code p)) 0)
+-- in text: the scans after which the effect in slot i stood in a state, and its changes into Tripped
+abbrev pub scansText : (sums : List ℕ) (i : ℕ) → EffectState → List ℕ
+scansText sums i p = decimal (getD sums (stateSum i (code p)) 0)
 
-abbrev pub trips : (sums : List ℕ) (i : ℕ) → List ℕ
-trips sums i = decimal (getD sums (tripSum i) 0)
+abbrev pub tripsText : (sums : List ℕ) (i : ℕ) → List ℕ
+tripsText sums i = decimal (getD sums (tripSum i) 0)
 
 -- the line of the effect in slot i: slots count from 0, and effects from 1
 unfoldable pub effectLine : (sums : List ℕ) (i : ℕ) → List ℕ
 effectLine sums i =
     lineOf
-    (decimal (i + 1) ∷ stood sums i Tripped ∷ stood sums i WaitReset ∷ stood sums i Ready ∷ stood sums i WaitStart ∷ stood sums i Normal ∷ stood sums i Delayed ∷ trips sums i ∷ [])
+    (decimal (i + 1) ∷ scansText sums i Tripped ∷ scansText sums i WaitReset ∷ scansText sums i Ready ∷ scansText sums i WaitStart ∷ scansText sums i Normal ∷ scansText sums i Delayed ∷ tripsText sums i ∷ [])
 
 -- the lines of the first n effects
 unfoldable pub effectLines : (sums : List ℕ) (n : ℕ) → List ℕ

@@ -61,12 +61,12 @@ codeIn t i = getD (t .stretches) (mostEffects + i) 0
 -- ## A stretch ends
 
 -- a sum grows
-abbrev pub grown : List ℕ → (k more : ℕ) → List ℕ
-grown sums k more = set sums k (getD sums k 0 + more)
+abbrev pub raised : List ℕ → (k more : ℕ) → List ℕ
+raised sums k more = set sums k (getD sums k 0 + more)
 
 -- the sums where the stretch of slot i ends with scan number c: the sum of its state grows by its length
 abbrev pub closedAt : (i c : ℕ) → Count → List ℕ
-closedAt i c t = grown (t .sums) (stateSum i (codeIn t i)) (c - sinceOf t i)
+closedAt i c t = raised (t .sums) (stateSum i (codeIn t i)) (c - sinceOf t i)
 
 -- a stretch can be closed: its slot and state are such, and the sum fits
 pub record Closable (i c : ℕ) (t : Count) : Type 0 where
@@ -92,7 +92,7 @@ slotOf e = e .effect - 1
 abbrev pub countEvent : Event → Count → Count
 countEvent e t =
     record {
-      sums = grown (closedAt (slotOf e) (e .scan - 1) t) (tripSum (slotOf e)) (one (same (e .to) Tripped));
+      sums = raised (closedAt (slotOf e) (e .scan - 1) t) (tripSum (slotOf e)) (one (same (e .to) Tripped));
       stretches = set (set (t .stretches) (slotOf e) (e .scan - 1)) (mostEffects + slotOf e) (code (e .to));
     }
 
