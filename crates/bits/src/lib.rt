@@ -43,17 +43,11 @@ pub fn within(word: u16, n: u8) -> bool
     }
 }
 
-// How many bits of the word are set, counted bit by bit. The bound is in the contract, so that a caller need not show it.
+// How many bits of the word are set. The bound is in the contract, so that a caller need not show it.
 pub fn count_bits(word: u16) -> u32
     ensures { λ r. ⌜ (r ≡ ones word) × (r ≤ 16) ⌝ }
 {
-    let mut rest = word;
-    let mut count: u32 = 0;
-    while 0 < rest {
-        count += (rest % 2) as u32;
-        rest = rest / 2;
-    }
-    count
+    u16::count_ones(word)
 }
 
 // ---- choices and differences

@@ -60,6 +60,7 @@ entry-points κ0 κ1 κ2 κ3 =
       row-number = record { nothing-asked = λ a. tt; says = λ a r e h. (h, refl) };
       words-number = record { nothing-asked = λ a. tt; says = λ a r e h. (h, refl) };
       known-of = record { nothing-asked = λ a. tt; says = λ a r e h. (h, refl) };
+      is-several = record { nothing-asked = λ a. tt; says = λ a r e h. (h, refl) };
       forces-count = record { nothing-asked = λ a. tt; says = λ a r e h. (h, refl) };
       bad-trip = record { nothing-asked = λ a. tt; says = λ a r e h. (h, refl) };
       most-hold = record { nothing-asked = λ a. tt; says = λ a r e h. (h, refl) };

@@ -204,8 +204,7 @@ fn has_only(word: u16, n: u16) -> bool
 fn is_permitted(options: u8, w: Words) -> bool
     ensures { λ r. ⌜ r ≡ permitted options w ⌝ }
 {
-    bits::bit(options as u16, SEVERAL_BIT)
-        | !(1 < bits::count_bits(w.force_trip) + bits::count_bits(w.force_normal))
+    bits::bit(options as u16, SEVERAL_BIT) | !settings::is_several(w)
 }
 
 // The force words together. Where nothing is wrong with the row itself, it ends too late.

@@ -204,8 +204,8 @@ fn apart_number(w: Words) -> u8
     if is_apart(w) { 0 } else { 5 }
 }
 
-// The two force words hold more than one bit together.
-fn is_several(w: Words) -> bool
+// The two force words hold more than one bit together. Whoever asks for a refusal number, or why it is given, counts here.
+pub fn is_several(w: Words) -> bool
     ensures { λ r. ⌜ r ≡ several w ⌝ }
 {
     1 < bits::count_bits(w.force_trip) + bits::count_bits(w.force_normal)

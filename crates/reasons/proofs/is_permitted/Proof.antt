@@ -4,14 +4,7 @@ use Rattle.reasons.proofs.is_permitted.Statement.{statement}
 use Rattle.reasons.proofs.is_permitted.Tie as tie
 
 returns : tie.Need-returns
-returns c = rw (c .before .before .bit .ensures, c .count-bits2 .ensures .0, c .before .count-bits .ensures .0)
+returns c = rw (c .before .bit .ensures, c .is-several .ensures)
 
 pub is-permitted-spec : {M : Type 1} → statement M
-is-permitted-spec =
-    tie.close
-    (tie.spec
-    (λ c κs. search needs)
-    (λ c κs. search needs)
-    (λ c κs. search needs)
-    (λ c. search needs)
-    returns)
+is-permitted-spec = tie.close (tie.spec (λ c κs. search needs) (λ c κs. search needs) returns)
