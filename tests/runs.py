@@ -18,6 +18,7 @@ ROOT = pathlib.Path(__file__).resolve().parent.parent
 SECOND = ROOT / "second" / "target" / "release" / "second"
 COUNT = 10_000  # of fresh recordings in one call
 REPLAYS = 10  # one in so many is of the stream of replays, whose recordings are longer
+PAIRS = 992  # of forces: 120 pairs of effects in four ways and 16 effects twice, each by two options
 TIME_LIMIT = 60  # seconds for one run
 PAUSE = 0.3  # seconds between two pieces of a recording
 LONGEST_NAME = 255  # bytes of a file's name
@@ -228,16 +229,26 @@ def made(kind, seed, count):
     return list(files_of(second(["make", kind, str(seed), str(count)])[0]))
 
 
-def put_fresh(command, seed, count):
-    """So many fresh recordings in the folder, about half of them damaged; their names and bytes."""
-    replays = count // REPLAYS
-    files = made("recording", seed, count - replays) + made("replay", seed, replays)
+def put_numbered(command, files, count):
+    """The files, so many, in the folder; their names and bytes."""
     if len(files) != count:
         raise Failure(f"{len(files)} recordings were made, not {count}")
     named = {b"%d.rec" % number: file for number, file in enumerate(files, 1)}
     for name, file in named.items():
         put(command, name, file)
     return named
+
+
+def put_fresh(command, seed, count):
+    """So many fresh recordings in the folder, about half of them damaged."""
+    replays = count // REPLAYS
+    files = made("recording", seed, count - replays) + made("replay", seed, replays)
+    return put_numbered(command, files, count)
+
+
+def put_pairs(command):
+    """A recording of each pair of forces, without and with option bit 2, in the folder."""
+    return put_numbered(command, list(files_of(second(["pairs", "recording"])[0])), PAIRS)
 
 
 # ---- Options that every command has ----

@@ -11,6 +11,7 @@ pub mod cases;
 pub mod make;
 pub mod make_files;
 pub mod make_filled;
+pub mod make_pairs;
 pub mod make_replays;
 pub mod make_runs;
 pub mod make_season;

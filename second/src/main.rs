@@ -1,10 +1,11 @@
-//! `second answer|make|show KIND ...`, `second replay`, `second show FILE` and
+//! `second answer|make|pairs|show KIND ...`, `second replay`, `second show FILE` and
 //! `second check|explain|summary|season NAME...`: see `USAGE`.
 
 use second::answers::{refusal_line, Question};
 use second::cases::{answer_next, Kind, Stream};
 use second::make::{filled_stream, stream_of};
 use second::make_filled::FILLED_BUFFERS;
+use second::make_pairs::pairs_stream;
 use second::replay::{replay, ENOUGH_BYTES};
 use second::season::Season;
 use second::show::show_next;
@@ -20,6 +21,7 @@ const USAGE: &str = "usage:
   second replay < recording > listing
   second answer scan|held|recording|writing|replay|season < cases > answers
   second make scan|held|recording|writing|replay|season SEED COUNT > cases
+  second pairs scan|held|recording|writing|replay|season > a case of every pair of forces
   second fill BUFFER SEED COUNT > replay cases
   second show scan|held|recording|writing|replay|season < cases
   second show FILE > a recording in words; - is standard input, ./scan a file of that name
@@ -101,6 +103,10 @@ fn number<N: FromStr>(name: &str, word: &str) -> Result<N, String> {
 fn make(kind: Kind, seed: &str, count: &str, out: &mut impl Write) -> Result<(), String> {
     let (seed, count) = (number("seed", seed)?, number("count", count)?);
     written(out.write_all(&stream_of(kind, seed, count)))
+}
+
+fn make_pairs(kind: Kind, out: &mut impl Write) -> Result<(), String> {
+    written(out.write_all(&pairs_stream(kind)))
 }
 
 /// Replay cases for a printing buffer of so many bytes.
@@ -217,6 +223,7 @@ fn work(given: &[OsString], out: &mut impl Write) -> Result<u8, String> {
         ["answer", kind] => answer(kind_of(kind)?, out)?,
         ["show", _] => status = show_kind_or_file(&given[1], out)?,
         ["make", kind, seed, count] => make(kind_of(kind)?, seed, count, out)?,
+        ["pairs", kind] => make_pairs(kind_of(kind)?, out)?,
         ["fill", buffer, seed, count] => fill(buffer, seed, count, out)?,
         ["season", ..] => status = season(&given[1..], out)?,
         [question, ..] => status = ask(question_of(question)?, &given[1..], out)?,

@@ -517,7 +517,7 @@ fn opening_length(effects: u8) -> u16 {
     10 + 6 * u16::from(effects)
 }
 
-fn plain_writing(causes: u8, effects: u8) -> WritingCase {
+pub fn plain_writing(causes: u8, effects: u8) -> WritingCase {
     let settings = plain_settings(causes, effects);
     WritingCase {
         settings,

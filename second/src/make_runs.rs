@@ -89,7 +89,7 @@ fn plain_words(settings: &Settings) -> Words {
 }
 
 /// A valid case in which the effects stand in all states (never Delayed without a delay).
-fn plain(causes: u8, effects: u8) -> RunCase {
+pub fn plain(causes: u8, effects: u8) -> RunCase {
     let settings = plain_settings(causes, effects);
     let mut case = RunCase {
         settings,

@@ -5,6 +5,7 @@ use second::block::{deciding_rule, step, Inputs, Phase, Words, RECORD_BYTES};
 use second::cases::{answer_writing, call_run, lent, written_back, Kind, RunCase};
 use second::make::Named;
 use second::make_files::{file_cases, writing_cases};
+use second::make_pairs::{pairs, Pair};
 use second::make_runs::{run_cases, ORDER};
 use second::recording::read;
 use second::replay::{replay, Totals};
@@ -308,16 +309,20 @@ fn largest_recordings_stand_in_long_streams_alone() {
     assert_eq!(sizes(1999), []);
 }
 
+/// The numbers of the opening and of the row in the answer to a writing case.
+fn writing_numbers(answer: &str) -> [u8; 2] {
+    let parts: Vec<&str> = answer.trim_end_matches('\n').split(' ').collect();
+    assert_eq!(parts.len(), 4);
+    let number = |part: &str| u8::from_str_radix(&part[..2], 16).expect("a number");
+    [number(parts[0]), number(parts[2])]
+}
+
 #[test]
 fn planted_writings_are_answered() {
     let mut openings = BTreeSet::new();
     let mut rows = BTreeSet::new();
     for (index, named) in writing_cases(1, 1000).iter().enumerate() {
-        let answer = answer_writing(&named.case);
-        let parts: Vec<&str> = answer.trim_end_matches('\n').split(' ').collect();
-        assert_eq!(parts.len(), 4);
-        let number = |part: &str| u8::from_str_radix(&part[..2], 16).expect("a number");
-        let numbers = [number(parts[0]), number(parts[2])];
+        let numbers = writing_numbers(&answer_writing(&named.case));
         openings.insert(numbers[0]);
         rows.insert(numbers[1]);
         if let Some(planted) = &named.planted {
@@ -340,5 +345,33 @@ fn named_cases_leave_room_for_random_ones() {
         let random = cases.iter().filter(|named| named.planted.is_none()).count();
         assert_eq!(cases.len(), count);
         assert!(random >= 300, "{random} random cases of {count}");
+    }
+}
+
+/// Document 01: an effect in both force words is 5; two forced without option bit 2 are 6.
+fn due(pair: &Pair) -> u8 {
+    match (pair.force_trip == pair.force_normal, pair.options) {
+        (true, _) => 5,
+        (false, 0) => 6,
+        (false, _) => 0,
+    }
+}
+
+/// 120 pairs of effects, each in four ways, and 16 effects with themselves; both options.
+#[test]
+fn every_pair_of_forces_is_there_and_is_answered() {
+    let different: BTreeSet<Pair> = pairs().into_iter().collect();
+    assert_eq!((pairs().len(), different.len()), (992, 992));
+    for pair in pairs() {
+        let ones = pair.force_trip.count_ones() + pair.force_normal.count_ones();
+        assert_eq!(ones, 2, "{pair:?}");
+        for kind in [Kind::Scan, Kind::Held] {
+            let (answer, _) = call_run(kind, &pair.run_case(kind));
+            assert_eq!(answer.number, due(&pair), "{kind:?} {pair:?}");
+        }
+        let numbers = writing_numbers(&answer_writing(&pair.writing_case()));
+        assert_eq!(numbers, [0, due(&pair)], "{pair:?}");
+        let number = read(&pair.file()).map_or_else(|refusal| refusal.number, |_| 0);
+        assert_eq!(number, due(&pair), "{pair:?}");
     }
 }
