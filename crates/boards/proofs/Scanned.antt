@@ -1,6 +1,6 @@
 -- The records of a scan by words are those of the slots.
 use mathlib.Core.Path.{_≡_, refl, ap, ap₂, sym, _∙_}
-use mathlib.Core.Bool.{Bool, true, false, cond}
+use mathlib.Core.Bool.{Bool, true, false, cond, _||_}
 use mathlib.Core.List.{List, [], _∷_, _++_, flatMap, append-nil, append-assoc}
 use Prim.Native.Nat.{ℕ, zero, suc, _+_, _*_, _%_, _^_, _<_, _≤_}
 use native.Mathlib.Nat.{le-of-suc-le-suc, not-suc-le-zero, lt-of-lt-of-le, add-zero, add-suc, suc-add, mod-eq-of-lt}
@@ -11,7 +11,7 @@ use lib.Pow.{pow-mono}
 use Rattle.bits.specs.Lists.{tabulate}
 use Rattle.bits.specs.Words.{bitOf, wordOf, one}
 use Rattle.bits.proofs.Lists.{length-tabulate, flatMap-snoc}
-use Rattle.bits.proofs.Words.{wordOf-lt, one-wordOf, bit-wordOf, bit-past}
+use Rattle.bits.proofs.Words.{wordOf-lt, one-wordOf, bit-wordOf, bit-past, or-word}
 use Rattle.rules.specs.declared.EffectState.{EffectState}
 use Rattle.rules.specs.declared.EffectState.the-variants.{Tripped, WaitReset, Ready, WaitStart, Normal, Delayed}
 use Rattle.rules.specs.declared.Slot.{Slot}
@@ -28,27 +28,29 @@ use Rattle.boards.proofs.Picked.{picked-none, picked-yes, picked-no}
 use Rattle.boards.proofs.Records.{joined-snoc, entries-rest}
 use Rattle.boards.proofs.Step.{padded-at}
 
--- ## The number of a state
+-- ## The code of a state
 
-code-sum : (p : EffectState)
-    → one (same p WaitReset) + 2 * one (same p Ready) + 3 * one (same p WaitStart) + 4 * one (same p Normal) + 5 * one (same p Delayed) ≡ code p
-code-sum Tripped = refl
-code-sum WaitReset = refl
-code-sum Ready = refl
-code-sum WaitStart = refl
-code-sum Normal = refl
-code-sum Delayed = refl
+code-bits : (p : EffectState)
+    → one ((same p WaitReset || same p WaitStart) || same p Delayed) + 2 * one (same p Ready || same p WaitStart) + 4 * one (same p Normal || same p Delayed) ≡ code p
+code-bits Tripped = refl
+code-bits WaitReset = refl
+code-bits Ready = refl
+code-bits WaitStart = refl
+code-bits Normal = refl
+code-bits Delayed = refl
 
 code-word : (n : ℕ) (f : ℕ → EffectState) (i : ℕ) → i < n → codeAt (planesOf n f) i ≡ code (f i)
 unfolding codeAt planesOf
 code-word n f i k =
     rw (
-      one-wordOf (λ j. same (f j) WaitReset) n i k,
-      one-wordOf (λ j. same (f j) Ready) n i k,
-      one-wordOf (λ j. same (f j) WaitStart) n i k,
-      one-wordOf (λ j. same (f j) Normal) n i k,
-      one-wordOf (λ j. same (f j) Delayed) n i k,
-    ) (code-sum (f i))
+      or-word (λ j. same (f j) WaitReset) (λ j. same (f j) WaitStart) n,
+      or-word (λ j. same (f j) WaitReset || same (f j) WaitStart) (λ j. same (f j) Delayed) n,
+      or-word (λ j. same (f j) Ready) (λ j. same (f j) WaitStart) n,
+      or-word (λ j. same (f j) Normal) (λ j. same (f j) Delayed) n,
+      one-wordOf (λ j. (same (f j) WaitReset || same (f j) WaitStart) || same (f j) Delayed) n i k,
+      one-wordOf (λ j. same (f j) Ready || same (f j) WaitStart) n i k,
+      one-wordOf (λ j. same (f j) Normal || same (f j) Delayed) n i k,
+    ) (code-bits (f i))
 
 -- ## The recursions on lists, with one element more at the end
 

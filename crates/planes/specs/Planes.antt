@@ -98,9 +98,12 @@ changedOf p q =
 abbrev pub oneOf : ℕ → ℕ → ℕ
 oneOf w i = w / 2 ^ i % 2
 
--- the code of effect i's state
+-- the code of effect i's state, bit by bit: the lowest is set in Wait-reset, Wait-start and Delayed, the next in Ready and Wait-start, the
+-- highest in Normal and Delayed
 unfoldable pub codeAt : Planes → ℕ → ℕ
-codeAt p i = oneOf (p .«wait_reset») i + 2 * oneOf (p .ready) i + 3 * oneOf (p .«wait_start») i + 4 * oneOf (p .normal) i + 5 * oneOf (p .delayed) i
+codeAt p i =
+    oneOf (bitOr (bitOr (p .«wait_reset») (p .«wait_start»)) (p .delayed)) i + 2 * oneOf (bitOr (p .ready) (p .«wait_start»)) i
+    + 4 * oneOf (bitOr (p .normal) (p .delayed)) i
 
 -- effect i's state
 unfoldable pub stateAt : Planes → ℕ → EffectState

@@ -82,14 +82,12 @@ fn one_bit(w: u16, i: usize) -> u8
     ((w >> i) % 2) as u8
 }
 
-// The code of effect i's state.
+// The code of effect i's state, bit by bit: three words give it, which are the same for every effect of a scan.
 pub fn code_at(p: Planes, i: usize) -> u8
     requires { ⌜ i < 16 ⌝ }
     ensures { λ r. ⌜ r ≡ codeAt p i ⌝ }
 {
-    one_bit(p.wait_reset, i)
-        + 2 * one_bit(p.ready, i)
-        + 3 * one_bit(p.wait_start, i)
-        + 4 * one_bit(p.normal, i)
-        + 5 * one_bit(p.delayed, i)
+    one_bit(p.wait_reset | p.wait_start | p.delayed, i)
+        + 2 * one_bit(p.ready | p.wait_start, i)
+        + 4 * one_bit(p.normal | p.delayed, i)
 }

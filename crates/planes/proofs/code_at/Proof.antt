@@ -6,19 +6,13 @@ use Rattle.planes.proofs.code_at.Tie as tie
 
 returns : tie.Need-returns
 unfolding codeAt
-returns c = rw (c .one-bit5 .ensures .0, c .before .one-bit4 .ensures .0, c .before .before .one-bit3 .ensures .0, c .before .before .before .one-bit2 .ensures .0, c .before .before .before .before .one-bit .ensures .0)
+returns c = rw (c .one-bit3 .ensures .0, c .before .before .one-bit2 .ensures .0, c .before .before .before .before .one-bit .ensures .0)
 
 pub code-at-spec : {M : Type 1} → statement M
 code-at-spec =
     tie.close
     (tie.spec
     (λ c κs. search needs)
-    (λ c κs. search needs)
-    (λ c. search needs)
-    (λ c. search needs)
-    (λ c κs. search needs)
-    (λ c. search needs)
-    (λ c. search needs)
     (λ c κs. search needs)
     (λ c. search needs)
     (λ c. search needs)
