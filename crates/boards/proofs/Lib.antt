@@ -9,5 +9,6 @@ pub mod Records
 pub mod Rest
 pub mod Scanned
 pub mod Slots
+pub mod Steady
 pub mod Step
 pub mod Turn

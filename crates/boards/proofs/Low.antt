@@ -1,13 +1,15 @@
 -- The least value of those that pass a test.
 use mathlib.Core.Path.{_≡_, refl, ap, sym, _∙_}
-use mathlib.Core.Bool.{Bool, cond}
+use mathlib.Core.Bool.{Bool, true, false, cond, _&&_}
 use Prim.Native.Nat.{ℕ, zero, suc, _+_, _-_, _/_, _^_, min, _<_, _≤_}
 use native.Mathlib.Nat.{le-div-iff-mul-le, le-trans, mul-le-mul}
 use native.Mathlib.Numerals.{add-one}
 use native.Mathlib.Omega.{arith}
 use lib.Bits.{bitAnd}
 use lib.Count.{trailingZeros}
-use Rattle.bits.specs.Words.{bitOf}
+use lib.Dec.{leb}
+use borrow.Author.Tests.{lt-leb}
+use Rattle.bits.specs.Words.{bitOf, wordOf}
 use Rattle.bits.proofs.Words.{bit-none}
 use Rattle.rules.specs.Limits.{mostHold, mostPeriod}
 use Rattle.boards.specs.Table.{lowTo}
@@ -41,6 +43,23 @@ no-least t (suc n) = rw (bit-none n) (no-least t n)
 pub none-low : (m period delayed n : ℕ) (t : ℕ → ℕ) → m ≤ mostHold → 0 < period → period ≤ mostPeriod → delayed ≡ 0
     → min m ((lowTo (bitOf delayed) t n - 1) / period) ≡ m
 none-low m period delayed n t most pos short e = rw (e, no-least t n) (uncapped m period most pos short)
+
+-- ## No timer is due
+
+-- one effect more: where its timer is above the period, or it is not in the word, it is not due
+none-more : (b : Bool) (due low t period bit : ℕ) → period < cond b (min low t) low → (period < low → due ≡ 0) → due + cond (b && leb t period) bit 0 ≡ 0
+none-more true due low t period bit h g =
+    let z = g (omega arith) in
+    rw (lt-leb t period (omega arith)) (omega (arith, z))
+none-more false due low t period bit h g =
+    let z = g h in
+    omega (arith, z)
+
+-- where the least timer is above the period, no effect is due
+pub none-due : (f : ℕ → Bool) (t : ℕ → ℕ) (period n : ℕ) → period < lowTo f t n → wordOf (λ i. f i && leb (t i) period) n ≡ 0
+unfolding lowTo wordOf
+none-due f t period zero h = refl
+none-due f t period (suc n) h = none-more (f n) (wordOf (λ i. f i && leb (t i) period) n) (lowTo f t n) (t n) period (2 ^ n) h (none-due f t period n)
 
 -- ## The least at the set bits of a word
 

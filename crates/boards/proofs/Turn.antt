@@ -25,9 +25,10 @@ use Rattle.rounds.proofs.Effects.{timed-tabulate}
 use Rattle.rounds.proofs.Held.{due}
 use Rattle.planes.specs.declared.Asked.{Asked}
 use Rattle.boards.specs.Board.{Board, entriesOf, scanned, later, unset, signalsBy, signalsIn, runOf, Right, boardOf}
-use Rattle.boards.specs.Table.{Table, Settled, Within, tableOf, tableAfter, quietsBy, slotsOf, padded, joined, entriesTo}
+use Rattle.boards.specs.Table.{Table, Settled, Within, Steady, tableOf, tableAfter, quietsBy, slotsOf, padded, joined, entriesTo}
 use Rattle.planes.specs.Planes.{planesOf, changedOf, askedOf}
 use Rattle.planes.proofs.ByWord.{changed-word}
+use Rattle.boards.proofs.Steady.{steady-states}
 use Rattle.boards.proofs.Step.{Sees, table-step, table-middle}
 use Rattle.boards.proofs.Rest.{settled-after, settled-later}
 use Rattle.boards.proofs.Quiet.{live-word, quiets-word, later-word}
@@ -181,6 +182,11 @@ module _ {n : ℕ} {associations delays : List ℕ} {period tripped hold : ℕ} 
 
   pub within-then : Within n (scanned n associations delays period tripped w x .table .planes)
   within-then = rw (h .shown, h .asked, scan-here) (within-shown n q)
+
+  -- what a scan does not change stays
+  pub steady : Steady n (x .table .planes) (scanned n associations delays period tripped w x .table .planes)
+  unfolding tableOf
+  steady = rw (h .shown, h .asked, scan-here) (steady-states n (h .few) _ _)
 
   -- what has to rest after a scan rests
   pub settled-scanned : Settled n (scanned n associations delays period tripped w x .table)

@@ -80,6 +80,14 @@ pub record Settled (n : ℕ) (b : Table) : Type 0 where
 abbrev pub Within : ℕ → Planes → Type 0
 Within n p = (p .delayed < 2 ^ n) × (p .normal < 2 ^ n)
 
+-- from p to q, an effect that is not among the changed ones stays in Delayed and in Normal, or out of them, and one that has changed to
+-- Delayed was not there before
+pub record Steady (n : ℕ) (p q : Planes) : Type 0 where
+  pub inside : changedOf p q < 2 ^ n
+  pub delayed : (i : ℕ) → i < n → bitOf (changedOf p q) i ≡ false → bitOf (p .delayed) i ≡ bitOf (q .delayed) i
+  pub normal : (i : ℕ) → i < n → bitOf (changedOf p q) i ≡ false → bitOf (p .normal) i ≡ bitOf (q .normal) i
+  pub entered : (i : ℕ) → i < n → bitOf (changedOf p q) i ≡ true → bitOf (q .delayed) i ≡ true → bitOf (p .delayed) i ≡ false
+
 -- ## The slots, as words
 
 -- f 0, f 1, .. of n effects, and 0 for the rest of the sixteen

@@ -1,2 +1,3 @@
 pub mod Array
+pub mod Changed
 pub mod Loaded

@@ -10,12 +10,11 @@ ghost use mathlib.Core.Path.{_≡_};
 ghost use Prim.Native.Nat.{_-_, _*_, _^_, _<_, _≤_, min};
 ghost use lib.Count.{trailingZeros};
 ghost use lib.ListN.{getD};
-ghost use lib.Seq.{sets};
-ghost use Rattle.bits.specs.Lists.{tabulate};
 ghost use Rattle.bits.specs.Words.{bitOf, wordOf};
 ghost use Rattle.rules.specs.Limits.{mostHold, mostPeriod};
-ghost use Rattle.boards.specs.Table.{activeAt, dueIn, timerBy, firstBy, Still, Blank, lowTo};
-ghost use Rattle.cells.specs.Array.{associationsIn, delaysIn, timersIn, firstsIn, timersAt, firstsAt};
+ghost use Rattle.boards.specs.Table.{activeAt, dueIn, Still, lowTo};
+ghost use Rattle.cells.specs.Array.{associationsIn, timersIn};
+ghost use Rattle.cells.specs.Changed.{fallen, settledAt};
 
 // What stays the same from row to row: the number of effects, the scan period, the options, and words of effects and causes: all
 // effects, those with a delay, and the causes that any effect watches.
@@ -64,7 +63,7 @@ pub fn active_word(count: usize, board: &[u32; 64], tripped: u16) -> u16
 }
 
 // The effects in Delayed whose timer is at most the period. Nothing asks this of the other effects.
-pub fn due_of(board: &[u32; 64], plan: Plan, delayed: u16) -> u16
+fn due_of(board: &[u32; 64], plan: Plan, delayed: u16) -> u16
     requires { ⌜ (plan .count ≤ 16) × (delayed < 2 ^ plan .count) ⌝ }
     ensures { λ r. ⌜ r ≡ wordOf (dueIn (timersIn (now (board .entry))) (plan .period) delayed) (plan .count) ⌝ }
 {
@@ -78,39 +77,53 @@ pub fn due_of(board: &[u32; 64], plan: Plan, delayed: u16) -> u16
     word
 }
 
-// ---- timers and first-outs
-
-// The timers after a scan, in place. was, is: the effects in Delayed before it and after it.
-pub fn set_timers(board: &mut [u32; 64], plan: Plan, was: u16, is: u16)
-    requires { ⌜ (plan .count ≤ 16) × (was < 2 ^ plan .count) × (is < 2 ^ plan .count) × Still (plan .count) was (timersIn (now board)) ⌝ }
-    ensures { λ _. ⌜ now (board .exit) ≡ sets (now (board .entry)) timersAt (tabulate (timerBy (timersIn (now (board .entry))) (delaysIn (now (board .entry))) (plan .period) was is) (plan .count)) ⌝ }
+// The same, where the least timer of the effects in Delayed is known: mostly it is above the period, and the loop is left out.
+pub fn due_by(board: &[u32; 64], plan: Plan, delayed: u16, low: u32) -> u16
+    requires { ⌜ (plan .count ≤ 16) × (delayed < 2 ^ plan .count) × (low ≡ lowTo (bitOf delayed) (λ i. getD (timersIn (now board)) i 0) (plan .count)) ⌝ }
+    ensures { λ r. ⌜ r ≡ wordOf (dueIn (timersIn (now (board .entry))) (plan .period) delayed) (plan .count) ⌝ }
 {
-    let mut rest = was | is;
+    if plan.period < low {
+        return 0;
+    }
+    due_of(board, plan, delayed)
+}
+
+// ---- a scan
+
+// The timers of the effects in Delayed after one scan, in place, whatever the scan changes. The answer is the effects that were due in it,
+// as of `due_of`: both are read in one loop.
+pub fn tick(board: &mut [u32; 64], plan: Plan, delayed: u16) -> u16
+    requires { ⌜ (plan .count ≤ 16) × (delayed < 2 ^ plan .count) × Still (plan .count) delayed (timersIn (now board)) ⌝ }
+    ensures { λ r. ⌜ r ≡ wordOf (dueIn (timersIn (now (board .entry))) (plan .period) delayed) (plan .count) ⌝ }
+    ensures { λ _. ⌜ now (board .exit) ≡ fallen (plan .count) (plan .period) (now (board .entry)) ⌝ }
+{
+    let mut word: u16 = 0;
+    let mut rest = delayed;
     while 0 < rest {
         let i = lowest(rest);
         let t = board[TIMERS + i];
-        let d = board[DELAYS + i];
-        board[TIMERS + i] = bits::pick32(
-            bits::bit(is, i),
-            bits::pick32(bits::bit(was, i), bits::minus(t, plan.period), d),
-            0,
-        );
+        word = bits::put_bit(word, i, t <= plan.period);
+        board[TIMERS + i] = bits::minus(t, plan.period);
         rest &= rest - 1;
     }
+    word
 }
 
-// The first-outs after a scan, in place. was, is: the effects in Normal before it and after it.
-pub fn set_firsts(board: &mut [u32; 64], count: usize, tripped: u16, was: u16, is: u16)
-    requires { ⌜ (count ≤ 16) × (was < 2 ^ count) × (is < 2 ^ count) × Blank count was (firstsIn (now board)) ⌝ }
-    ensures { λ _. ⌜ now (board .exit) ≡ sets (now (board .entry)) firstsAt (tabulate (firstBy (firstsIn (now (board .entry))) (associationsIn (now (board .entry))) tripped was is) count) ⌝ }
+// The timer and the first-out of effect i, in place, where a scan has changed its state. tripped: the causes that are tripped and not
+// masked. was, is: the effects in Normal before the scan and after it. delayed: those in Delayed after it.
+pub fn settle(board: &mut [u32; 64], i: usize, tripped: u16, was: u16, is: u16, delayed: u16)
+    requires { ⌜ i < 16 ⌝ }
+    ensures { λ _. ⌜ now (board .exit) ≡ settledAt tripped was is delayed i (now (board .entry)) ⌝ }
 {
-    let mut rest = was ^ is;
-    while 0 < rest {
-        let i = lowest(rest);
-        let c = board[i];
-        board[FIRST_OUTS + i] = bits::pick32(bits::bit(is, i), 0, c & tripped as u32);
-        rest &= rest - 1;
-    }
+    let c = board[i];
+    let d = board[DELAYS + i];
+    let f = board[FIRST_OUTS + i];
+    board[TIMERS + i] = bits::pick32(bits::bit(delayed, i), d, 0);
+    board[FIRST_OUTS + i] = bits::pick32(
+        bits::bit(is, i),
+        0,
+        bits::pick32(bits::bit(was, i), c & tripped as u32, f),
+    );
 }
 
 // ---- timers later
@@ -139,7 +152,7 @@ pub fn low_timer(board: &[u32; 64], count: usize, delayed: u16) -> u32
 // The timers after k scans that leave every state as it is, in place.
 pub fn timers_later(k: u32, board: &mut [u32; 64], plan: Plan, delayed: u16)
     requires { ⌜ (plan .count ≤ 16) × (k ≤ mostHold) × (plan .period ≤ mostPeriod) × (delayed < 2 ^ plan .count) × Still (plan .count) delayed (timersIn (now board)) ⌝ }
-    ensures { λ _. ⌜ now (board .exit) ≡ sets (now (board .entry)) timersAt (tabulate (λ i. getD (timersIn (now (board .entry))) i 0 - k * plan .period) (plan .count)) ⌝ }
+    ensures { λ _. ⌜ now (board .exit) ≡ fallen (plan .count) (k * plan .period) (now (board .entry)) ⌝ }
 {
     if k == 0 {
         return;

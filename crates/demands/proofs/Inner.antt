@@ -43,10 +43,10 @@ use Rattle.planes.proofs.planes_of.Reads as planes·planes-of
 use Rattle.planes.proofs.slot_of.Reads as planes·slot-of
 use Rattle.cells.proofs.lowest.Reads as cells·lowest
 use Rattle.cells.proofs.least.Reads as cells·least
-use Rattle.cells.proofs.due_of.Reads as cells·due-of
+use Rattle.cells.proofs.due_by.Reads as cells·due-by
 use Rattle.cells.proofs.low_timer.Reads as cells·low-timer
-use Rattle.cells.proofs.set_timers.Reads as cells·set-timers
-use Rattle.cells.proofs.set_firsts.Reads as cells·set-firsts
+use Rattle.cells.proofs.tick.Reads as cells·tick
+use Rattle.cells.proofs.settle.Reads as cells·settle
 use Rattle.cells.proofs.timers_later.Reads as cells·timers-later
 use Rattle.cells.proofs.active_word.Reads as cells·active-word
 use Rattle.cells.proofs.load.Reads as cells·load
@@ -234,17 +234,17 @@ cells-lowest κs = by-equation (cells·lowest.Learnt κs) _ (λ a r e h. h .0)
 pub cells-least : (κs : Lfts 0) → Unique (cells·least.Learnt κs) none
 cells-least κs = by-equation (cells·least.Learnt κs) _ (λ a r e h. h)
 
-pub cells-due-of : (κs : Lfts 1) → Unique (cells·due-of.Learnt κs) none
-cells-due-of κs = by-equation (cells·due-of.Learnt κs) _ (λ a r e h. h)
+pub cells-due-by : (κs : Lfts 1) → Unique (cells·due-by.Learnt κs) none
+cells-due-by κs = by-equation (cells·due-by.Learnt κs) _ (λ a r e h. h)
 
 pub cells-low-timer : (κs : Lfts 1) → Unique (cells·low-timer.Learnt κs) none
 cells-low-timer κs = by-equation (cells·low-timer.Learnt κs) _ (λ a r e h. h)
 
-pub cells-set-timers : (κs : Lfts 1) → Unique (cells·set-timers.Learnt κs) (λ e. now (e .0))
-cells-set-timers κs = by-equations (cells·set-timers.Learnt κs) (λ e. now (e .0)) (λ a. tt) _ (λ a r e h. (refl, h))
+pub cells-tick : (κs : Lfts 1) → Unique (cells·tick.Learnt κs) (λ e. now (e .0))
+cells-tick κs = by-equations (cells·tick.Learnt κs) (λ e. now (e .0)) _ _ (λ a r e h. h)
 
-pub cells-set-firsts : (κs : Lfts 1) → Unique (cells·set-firsts.Learnt κs) (λ e. now (e .0))
-cells-set-firsts κs = by-equations (cells·set-firsts.Learnt κs) (λ e. now (e .0)) (λ a. tt) _ (λ a r e h. (refl, h))
+pub cells-settle : (κs : Lfts 1) → Unique (cells·settle.Learnt κs) (λ e. now (e .0))
+cells-settle κs = by-equations (cells·settle.Learnt κs) (λ e. now (e .0)) (λ a. tt) _ (λ a r e h. (refl, h))
 
 pub cells-timers-later : (κs : Lfts 1) → Unique (cells·timers-later.Learnt κs) (λ e. now (e .1 .0))
 cells-timers-later κs = by-equations (cells·timers-later.Learnt κs) (λ e. now (e .1 .0)) (λ a. tt) _ (λ a r e h. (refl, h))

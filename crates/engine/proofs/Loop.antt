@@ -4,23 +4,23 @@ use mathlib.Core.Path.{_≡_, refl, ap}
 use mathlib.Core.List.{List}
 use Prim.Native.Nat.{ℕ, _+_, _-_, _*_, _^_, _≤_, _<_}
 use native.Mathlib.Omega.{arith}
-use lib.ListN.{getD, length}
+use lib.ListN.{length}
 use lib.Seq.{sets}
-use Rattle.bits.specs.Lists.{tabulate}
 use Rattle.rules.specs.Limits.{mostHold, mostScans}
 use Rattle.effects.specs.Records.{recordLength}
 use Rattle.planes.specs.declared.Asked.{Asked}
 use Rattle.engine.specs.declared.Mark.{Mark}
 use Rattle.cells.specs.declared.Plan.{Plan}
 use Rattle.engine.specs.declared.Task.{Task}
-use Rattle.cells.specs.Array.{timersAt, associationsIn, delaysIn, timersIn, Same}
+use Rattle.cells.specs.Array.{associationsIn, delaysIn, timersIn, Same}
+use Rattle.cells.specs.Changed.{fallen}
 use Rattle.boards.specs.Table.{Still, Within, quietsBy, joined}
 use Rattle.boards.specs.Board.{Board, entriesOf, scanned, unset}
 use Rattle.engine.specs.Marks.{boardAt, begun}
 use Rattle.engine.specs.Stroke.{heldBy, ScanReady, ScanDone, StrokeReady, StrokeDone}
 use Rattle.engine.proofs.Marks.{settled-there, within-there, skipped-is, skipped-same}
 use Rattle.cells.proofs.Parts.{same-then}
-use Rattle.boards.proofs.Turn.{Kept, fresh, starts, turned, within, within-then, settled-scanned, fits, ended, done-fits, live-fits}
+use Rattle.boards.proofs.Turn.{Kept, fresh, starts, turned, within, within-then, steady, settled-scanned, fits, ended, done-fits, live-fits}
 
 -- what holds at the loop's head. x₀: the mark that the loop begins with
 pub record Head (plan : Plan) (task : Task) (array₀ buf₀ : List ℕ) (x₀ : Mark) (w : Asked) (x : Mark) (array buf : List ℕ) (left fuel : ℕ) : Type 0 where
@@ -60,6 +60,7 @@ module _ {plan : Plan} {task : Task} {array₀ buf₀ : List ℕ} {x₀ : Mark} 
           settled = h .kept .settled;
           within = within (h .kept);
           within-then = rw (h .same .associations, h .same .delays) (within-then (h .kept));
+          steady = rw (h .same .associations, h .same .delays) (steady (h .kept));
           fits = rw (h .same .associations, h .same .delays) (fits (h .kept) more (h .room));
         }
 
@@ -86,7 +87,7 @@ module _ {plan : Plan} {task : Task} {array₀ buf₀ : List ℕ} {x₀ : Mark} 
 
       -- after the scans that are skipped, what holds at the head holds again
       pub goes-on : {v : Asked} {z : Mark} {k : ℕ} {end : List ℕ} → v ≡ unset w → k ≡ quietsBy (left - 1) n (plan .period) v (y .planes) (timersIn mid)
-          → end ≡ sets mid timersAt (tabulate (λ i. getD (timersIn mid) i 0 - k * plan .period) n)
+          → end ≡ fallen n (k * plan .period) mid
           → z ≡ (record { «scans_done» = y .«scans_done» + k; next = y .next; at = y .at; live = y .live; planes = y .planes })
           → Head plan task array₀ buf₀ x₀ v z end buf′ (left - 1 - k) (fuel - 1)
       goes-on {v} {z} {k} ev ek t e =

@@ -6,7 +6,7 @@ use native.Mathlib.Nat.{add-zero, mod-eq-of-lt}
 use native.Mathlib.Omega.{arith}
 use lib.Bits.{bitAnd}
 use lib.Count.{trailingZeros}
-use lib.ListN.{length, length-append}
+use lib.ListN.{getD, length, length-append}
 use lib.Seq.{sets, length-sets}
 use Rattle.bits.specs.Words.{bitOf}
 use Rattle.bits.proofs.Numbers.{sets-append}
@@ -95,6 +95,11 @@ module _ {buf₀ firsts : List ℕ} {x : Mark} {is : Planes} {ch : ℕ} {buf : L
       wrote = rw (joined-snoc, sets-append, long, ← p .place, ← p .wrote);
     }
 
-    pub put-one : Narrow firsts → Put buf₀ firsts x is ch (sets buf at (bytesOf (recordBy firsts x is q n))) (at + recordLength) ((q + 1) % 2 ^ 16) (bitAnd rest (rest - 1))
+    put-one : Narrow firsts → Put buf₀ firsts x is ch (sets buf at (bytesOf (recordBy firsts x is q n))) (at + recordLength) ((q + 1) % 2 ^ 16) (bitAnd rest (rest - 1))
     put-one narrow =
         subst (λ (l : List ℕ). Put buf₀ firsts x is ch (sets buf at l) (at + recordLength) ((q + 1) % 2 ^ 16) (bitAnd rest (rest - 1))) (sym (laid narrow)) turned
+
+    -- only the effect's own first-out is read
+    pub put-same : (others : List ℕ) → getD others n 0 ≡ getD firsts n 0 → Narrow firsts
+        → Put buf₀ firsts x is ch (sets buf at (bytesOf (recordBy others x is q n))) (at + recordLength) ((q + 1) % 2 ^ 16) (bitAnd rest (rest - 1))
+    put-same others e narrow = rw e (put-one narrow)

@@ -1,13 +1,18 @@
 -- A mark and the array that is lent beside it, as the board of words that they show. No entry point's contract cites this page.
-use Prim.Native.Nat.{ℕ, _+_, _%_, _^_}
+use mathlib.Core.Path.{_≡_}
+use Prim.Native.Nat.{ℕ, _+_, _*_, _%_, _^_, _≤_, _<_}
 use mathlib.Core.List.{List}
-use lib.ListN.{getD}
+use lib.ListN.{getD, length}
+use Rattle.rules.specs.Limits.{mostScans}
+use Rattle.effects.specs.Records.{recordLength}
 use Rattle.effects.specs.declared.Record.{Record}
 use Rattle.planes.specs.declared.Planes.{Planes}
 use Rattle.planes.specs.Planes.{codeAt}
-use Rattle.boards.specs.Table.{entriesTo}
+use Rattle.boards.specs.Table.{Narrow, entriesTo}
 use Rattle.boards.specs.Board.{Board}
 use Rattle.engine.specs.declared.Mark.{Mark}
+use Rattle.cells.specs.Array.{arrayLength, firstsIn}
+use Rattle.cells.specs.Changed.{settledIn}
 use Rattle.cells.specs.Loaded.{tableIn}
 
 -- the run that starts where another run has ended
@@ -42,3 +47,10 @@ recordBy firsts x is q i =
 -- the bytes of each record of a scan, of the effects in a word
 abbrev pub scanEntries : (firsts : List ℕ) → Mark → (is : Planes) → (ch : ℕ) → List (List ℕ)
 scanEntries firsts x is ch = entriesTo (x .next) (x .«scans_done» + 1) ch (x .planes) is firsts 16
+
+-- what is asked for where the effects in the word `ch` have changed from x to the states `is`
+pub record Changeable (tripped : ℕ) (x : Mark) (is : Planes) (ch : ℕ) (array : List ℕ) (room : ℕ) : Type 0 where
+  pub long : length array ≡ arrayLength
+  pub countable : x .«scans_done» < mostScans
+  pub narrow : Narrow (firstsIn (settledIn tripped (x .planes) is ch array 16))
+  pub fits : x .at + recordLength * length (scanEntries (firstsIn (settledIn tripped (x .planes) is ch array 16)) x is ch) ≤ room

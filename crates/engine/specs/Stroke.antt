@@ -13,7 +13,7 @@ use Rattle.engine.specs.declared.Mark.{Mark}
 use Rattle.cells.specs.declared.Plan.{Plan}
 use Rattle.engine.specs.declared.Task.{Task}
 use Rattle.cells.specs.Array.{arrayLength, associationsIn, delaysIn, Same}
-use Rattle.boards.specs.Table.{Settled, Within, joined}
+use Rattle.boards.specs.Table.{Settled, Within, Steady, joined}
 use Rattle.boards.specs.Board.{Board, entriesOf, scanned, signalsIn, runOf, boardOf, Right}
 use Rattle.engine.specs.Marks.{boardAt}
 
@@ -37,6 +37,7 @@ pub record ScanReady (plan : Plan) (tripped : ℕ) (w : Asked) (x : Mark) (array
   pub settled : Settled (plan .count) (boardAt x array .table)
   pub within : Within (plan .count) (x .planes)
   pub within-then : Within (plan .count) (scannedBy plan tripped w x array .table .planes)
+  pub steady : Steady (plan .count) (x .planes) (scannedBy plan tripped w x array .table .planes)
   pub fits : x .at + recordLength * length (entriesBy plan tripped w x array) ≤ room
 
 pub record ScanDone (plan : Plan) (tripped : ℕ) (w : Asked) (x : Mark) (array buf : List ℕ) (r : Mark) (array′ buf′ : List ℕ) : Type 0 where

@@ -11,9 +11,10 @@ ghost use Rattle.bits.specs.Words.{one};
 ghost use Rattle.rules.specs.Limits.{mostHold, mostPeriod, mostScans};
 ghost use Rattle.effects.specs.Records.{recordLength};
 ghost use Rattle.cells.specs.Array.{timersIn, firstsIn};
-ghost use Rattle.boards.specs.Table.{Narrow, quietsBy, joined};
+ghost use Rattle.cells.specs.Changed.{settledIn};
+ghost use Rattle.boards.specs.Table.{quietsBy, joined};
 ghost use Rattle.boards.specs.Board.{unset as unsetOf};
-ghost use Rattle.engine.specs.Marks.{recordBy, scanEntries, begun};
+ghost use Rattle.engine.specs.Marks.{recordBy, scanEntries, Changeable, begun};
 ghost use Rattle.engine.specs.Stroke.{ScanReady, ScanDone, StrokeReady, StrokeDone};
 use cells::Plan;
 use effects::Record;
@@ -48,7 +49,8 @@ fn quiets(n: u32, board: &[u32; 64], plan: Plan, w: Asked, p: Planes) -> u32
     if n == 0 {
         return n;
     }
-    let due = cells::due_of(board, plan, p.delayed);
+    let low = cells::low_timer(board, plan.count, p.delayed);
+    let due = cells::due_by(board, plan, p.delayed, low);
     let next = planes::planes_after(w, due, p);
     if planes::changed(p, next) != 0 {
         return 0;
@@ -56,10 +58,7 @@ fn quiets(n: u32, board: &[u32; 64], plan: Plan, w: Asked, p: Planes) -> u32
     if p.delayed == 0 {
         return n;
     }
-    cells::least(
-        n,
-        bits::minus(cells::low_timer(board, plan.count, p.delayed), 1) / plan.period,
-    )
+    cells::least(n, bits::minus(low, 1) / plan.period)
 }
 
 // ---- the records
@@ -80,17 +79,28 @@ fn record_at(board: &[u32; 64], x: Mark, is: Planes, q: u16, i: usize) -> Record
     }
 }
 
-// Puts the records of a scan from x to the states `is`, of the effects in the word `ch`, and answers the place after them.
-fn put_scan(buf: &mut [u8], board: &[u32; 64], x: Mark, is: Planes, ch: u16) -> usize
-    requires { ⌜ (x .«scans_done» < mostScans) × Narrow (firstsIn (now board)) × (x .at + recordLength * length (scanEntries (firstsIn (now board)) x is ch) ≤ length (now buf)) ⌝ }
-    ensures { λ r. ⌜ r ≡ x .at + recordLength * length (scanEntries (firstsIn (now (board .entry))) x is ch) ⌝ }
-    ensures { λ _. ⌜ now (buf .exit) ≡ sets (now (buf .entry)) (x .at) (joined (scanEntries (firstsIn (now (board .entry))) x is ch)) ⌝ }
+// Ends a scan from x to the states `is` for the effects in the word `ch`, which it has changed: their timers and first-outs go into the
+// array and their records into the buffer, in one loop. The answer is the place after the records.
+fn put_changed(
+    buf: &mut [u8],
+    board: &mut [u32; 64],
+    tripped: u16,
+    x: Mark,
+    is: Planes,
+    ch: u16,
+) -> usize
+    requires { ⌜ Changeable tripped x is ch (now board) (length (now buf)) ⌝ }
+    ensures { λ r. ⌜ r ≡ x .at + recordLength * length (scanEntries (firstsIn (now (board .exit))) x is ch) ⌝ }
+    ensures { λ _. ⌜ now (board .exit) ≡ settledIn tripped (x .planes) is ch (now (board .entry)) 16 ⌝ }
+    ensures { λ _. ⌜ now (buf .exit) ≡ sets (now (buf .entry)) (x .at) (joined (scanEntries (firstsIn (now (board .exit))) x is ch)) ⌝ }
 {
+    let was = x.planes;
     let mut at = x.at;
     let mut q = x.next;
     let mut rest = ch;
     while 0 < rest {
         let i = cells::lowest(rest);
+        cells::settle(board, i, tripped, was.normal, is.normal, is.delayed);
         effects::put_record(buf, at, record_at(board, x, is, q, i));
         at += effects::RECORD_LENGTH;
         q = std::num::wrapping_add_u16(q, 1);
@@ -122,12 +132,10 @@ fn scan(buf: &mut [u8], board: &mut [u32; 64], plan: Plan, tripped: u16, w: Aske
     ensures { λ r. ⌜ ScanDone plan tripped w x (now (board .entry)) (now (buf .entry)) r (now (board .exit)) (now (buf .exit)) ⌝ }
 {
     let was = x.planes;
-    let due = cells::due_of(board, plan, was.delayed);
+    let due = cells::tick(board, plan, was.delayed);
     let is = planes::planes_after(w, due, was);
-    cells::set_timers(board, plan, was.delayed, is.delayed);
-    cells::set_firsts(board, plan.count, tripped, was.normal, is.normal);
     let ch = planes::changed(was, is);
-    let at = put_scan(buf, board, x, is, ch);
+    let at = put_changed(buf, board, tripped, x, is, ch);
     Mark {
         scans_done: x.scans_done + 1,
         next: seq_after(x.next, x.at, at),

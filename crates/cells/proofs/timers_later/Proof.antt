@@ -1,8 +1,8 @@
 -- `cells::timers_later` meets its contract. The loop's invariant: whatever the count is, the effects in the word below some m have their
 -- timers, and the word holds those from m on.
-use mathlib.Core.Path.{refl}
-use Prim.Native.Nat.{ℕ, _-_}
-use native.Mathlib.Nat.{mul-le-mul}
+use mathlib.Core.Path.{refl, ap, _∙_}
+use Prim.Native.Nat.{ℕ, _-_, _*_}
+use native.Mathlib.Nat.{mul-le-mul, zero-mul}
 use native.Mathlib.Omega.{arith}
 use borrow.Author.Needs.{needs}
 use denote.Ref.{now}
@@ -10,7 +10,7 @@ use lib.ListN.{getD}
 use Rattle.bits.specs.Lists.{tabulate}
 use Rattle.cells.specs.Array.{timersAt, timersIn}
 use Rattle.boards.proofs.Bits.{falls, Rests, Done, started, ended}
-use Rattle.cells.proofs.Filled.{upTo, stored, later-none, later-rest}
+use Rattle.cells.proofs.Filled.{upTo, stored, fallen-none, fallen-rest}
 use Rattle.cells.proofs.timers_later.Statement.{statement}
 use Rattle.cells.proofs.timers_later.Tie as tie
 
@@ -26,7 +26,7 @@ abbrev μ-loop : tie.MeasureT-loop
 returns : tie.Need-returns Inv-loop μ-loop
 returns c =
     let a = c .before .args in
-    later-none (now (a .board)) (a .plan .count) (a .plan .period) (c .before .pre .0) (a .k) (c .if1 .taken)
+    fallen-none (now (a .board)) (a .plan .count) (a .k * a .plan .period) (c .before .pre .0) (ap (λ (k : ℕ). k * a .plan .period) (c .if1 .taken) ∙ zero-mul (a .plan .period))
 
 mul-by : tie.Need-mul-by Inv-loop μ-loop
 mul-by c = record { fits = omega (arith, mul-le-mul (c .before .before .pre .1) (c .before .before .pre .2)) }
@@ -42,13 +42,13 @@ loop-again : tie.Need-loop-again Inv-loop μ-loop
 loop-again c =
     let l = c .before .before in
     let low = l .lowest .ensures .0 in
-    rw low (λ n r. stored _ _ _ _ _ (l .before .before .loop .inv n r) (omega arith) _ (λ b e early. rw (c .minus .ensures, low, e)))
+    rw low (λ n r. stored _ _ _ _ _ (l .before .before .loop .inv n r) (omega arith) _ (λ e. rw (c .minus .ensures, low, e)))
 
 returns-2 : tie.Need-returns-2 Inv-loop μ-loop
 returns-2 c =
     let s = c .before .before .before .before in
     let a = s .args in
-    ended (c .before .loop .inv (a .plan .count) (later-rest (now (a .board)) (a .plan .count) (a .plan .period) (s .pre .0) (a .k) (a .delayed) (s .pre .3) (s .pre .4))) (omega arith)
+    ended (c .before .loop .inv (a .plan .count) (fallen-rest (now (a .board)) (a .plan .count) (a .k * a .plan .period) (s .pre .0) (a .delayed) (s .pre .3) (s .pre .4))) (omega arith)
 
 pub timers-later-spec : {M : Type 1} → statement M
 timers-later-spec =

@@ -21,14 +21,14 @@ returns c =
     omega (arith, c .if1 .taken, quiets-by-le (a .n) (a .plan .count) (a .plan .period) (a .w) (a .p) (timersIn (now (a .board))))
 
 abbrev start : tie.After-changed → tie.Start
-start k = k .before .before .before .before
+start k = k .before .before .before .before .before
 
 -- the effects that the next scan changes
 changes : (k : tie.After-changed) → changedOf (start k .args .p) (planesAfter (start k .args .w) (wordOf (dueAt (timersIn (now (start k .args .board))) (start k .args .plan .period)) (start k .args .plan .count)) (start k .args .p)) ≡ k .changed .result
 changes k =
     let s = start k in
     let a = s .args in
-    changed-due (a .plan .count) (a .plan .period) (timersIn (now (a .board))) (a .w) (a .p) (s .pre .0) (s .pre .4) _ _ _ (k .before .before .due-of .ensures) (k .before .planes-after .ensures) (k .changed .ensures)
+    changed-due (a .plan .count) (a .plan .period) (timersIn (now (a .board))) (a .w) (a .p) (s .pre .0) (s .pre .4) _ _ _ (k .before .before .due-by .ensures) (k .before .planes-after .ensures) (k .changed .ensures)
 
 -- where the next scan is live
 returns-2 : tie.Need-returns-2
@@ -48,9 +48,10 @@ returns-3 c =
 returns-4 : tie.Need-returns-4
 unfolding quietsBy
 returns-4 c =
-    let l = c .before .before .before in
-    let i = l .before .before .before in
-    rw (c .least .ensures, c .before .before .minus .ensures, l .low-timer .ensures, changes (i .before), eq-eqb _ 0 (i .if2 .left))
+    let m = c .before .before in
+    let i = m .before .before .before in
+    let k = i .before in
+    rw (c .least .ensures, m .minus .ensures, k .before .before .before .low-timer .ensures, changes k, eq-eqb _ 0 (i .if2 .left))
 
 pub quiets-spec : {M : Type 1} → statement M
 quiets-spec =
@@ -60,9 +61,9 @@ quiets-spec =
     (λ c κs. search needs)
     (λ c κs. search needs)
     (λ c κs. search needs)
+    (λ c κs. search needs)
     returns-2
     returns-3
-    (λ c κs. search needs)
     (λ c κs. search needs)
     (λ c. search needs)
     (λ c κs. search needs)

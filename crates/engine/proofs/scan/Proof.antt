@@ -1,66 +1,68 @@
 -- `engine::scan` meets its contract, from what its callees ensure.
+use mathlib.Core.Path.{_≡_, refl}
+use mathlib.Core.List.{List}
+use Prim.Native.Nat.{ℕ}
 use native.Mathlib.Omega.{arith}
 use borrow.Author.Needs.{needs}
 use denote.Ref.{now}
+use Rattle.cells.specs.Changed.{settledIn}
 use Rattle.boards.proofs.Picked.{picked-le}
-use Rattle.engine.proofs.Marks.{between, within-is, blank-mid, Stored, stored, narrow-then, fits-then, scanned-is}
+use Rattle.engine.proofs.Marks.{between, Stored, settles, same-ticks, narrow-then, fits-then, scanned-is}
 use Rattle.engine.proofs.scan.Statement.{statement}
 use Rattle.engine.proofs.scan.Tie as tie
 
-set-timers-requires : tie.Need-set-timers-requires
-set-timers-requires c κs =
-    let h = c .before .before .before .before .before .before .pre in
-    let i = within-is h (c .before .before .due-of .ensures) (c .before .planes-after .ensures) in
-    (h .few, h .within .0, i .0, h .settled .still)
+tick-requires : tie.Need-tick-requires
+tick-requires c κs =
+    let h = c .before .before .before .pre in
+    (h .few, h .within .0, h .settled .still)
 
-set-firsts-requires : tie.Need-set-firsts-requires
-set-firsts-requires c κs =
-    let k = c .before .before .before in
-    let h = k .before .before .before .before .before .pre in
-    let d = k .before .due-of .ensures in
-    let p = k .planes-after .ensures in
-    (h .few, h .within .1, within-is h d p .1, blank-mid h d p (c .before .set-timers .ensures))
+-- ## When it is known which effects have changed
 
--- ## When timers and first-outs are stored
+abbrev start : tie.After-changed → tie.Start
+start k = k .before .before .before .before .before .before
 
-abbrev was : tie.After-set-firsts → tie.After-planes-after
-was c = c .before .before .before .before
+here : (k : tie.After-changed) (then : List ℕ)
+    → then ≡ settledIn (start k .args .tripped) (start k .args .x .planes) (k .before .planes-after .result) (k .changed .result) (k .before .before .tick .last .0) 16
+    → Stored (start k .args .plan) (start k .args .tripped) (start k .args .w) (start k .args .x) (now (start k .args .board)) (k .before .planes-after .result) then
+here k then f =
+    let t = k .before .before .tick .ensures in
+    settles (start k .pre) (t .0) (k .before .planes-after .ensures) (k .changed .ensures) (t .1) f
 
-abbrev start : tie.After-set-firsts → tie.Start
-start c = was c .before .before .before .before .before
-
-here : (c : tie.After-set-firsts)
-    → Stored (start c .args .plan) (start c .args .tripped) (start c .args .w) (start c .args .x) (now (start c .args .board)) (was c .planes-after .result) (c .set-firsts .last .0)
-here c = stored (start c .pre) (was c .before .due-of .ensures) (was c .planes-after .ensures) (c .before .before .set-timers .ensures) (c .set-firsts .ensures)
-
-put-scan-requires : tie.Need-put-scan-requires
-put-scan-requires c κs =
-    let k = c .before .before .before in
+put-changed-requires : tie.Need-put-changed-requires
+put-changed-requires c κs =
+    let k = c .before .before in
     let h = start k .pre in
-    (h .countable, narrow-then h (here k) (omega (arith, start k .fits)), fits-then h (here k) (c .before .before .changed .ensures))
+    let t = k .before .before .tick .ensures in
+    record {
+      long = same-ticks h (t .0) (k .before .planes-after .ensures) (k .changed .ensures) (t .1) .long;
+      countable = h .countable;
+      narrow = narrow-then h (here k _ refl) (omega (arith, start k .fits));
+      fits = fits-then h (here k _ refl) (k .changed .ensures);
+    }
 
 seq-after-requires : tie.Need-seq-after-requires
-seq-after-requires c κs = between _ _ _ (c .before .before .before .put-scan .ensures .0) (picked-le _ _ 16)
+seq-after-requires c κs = between _ _ _ (c .before .before .before .put-changed .ensures .0) (picked-le _ _ 16)
 
 count-live-requires : tie.Need-count-live-requires
-count-live-requires c κs = omega (arith, start (c .before .before .before .before .before .before .before .before) .pre .short)
+count-live-requires c κs =
+    let put = c .before .before .before .before in
+    omega (arith, start (put .before .before .before) .pre .short)
 
 returns : tie.Need-returns
 returns c =
     let put = c .before .before .before .before .before in
     let k = put .before .before .before in
-    scanned-is (start (k .before) .pre) (here (k .before)) (k .changed .ensures) (put .put-scan .ensures .0) (c .before .seq-after .ensures) (c .count-live .ensures) (put .put-scan .ensures .1)
+    let e = put .put-changed .ensures in
+    scanned-is (start k .pre) (here k _ (e .1 .0)) (k .changed .ensures) (e .0) (c .before .seq-after .ensures) (c .count-live .ensures) (e .1 .1)
 
 pub scan-spec : {M : Type 1} → statement M
 scan-spec =
     tie.close
     (tie.spec
+    tick-requires
     (λ c κs. search needs)
     (λ c κs. search needs)
-    set-timers-requires
-    set-firsts-requires
-    (λ c κs. search needs)
-    put-scan-requires
+    put-changed-requires
     (λ c. search needs)
     seq-after-requires
     count-live-requires
