@@ -22,7 +22,7 @@ pub record Tallying (s : List ℕ) (run : Run) (array : List ℕ) (c : Count) : 
 
 -- the most rows of a piece, and the room that their records need
 abbrev pub pieceRows : ℕ
-pieceRows = 16
+pieceRows = 32
 
 abbrev pub pieceBytes : ℕ
 pieceBytes = mostRowBytes * pieceRows

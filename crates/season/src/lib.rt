@@ -33,7 +33,7 @@ pub struct Added {
 
 // Rows are run in pieces, and the events of a piece are counted after it: so that rows have no second loop beside that of `rerun`. The
 // rows of a piece, and the room that their records need.
-const PIECE_ROWS: u32 = 16;
+const PIECE_ROWS: u32 = 32;
 
 const PIECE_BYTES: usize = effects::MOST_ROW_BYTES * PIECE_ROWS as usize;
 
