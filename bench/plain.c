@@ -15,18 +15,18 @@ struct effect {
 
 /* What a row says to all effects. */
 struct words {
-    uint32_t tripped; /* causes, less the masked ones */
+    uint32_t tripped, bad; /* causes, less the masked ones; none is Bad without the option */
     uint32_t force_trip, force_normal, require_reset, reset_permit, start_permit, reset;
 };
 
 static inline struct words words_of(const struct recording *r, const struct row *row) {
     int permitted = row->force_permit || (r->options & PERMIT_NOT_REQUIRED);
-    uint32_t force_normal = permitted ? row->force_normal : 0, force_trip = permitted ? row->force_trip : 0;
-    if (row->bad && (r->options & TRIP_IF_BAD)) force_trip = r->effects & ~force_normal; /* Bad trip comes after both forces */
+    uint32_t unmasked = r->causes & ~row->mask;
     return (struct words){
-        .tripped = r->causes & ~(row->values | row->mask),
-        .force_trip = force_trip,
-        .force_normal = force_normal,
+        .tripped = unmasked & ~row->values,
+        .bad = r->options & TRIP_IF_BAD ? unmasked & row->bad : 0,
+        .force_trip = permitted ? row->force_trip : 0,
+        .force_normal = permitted ? row->force_normal : 0,
         .require_reset = row->require_reset,
         .reset_permit = row->reset_permit,
         .start_permit = row->start_permit,
@@ -39,6 +39,7 @@ static inline uint32_t state_after(const struct effect *e, const struct words *w
     uint32_t active = e->association & w->tripped;
     if (w->force_trip & bit) return TRIPPED;
     if (w->force_normal & bit) return NORMAL;
+    if (e->association & w->bad) return TRIPPED;
     switch (e->state) {
     case TRIPPED:
         if (active) return TRIPPED;
@@ -80,16 +81,16 @@ __attribute__((always_inline)) static inline struct totals run(const struct reco
     for (const uint8_t *p = r->rows, *end = p + (size_t)ROW_BYTES * r->row_count; p != end; p += ROW_BYTES) {
         struct row row = row_at(p);
         struct words w = words_of(r, &row);
-        uint32_t scan = done + 1, any_active = 0;
+        uint32_t scan = done + 1, any_seen = 0;
         done += row.hold;
         do {
             uint32_t next = NEVER, changed = 0;
             for (uint32_t i = 0; i < count; i++) {
                 struct effect *e = &effects[i];
                 uint32_t before = e->state, after = state_after(e, &w, 1u << i, scan);
-                any_active |= e->association & w.tripped;
+                any_seen |= e->association & (w.tripped | w.bad);
                 if (after != before) {
-                    if (before == NORMAL) e->first_out = e->association & w.tripped;
+                    if (before == NORMAL) e->first_out = e->association & (w.tripped | w.bad);
                     if (after == NORMAL) e->first_out = 0;
                     if (after == DELAYED) e->due = scan + e->delay;
                     if (sums) {
@@ -108,7 +109,7 @@ __attribute__((always_inline)) static inline struct totals run(const struct reco
             w.reset = 0;
             scan = changed ? scan + 1 : next;
         } while (scan <= done);
-        if (any_active) t.exercised += row.hold;
+        if (any_seen) t.exercised += row.hold;
     }
     t.scans = done;
     if (sums) {

@@ -11,10 +11,10 @@ struct states {
     uint32_t tripped, wait_reset, ready, wait_start, normal, delayed;
 };
 
-/* What a row says to all effects; all but `tripped` are words of effects. */
+/* What a row says to all effects; all but `blamed` are words of effects. */
 struct words {
-    uint32_t tripped; /* causes, less the masked ones */
-    uint32_t active, force_trip, force_normal, require_reset, reset_permit, start_permit, reset;
+    uint32_t blamed; /* causes that are tripped or Bad, less the masked ones */
+    uint32_t active, bad_trip, force_trip, force_normal, require_reset, reset_permit, start_permit, reset;
 };
 
 struct block {
@@ -39,16 +39,23 @@ static inline struct block fresh(const struct recording *r) {
     return b;
 }
 
+/* The effects that one of the causes is associated with. */
+static inline uint32_t watching(const struct block *b, uint32_t causes) {
+    uint32_t effects = 0;
+    for (; causes; causes &= causes - 1) effects |= b->by_cause[lowest(causes)];
+    return effects;
+}
+
 static inline struct words words_of(const struct recording *r, const struct block *b, const struct row *row) {
     int permitted = row->force_permit || (r->options & PERMIT_NOT_REQUIRED);
     uint32_t force_normal = permitted ? row->force_normal : 0, force_trip = permitted ? row->force_trip : 0;
-    uint32_t tripped = r->causes & ~(row->values | row->mask), active = 0;
-    if (row->bad && (r->options & TRIP_IF_BAD)) force_trip = r->effects & ~force_normal; /* Bad trip comes after both forces */
-    for (uint32_t causes = tripped; causes; causes &= causes - 1) active |= b->by_cause[lowest(causes)];
+    uint32_t unmasked = r->causes & ~row->mask, tripped = unmasked & ~row->values;
+    uint32_t bad = r->options & TRIP_IF_BAD ? unmasked & row->bad : 0, bad_trip = watching(b, bad);
     return (struct words){
-        .tripped = tripped,
-        .active = active,
-        .force_trip = force_trip,
+        .blamed = tripped | bad,
+        .active = watching(b, tripped),
+        .bad_trip = bad_trip,
+        .force_trip = force_trip | (bad_trip & ~force_normal), /* Bad trip comes after both forces */
         .force_normal = force_normal,
         .require_reset = row->require_reset,
         .reset_permit = row->reset_permit,
@@ -115,13 +122,13 @@ __attribute__((always_inline)) static inline struct totals run(const struct reco
         struct words w = words_of(r, &b, &row);
         uint32_t scan = done + 1;
         done += row.hold;
-        if (w.active) t.exercised += row.hold;
+        if (w.active | w.bad_trip) t.exercised += row.hold;
         do {
             struct states after = states_after(&b.now, &w, b.with_delay, run_out(&b, scan), r->effects);
             uint32_t changed = r->effects & ~unchanged(&b.now, &after), delays = b.now.delayed ^ after.delayed;
             for (uint32_t left = changed; left; left &= left - 1) {
                 uint32_t i = lowest(left);
-                if (b.now.normal >> i & 1) b.first_out[i] = r->association[i] & w.tripped;
+                if (b.now.normal >> i & 1) b.first_out[i] = r->association[i] & w.blamed;
                 if (after.normal >> i & 1) b.first_out[i] = 0;
                 b.due[i] = scan + b.delay[i]; /* read in Delayed alone */
                 if (sums) {

@@ -8,9 +8,18 @@ struct effect {
     uint32_t state, timer, first_out;
 };
 
+/* The causes of an effect that are Bad and not masked, if that is to trip it (document 02, L3). */
+static uint32_t bad_causes(const struct recording *r, const struct row *row, uint32_t i) {
+    return r->options & TRIP_IF_BAD ? r->association[i] & ~row->mask & row->bad : 0;
+}
+
+static uint32_t active_causes(const struct recording *r, const struct row *row, uint32_t i) {
+    return r->association[i] & ~row->mask & ~row->values;
+}
+
 /* One effect in one scan (document 01, "The rules of one scan"). */
 static struct effect effect_after(struct effect e, const struct recording *r, const struct row *row, uint32_t i) {
-    uint32_t active = r->association[i] & ~row->mask & ~row->values;
+    uint32_t active = active_causes(r, row, i), bad = bad_causes(r, row, i);
     int require = row->require_reset >> i & 1, permit = row->reset_permit >> i & 1, start = row->start_permit >> i & 1;
     int reset = row->reset >> i & 1, forces = row->force_permit == 1 || (r->options & PERMIT_NOT_REQUIRED);
     struct effect after = e;
@@ -18,7 +27,7 @@ static struct effect effect_after(struct effect e, const struct recording *r, co
         after.state = TRIPPED;
     } else if (forces && (row->force_normal >> i & 1)) {
         after.state = NORMAL;
-    } else if ((r->options & TRIP_IF_BAD) && row->bad) {
+    } else if (bad) {
         after.state = TRIPPED;
     } else if (e.state == DELAYED) {
         after.state = e.timer <= r->period ? TRIPPED : DELAYED;
@@ -34,7 +43,7 @@ static struct effect effect_after(struct effect e, const struct recording *r, co
         after.state = permit ? READY : WAIT_RESET;
     }
     if (after.state != DELAYED) after.timer = 0;
-    if (e.state == NORMAL) after.first_out = active;
+    if (e.state == NORMAL) after.first_out = active | bad;
     if (after.state == NORMAL) after.first_out = 0;
     return after;
 }
@@ -46,9 +55,9 @@ __attribute__((always_inline)) static inline struct totals step_all(const struct
     struct totals t = {0, 0, 0, 0};
     for (uint32_t n = 0; n < r->row_count; n++) {
         struct row row = row_at(r->rows + (size_t)ROW_BYTES * n);
-        uint32_t any_active = 0;
-        for (uint32_t i = 0; i < r->effect_count; i++) any_active |= r->association[i] & ~row.mask & ~row.values;
-        if (any_active) t.exercised += row.hold;
+        uint32_t any_seen = 0;
+        for (uint32_t i = 0; i < r->effect_count; i++) any_seen |= active_causes(r, &row, i) | bad_causes(r, &row, i);
+        if (any_seen) t.exercised += row.hold;
         for (uint32_t left = row.hold; left > 0; left--) {
             uint64_t records_before = t.records;
             t.scans++;

@@ -1,7 +1,7 @@
 /*
  * Replays recordings of shutdown logic, and adds up season totals over many, for C99 and C++. The functions of the library are proved.
  * "Document 01" is the owner's requirement; docs/FORMAT.md says all of it: the recording byte by byte, the rules, the event records and the
- * refusals. Season totals are "document 02", L1, which it says too.
+ * refusals. Season totals are "document 02", L1, and Bad causes L3, which it says too.
  * The static library is target/staticlib/libpohandira.a (`rt staticlib pohandira`), for x86-64 Linux.
  *
  * What is asked of the caller, and nothing else: no pointer is null, even where its length is 0; the bytes that a pointer and
@@ -28,7 +28,7 @@ extern "C" {
  * later version is a greater number. It is compared with pohandira_version(), the library's own: records, totals and reports may grow,
  * and then a program that was compiled with another header must not read them.
  */
-#define POHANDIRA_VERSION 2000 /* 0.2.0 */
+#define POHANDIRA_VERSION 3000 /* 0.3.0 */
 
 uint32_t pohandira_version(void);
 
@@ -106,7 +106,7 @@ enum {
     POHANDIRA_ROWS,      /* rows of the recording */
     POHANDIRA_SCANS,     /* scans of all rows */
     POHANDIRA_LIVE,      /* scans in which some effect changed its state */
-    POHANDIRA_EXERCISED, /* scans of rows in which some effect had an active cause */
+    POHANDIRA_EXERCISED, /* scans of rows in which some effect had a tripped cause or, with option bit 0, a Bad one, not masked */
     POHANDIRA_NUMBER,    /* 0, or the refusal number */
     POHANDIRA_PLACE      /* the refusal's place, else 0 */
 };

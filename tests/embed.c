@@ -302,20 +302,30 @@ static void try_refusals(void) {
     try_refused("one effect in both force words, and several forced", (struct file){longer, 70}, 5, 22);
 }
 
-/* The session with option bit 0, and in row 2 no cause tripped but cause 2 Bad, and masked: both effects trip, with first-out 0. */
+/*
+ * The session with option bit 0, and in row 2 no cause tripped but cause 2 Bad. Masked, it trips nothing. Else it trips effect 2, which
+ * alone is associated with it, at once, and is its first-out.
+ */
 static void try_bad(void) {
-    uint8_t bytes[sizeof session_bytes], records[48];
+    uint8_t bytes[sizeof session_bytes], records[36];
     memcpy(bytes, session_bytes, sizeof bytes);
-    memcpy(records, session_records, sizeof records);
     bytes[3] = 1, bytes[51] = 3, bytes[53] = bytes[55] = 2;
-    records[35] = records[47] = 0;
-    records[44] = POHANDIRA_TRIPPED;
-    replay_as("a masked cause is Bad", (struct file){bytes, sizeof bytes}, 96, 56,
-              (struct answer){{4, 2, 8, 2, 0, 0, 0}, records});
+    struct file file = {bytes, sizeof bytes};
+    replay_as("a masked cause is Bad", file, 96, 56, (struct answer){{2, 2, 8, 1, 0, 0, 0}, session_records});
     struct report added = empty;
-    add_effect(&added, 1, 5, 3, 0, 1);
+    add_effect(&added, 1, 0, 8, 0, 0);
+    add_effect(&added, 2, 0, 8, 0, 0);
+    season_as("a masked cause is Bad", file, &empty, POHANDIRA_REPORT_BYTES, 0, &added);
+
+    bytes[55] = 0;
+    memcpy(records, session_records, sizeof records);
+    records[30] = 2, records[35] = 2; /* effect, first-out */
+    replay_as("a cause is Bad", file, 96, 56, (struct answer){{3, 2, 8, 2, 5, 0, 0}, records});
+    added = empty;
+    add_effect(&added, 1, 0, 8, 0, 0);
     add_effect(&added, 2, 5, 3, 0, 1);
-    season_as("a masked cause is Bad", (struct file){bytes, sizeof bytes}, &empty, POHANDIRA_REPORT_BYTES, 0, &added);
+    added.numbers[112] = 5;
+    season_as("a cause is Bad", file, &empty, POHANDIRA_REPORT_BYTES, 0, &added);
 }
 
 /* One cause, `effects` effects with one delay, period 100, both permits; rows by turns with the cause normal and `other`. */

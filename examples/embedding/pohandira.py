@@ -16,7 +16,7 @@ import struct
 import sys
 from typing import NamedTuple
 
-VERSION = 2000  # that this file is for, as one number
+VERSION = 3000  # that this file is for, as one number
 CHECK_BYTES, TOTALS_BYTES, RECORD_BYTES = 24, 56, 12
 REPORT_NUMBERS, REPORT_BYTES, EFFECT_NUMBERS = 113, 904, 7
 STATES = ("tripped", "wait-reset", "ready", "wait-start", "normal", "delayed")

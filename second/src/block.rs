@@ -1,5 +1,6 @@
 //! The row, the state, one scan and a held run (document 01, "Settings, row, state",
-//! "The rules of one scan" and "Held runs and their two counts").
+//! "The rules of one scan" and "Held runs and their two counts"; of Bad causes document 01 is
+//! read as document 02, L3, changes it).
 
 use crate::settings::{
     inside, Effect, Settings, PERMIT_NOT_REQUIRED, SEVERAL_FORCED, SLOTS, TRIP_IF_BAD,
@@ -200,14 +201,41 @@ fn slot_is_right(slot: &Slot, effect: &Effect) -> bool {
     timer_is_right && first_out_is_right
 }
 
-/// *Active*: the association word, less the masked causes, less those whose value is 1.
-pub fn active(effect: &Effect, words: &Words) -> u16 {
-    effect.association & !words.mask & !words.values
+/// Two words of causes in one scan: those that are tripped and those that are Bad, less the masked
+/// ones. Without option bit 0 no Bad cause is seen.
+#[derive(Clone, Copy, Debug, PartialEq, Eq)]
+pub struct Seen {
+    pub active: u16,
+    pub bad: u16,
 }
 
-/// *Bad trip*: option bit 0 and any cause Bad, masked or not, associated or not.
-pub fn bad_trip(settings: &Settings, words: &Words) -> bool {
-    settings.has_option(TRIP_IF_BAD) && words.bad != 0
+impl Seen {
+    /// What the block sees of the causes, whatever the effects (document 01, changed by
+    /// document 02, L3).
+    pub fn of(settings: &Settings, words: &Words) -> Seen {
+        let counted = if settings.has_option(TRIP_IF_BAD) {
+            words.bad
+        } else {
+            0
+        };
+        Seen {
+            active: !words.values & !words.mask,
+            bad: counted & !words.mask,
+        }
+    }
+
+    /// *Active* and the Bad causes of one effect: what the block sees within the association word.
+    pub fn by(self, effect: &Effect) -> Seen {
+        Seen {
+            active: self.active & effect.association,
+            bad: self.bad & effect.association,
+        }
+    }
+
+    /// The active and the Bad causes together.
+    pub fn causes(self) -> u16 {
+        self.active | self.bad
+    }
 }
 
 /// Whether forces count.
@@ -218,8 +246,7 @@ pub fn forces_count(settings: &Settings, words: &Words) -> bool {
 /// What the rules read of one effect in one scan.
 #[derive(Clone, Copy, Debug)]
 pub struct Inputs {
-    pub active: u16,
-    pub bad_trip: bool,
+    pub seen: Seen,
     pub force_trip: bool,
     pub force_normal: bool,
     pub require_reset: bool,
@@ -239,8 +266,7 @@ impl Inputs {
         let effect = &settings.slots[index];
         let forces = forces_count(settings, words);
         Inputs {
-            active: active(effect, words),
-            bad_trip: bad_trip(settings, words),
+            seen: Seen::of(settings, words).by(effect),
             force_trip: forces && bit(words.force_trip, index),
             force_normal: forces && bit(words.force_normal, index),
             require_reset: bit(words.require_reset, index),
@@ -253,12 +279,18 @@ impl Inputs {
     }
 
     fn is_active(&self) -> bool {
-        self.active != 0
+        self.seen.active != 0
+    }
+
+    /// *Bad trip*, which each effect has of its own (document 02, L3): option bit 0 is set and an
+    /// unmasked, associated cause is Bad.
+    pub fn bad_trip(&self) -> bool {
+        self.seen.bad != 0
     }
 
     /// The latent bit: force normal counts, and active is not 0 or Bad trip holds.
     pub fn latent(&self) -> bool {
-        self.force_normal && (self.is_active() || self.bad_trip)
+        self.force_normal && (self.is_active() || self.bad_trip())
     }
 }
 
@@ -344,7 +376,7 @@ pub fn deciding_rule(phase: Phase, inputs: &Inputs) -> u8 {
     if inputs.force_normal {
         return 2;
     }
-    if inputs.bad_trip {
+    if inputs.bad_trip() {
         return 3;
     }
     match phase {
@@ -372,12 +404,13 @@ fn decide(slot: &Slot, inputs: &Inputs) -> (Phase, u32) {
     }
 }
 
-/// First-out after: 0 in Normal, *active* of the scan that leaves Normal, else kept.
-fn first_out_after(before: &Slot, after: Phase, active: u16) -> u16 {
+/// First-out after: 0 in Normal, what the effect sees in the scan that leaves Normal, else kept.
+/// That is *active* and, with option bit 0, the Bad causes besides (document 02, L3).
+fn first_out_after(before: &Slot, after: Phase, seen: Seen) -> u16 {
     if after == Phase::Normal {
         0
     } else if before.phase == Phase::Normal {
-        active
+        seen.causes()
     } else {
         before.first_out
     }
@@ -389,7 +422,7 @@ pub fn slot_after(slot: &Slot, inputs: &Inputs) -> Slot {
     Slot {
         phase,
         timer,
-        first_out: first_out_after(slot, phase, inputs.active),
+        first_out: first_out_after(slot, phase, inputs.seen),
     }
 }
 
@@ -470,10 +503,12 @@ pub fn without_reset(words: &Words) -> Words {
     later
 }
 
-/// Exercised scans: the hold if any effect's active word is not 0, otherwise 0.
+/// Exercised scans: the hold if any effect sees an active cause or, with option bit 0, a Bad one
+/// (document 02, L3), forced or not; otherwise 0.
 pub fn exercised(settings: &Settings, row: &Row) -> u32 {
+    let seen = Seen::of(settings, &row.words);
     for effect in settings.slots.iter().take(usize::from(settings.effects)) {
-        if active(effect, &row.words) != 0 {
+        if seen.by(effect).causes() != 0 {
             return row.hold;
         }
     }

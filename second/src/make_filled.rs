@@ -11,7 +11,7 @@ use crate::make::Random;
 use crate::make_files::{add, file_of, Files};
 use crate::recording::MAX_ROWS;
 use crate::replay::{change_lines, run_row, HEADER};
-use crate::settings::{Effect, Settings, SLOTS};
+use crate::settings::{Effect, Settings, SLOTS, TRIP_IF_BAD};
 use std::ops::RangeInclusive;
 
 /// The most bytes that a piece of a listing can take.
@@ -41,6 +41,7 @@ const SHARED: u16 = 16_384;
 fn settings() -> Settings {
     let mut settings = Settings {
         causes: 16,
+        options: TRIP_IF_BAD,
         period: 100,
         effects: 16,
         ..Settings::default()
@@ -71,6 +72,13 @@ fn row(hold: u32, tripped: u16) -> Row {
     }
 }
 
+/// These causes Bad: whatever the delay, effects that see one leave Normal, and have them as first-out.
+fn bad_row(causes: u16) -> Row {
+    let mut row = row(1, 0);
+    row.words.bad = causes;
+    row
+}
+
 /// One line: effect 1 leaves Normal, with this first-out.
 fn one_leaves(first_out: u16) -> Row {
     row(1, first_out)
@@ -85,13 +93,14 @@ fn one_returns() -> Row {
 }
 
 /// Two rows after which all effects are in Normal again. Many effects change once in one of
-/// them and twice in the other.
+/// them and twice in the other, or by Bad causes once in each.
 fn leave_and_return(random: &mut Random) -> [Row; 2] {
     let groups = random.between(1, u32::from(GROUPS)) as u16;
     let causes = random.pick(&[groups, groups | SHARED]);
-    match random.between(0, 3) {
-        0 => [one_leaves(random.pick(&FIRST_OUTS)), one_returns()],
-        1 => [row(3, causes), row(1, 0)],
+    match random.between(0, 7) {
+        0..=1 => [one_leaves(random.pick(&FIRST_OUTS)), one_returns()],
+        2..=3 => [row(3, causes), row(1, 0)],
+        4 => [bad_row(causes), row(1, 0)],
         _ => [row(1, causes), row(3, 0)],
     }
 }

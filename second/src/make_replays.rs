@@ -8,7 +8,7 @@ use crate::make_files::{
     SESSION,
 };
 use crate::make_filled::{filled_file, filled_files, random_ending, CASES_BUFFER};
-use crate::make_runs::{random_forces, random_hold, random_settings, random_words};
+use crate::make_runs::{random_bad, random_forces, random_hold, random_settings, random_words};
 use crate::recording::{MAX_BYTES, MAX_ROWS};
 use crate::replay::run_row;
 use crate::settings::{existing, Effect, Settings, MAX_DELAY, TRIP_IF_BAD};
@@ -177,6 +177,27 @@ fn exercised_files(files: &mut Files) {
     }
 }
 
+/// Every Bad word and mask of three causes, of which no effect sees the third, each after a quiet row;
+/// the first cause is tripped besides in every other Bad row.
+fn bad_files(files: &mut Files) {
+    for options in [0, TRIP_IF_BAD] {
+        let mut settings = plain_settings(3, 2);
+        settings.options = options;
+        let quiet = quiet(&settings);
+        let mut rows = Vec::new();
+        for inputs in 0..128 {
+            let words = Words {
+                values: quiet.values & !(inputs & 1),
+                bad: inputs >> 1 & 7,
+                mask: inputs >> 4,
+                ..quiet
+            };
+            rows.extend([quiet, words].map(|words| Row { hold: 2, words }));
+        }
+        add(files, "Bad", &[], file_of(&settings, &rows));
+    }
+}
+
 /// Rows of 1,000,000 scans, of which one in eight trips its effects, and then `last`.
 fn long_rows(settings: &Settings, rows: u16, last: &[u32]) -> Vec<Row> {
     let mut all: Vec<Row> = (0..rows)
@@ -275,6 +296,7 @@ pub fn small_files(files: &mut Files) {
     reset_files(files);
     delay_files(files);
     exercised_files(files);
+    bad_files(files);
     refused_files(files);
 }
 
@@ -327,9 +349,20 @@ fn random_reset(random: &mut Random, settings: &Settings) -> Words {
     words
 }
 
+/// Bad causes in a quiet row, beside tripped causes, or with permits that come and go.
+fn random_bad_row(random: &mut Random, settings: &Settings) -> Words {
+    let mut words = match random.between(0, 2) {
+        0 => quiet(settings),
+        1 => random_trip(random, settings),
+        _ => random_reset(random, settings),
+    };
+    random_bad(random, settings, &mut words);
+    words
+}
+
 /// The words of a row: of each kind often enough that effects keep going round.
 fn random_row_words(random: &mut Random, settings: &Settings) -> Words {
-    match random.between(0, 11) {
+    match random.between(0, 12) {
         0..=2 => quiet(settings),
         3..=5 => random_trip(random, settings),
         6..=8 => random_reset(random, settings),
@@ -339,10 +372,7 @@ fn random_row_words(random: &mut Random, settings: &Settings) -> Words {
             words.force_permit |= random.between(0, 1) as u16;
             words
         }
-        10 => Words {
-            bad: 1 << random.between(0, u32::from(settings.causes) - 1),
-            ..quiet(settings)
-        },
+        10..=11 => random_bad_row(random, settings),
         _ => random_words(random, settings),
     }
 }
@@ -402,9 +432,6 @@ fn random_rows(random: &mut Random, settings: &Settings, count: u32, long: bool)
 /// Settings in which at least one effect has a short delay, if there are two.
 fn random_replay_settings(random: &mut Random) -> Settings {
     let mut settings = random_settings(random);
-    if random.once_in(2) {
-        settings.options &= !TRIP_IF_BAD;
-    }
     if settings.effects > 1 {
         let period = u32::from(settings.period);
         settings.slots[1] = Effect {
@@ -418,9 +445,9 @@ fn random_replay_settings(random: &mut Random) -> Settings {
 /// How many rows, and whether each is held for about 1,000,000 scans.
 fn random_size(random: &mut Random) -> (u32, bool) {
     match random.between(0, 299) {
-        0 => (random.between(990, 1_100), true),
-        1..=3 => (random.between(1_000, u32::from(MAX_ROWS)), false),
-        4..=30 => (random.between(16, 120), false),
+        0..=1 => (random.between(990, 1_100), true),
+        2..=4 => (random.between(1_000, u32::from(MAX_ROWS)), false),
+        5..=30 => (random.between(16, 120), false),
         _ => (random.between(1, 12), false),
     }
 }

@@ -196,7 +196,8 @@ impl List {
 
 // ---- The corner table and the rules ----
 
-/// P1 to P12: one cause, one effect, period 100, quiet.
+/// P1 to P12: one cause, one effect, period 100, quiet. P12 has two rows, without and with start
+/// permit (document 02, L3).
 fn corner_table(list: &mut List) {
     let corner = |phase: Phase, delay: u32, timer: u32| {
         let mut case = RunCase::default();
@@ -245,9 +246,10 @@ fn corner_table(list: &mut List) {
     add("P11", case);
     let mut case = corner(Phase::Tripped, 0, 0);
     case.settings.options = TRIP_IF_BAD;
-    case.row.words.start_permit = 1;
     case.row.words.bad = 1;
     case.row.words.mask = 1;
+    add("P12", case);
+    case.row.words.start_permit = 1;
     add("P12", case);
 }
 
@@ -309,27 +311,69 @@ fn single_forces(list: &mut List) {
     }
 }
 
-/// Bad causes: masked or not, associated or not, tripped or not, with and without bit 0.
-fn bad_causes(list: &mut List) {
-    for inputs in 0..16 {
-        let mut case = all_states();
-        case.settings.causes = 3;
-        case.settings.options = inputs & 1;
-        let bad = [1, 4][usize::from(inputs >> 1 & 1)];
-        case.row.words.bad = bad;
-        case.row.words.mask = word_if(inputs & 4 != 0, bad);
-        case.row.words.values = word_if(inputs & 8 == 0, 7);
-        list.add("Bad", &[], case);
+/// Each state twice: the first six effects see cause 1, the others cause 2, and none sees cause 3.
+/// All see cause 4, which is the first-out of those that are not in Normal.
+fn all_states_apart() -> RunCase {
+    let kept = 8;
+    let mut case = all_states();
+    case.settings.causes = 4;
+    for index in 0..12 {
+        let slot = &mut case.state.slots[index];
+        case.settings.slots[index].association = kept | if index < 6 { 1 } else { 2 };
+        slot.first_out = word_if(slot.phase != Phase::Normal, kept);
     }
+    case
+}
+
+/// Bad causes: masked or not, seen by some effects or by none, beside quiet and tripped causes, with
+/// and without bit 0; no effect is forced, or every one.
+fn bad_causes(list: &mut List) {
+    for inputs in 0..24 {
+        for bad in [1, 2, 4] {
+            let mut case = all_states_apart();
+            let all = existing(case.settings.effects);
+            case.settings.options = SEVERAL_FORCED;
+            if inputs & 1 != 0 {
+                case.settings.options |= TRIP_IF_BAD;
+            }
+            let words = &mut case.row.words;
+            words.bad = bad;
+            words.mask = word_if(inputs & 2 != 0, bad);
+            words.values = word_if(inputs & 4 == 0, 15);
+            words.force_permit = 1;
+            let force = inputs / 8;
+            words.force_trip = word_if(force == 1, all);
+            words.force_normal = word_if(force == 2, all);
+            list.add("Bad", &[], case);
+        }
+    }
+}
+
+/// Every Bad word and mask of three causes, of which the second is tripped, with every association.
+fn bad_words(list: &mut List) {
+    for inputs in 0..64 {
+        let mut case = every_association();
+        case.settings.options = TRIP_IF_BAD;
+        case.row.words.values = 5;
+        case.row.words.bad = inputs & 7;
+        case.row.words.mask = inputs >> 3;
+        list.add("Bad words", &[], case);
+    }
+}
+
+/// Three causes, and an effect in Normal for every association.
+fn every_association() -> RunCase {
+    let mut case = all_in(Phase::Normal, 3, 7);
+    for index in 0..7 {
+        case.settings.slots[index].association = index as u16 + 1;
+    }
+    case
 }
 
 /// Every value and mask of three causes, with every association.
 fn masks(list: &mut List) {
     for inputs in 0..64 {
-        let mut case = all_in(Phase::Normal, 3, 7);
-        for index in 0..7 {
-            case.settings.slots[index].association = index as u16 + 1;
-        }
+        let mut case = every_association();
         case.row.words.values = inputs & 7;
         case.row.words.mask = inputs >> 3;
         list.add("active words", &[], case);
@@ -906,6 +950,11 @@ fn exercised_rows(list: &mut List) {
         (7, 0, 7),
         (7, 0, 0),
         (0, 0, 7),
+        (7, 3, 7),
+        (7, 1, 1),
+        (7, 0, 2),
+        (7, 1, 3),
+        (7, 0, 4),
     ] {
         for options in [0, TRIP_IF_BAD] {
             let mut case = all_in(Phase::Normal, 3, 2);
@@ -1044,13 +1093,22 @@ pub fn random_words(random: &mut Random, settings: &Settings) -> Words {
     if random.once_in(3) {
         words.mask = random.sparse() & causes;
     }
-    if random.once_in(5) {
-        words.bad = random.sparse() & random.word() & causes;
+    if random.once_in(3) {
+        random_bad(random, settings, &mut words);
     }
     if random.once_in(3) {
         random_forces(random, settings, &mut words);
     }
     words
+}
+
+/// One Bad cause or more, of which now and then some are masked.
+pub fn random_bad(random: &mut Random, settings: &Settings, words: &mut Words) {
+    let one = 1 << random.between(0, u32::from(settings.causes) - 1);
+    words.bad = random.sparse() & random.word() & existing(settings.causes) | one;
+    if random.once_in(2) {
+        words.mask |= words.bad & random.word();
+    }
 }
 
 pub fn random_forces(random: &mut Random, settings: &Settings, words: &mut Words) {
@@ -1167,6 +1225,7 @@ pub fn named_runs(kind: Kind) -> Vec<Named<RunCase>> {
     forces(&mut list);
     single_forces(&mut list);
     bad_causes(&mut list);
+    bad_words(&mut list);
     masks(&mut list);
     first_outs(&mut list);
     fault_pairs(&mut list);

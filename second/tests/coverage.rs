@@ -1,7 +1,7 @@
 //! What the made streams reach. The expectations are planted by hand in the generators or
 //! listed here from document 01.
 
-use second::block::{deciding_rule, step, Inputs, Phase, Words, RECORD_BYTES};
+use second::block::{deciding_rule, step, Inputs, Phase, Words, PHASES, RECORD_BYTES};
 use second::cases::{answer_writing, call_run, lent, written_back, Kind, RunCase};
 use second::make::Named;
 use second::make_files::{file_cases, writing_cases};
@@ -9,9 +9,13 @@ use second::make_pairs::{pairs, Pair};
 use second::make_runs::{run_cases, ORDER};
 use second::recording::read;
 use second::replay::{replay, Totals};
+use second::settings::TRIP_IF_BAD;
 use std::collections::{BTreeMap, BTreeSet};
 use std::sync::OnceLock;
 use Phase::*;
+
+/// How many scan cases are stored; of the held cases all that are tried here are.
+const STORED_SCANS: usize = 2500;
 
 fn scans() -> &'static [Named<RunCase>] {
     static CASES: OnceLock<Vec<Named<RunCase>>> = OnceLock::new();
@@ -87,6 +91,90 @@ fn scans_reach_every_rule_and_every_pair_of_states() {
     for (pair, times) in pairs {
         assert!(times >= 5, "{pair:?} occurs {times} times");
     }
+}
+
+/// How an effect stands to the Bad causes of a row.
+#[derive(Clone, Copy, Debug, PartialEq, Eq, PartialOrd, Ord)]
+struct BadCase {
+    option: bool,
+    masked: bool,
+    associated: bool,
+    forced: Option<Phase>,
+    before: Phase,
+}
+
+/// Whether all causes of a word stand in another, if none or all do.
+fn all_or_none(word: u16, other: u16) -> Option<bool> {
+    match word & other {
+        0 => Some(false),
+        common if common == word => Some(true),
+        _ => None,
+    }
+}
+
+/// What the case tries of the effect, if its Bad causes are all masked or all not, and all
+/// associated or all not: then nothing but that decides.
+fn bad_case(case: &RunCase, effect: usize) -> Option<BadCase> {
+    let words = &case.row.words;
+    if words.bad == 0 {
+        return None;
+    }
+    let inputs = Inputs::of(&case.settings, words, effect);
+    Some(BadCase {
+        option: case.settings.has_option(TRIP_IF_BAD),
+        masked: all_or_none(words.bad, words.mask)?,
+        associated: all_or_none(words.bad, case.settings.slots[effect].association)?,
+        forced: match (inputs.force_trip, inputs.force_normal) {
+            (true, _) => Some(Tripped),
+            (_, true) => Some(Normal),
+            _ => None,
+        },
+        before: case.state.slots[effect].phase,
+    })
+}
+
+fn all_bad_cases() -> Vec<BadCase> {
+    let mut all = Vec::new();
+    for before in PHASES {
+        for forced in [None, Some(Tripped), Some(Normal)] {
+            for bits in 0..8 {
+                all.push(BadCase {
+                    option: bits & 1 != 0,
+                    masked: bits & 2 != 0,
+                    associated: bits & 4 != 0,
+                    forced,
+                    before,
+                });
+            }
+        }
+    }
+    all
+}
+
+/// Every case occurs at least so often where nothing is refused.
+fn bad_cases_occur(kind: Kind, cases: &[Named<RunCase>], least: usize) {
+    let mut times = BTreeMap::new();
+    for Named { case, .. } in cases {
+        if call_run(kind, case).0.number != 0 {
+            continue;
+        }
+        for effect in 0..usize::from(case.settings.effects) {
+            if let Some(bad) = bad_case(case, effect) {
+                *times.entry(bad).or_insert(0) += 1;
+            }
+        }
+    }
+    for bad in all_bad_cases() {
+        let times = times.get(&bad).copied().unwrap_or(0);
+        assert!(times >= least, "{kind:?} {bad:?} occurs {times} times");
+    }
+}
+
+/// The streams of the size that is stored.
+#[test]
+fn every_case_of_bad_causes_occurs() {
+    bad_cases_occur(Kind::Scan, &scans()[..STORED_SCANS], 4);
+    bad_cases_occur(Kind::Held, helds(), 4);
 }
 
 fn planted_cases_are_answered(kind: Kind, cases: &[Named<RunCase>]) {

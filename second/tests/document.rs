@@ -1,10 +1,10 @@
-//! What document 01 says by example, with its own values.
+//! What document 01 says by example, with its own values, and what document 02, L3, changes in it.
 
-use second::block::{held, scan, Answer, Phase, Row, Slot, State, Words};
+use second::block::{held, scan, Answer, Phase, Row, Slot, State, Words, PHASES};
 use second::cases::{lent, written_back};
 use second::make_files::{bytes_of_hex, SESSION};
 use second::recording::{read, Refusal};
-use second::settings::{Effect, Settings};
+use second::settings::{Effect, Settings, ALL_OPTIONS, SEVERAL_FORCED, TRIP_IF_BAD};
 
 fn refused(number: u8, place: u32) -> Refusal {
     Refusal { number, place }
@@ -143,6 +143,11 @@ impl Corner {
         self
     }
 
+    fn options(mut self, options: u8) -> Corner {
+        self.settings.options = options;
+        self
+    }
+
     fn timer(mut self, timer: u32) -> Corner {
         self.state.slots[0].timer = timer;
         self
@@ -193,7 +198,7 @@ fn p5_to_p7_from_ready_and_wait_reset() {
 }
 
 #[test]
-fn p8_to_p12() {
+fn p8_to_p11() {
     let p8 = corner(Phase::Normal).with(|words| words.values = 0);
     assert_eq!(p8.after(), (Phase::Tripped, 0, 1));
     let p9 = corner(Phase::Delayed).timer(100);
@@ -206,12 +211,20 @@ fn p8_to_p12() {
     });
     p11.state.slots[0].first_out = 1;
     assert_eq!(p11.after(), (Phase::Normal, 0, 0));
-    let mut p12 = corner(Phase::Tripped).with(|words| {
+}
+
+/// P12 as document 02, L3, changes it: its own row, without start permit, and the same with it.
+#[test]
+fn p12_does_not_see_the_masked_cause() {
+    let p12 = corner(Phase::Tripped).options(TRIP_IF_BAD).with(|words| {
         words.bad = 1;
         words.mask = 1;
     });
-    p12.settings.options = 1;
-    assert_eq!(p12.after(), (Phase::Tripped, 0, 0));
+    assert_eq!(p12.after(), (Phase::WaitStart, 0, 0));
+    let permitted = p12.with(|words| words.start_permit = 1);
+    assert_eq!(permitted.after(), (Phase::Normal, 0, 0));
+    let required = permitted.with(|words| words.require_reset = 1);
+    assert_eq!(required.after(), (Phase::WaitReset, 0, 0));
 }
 
 // ---- "Run and compared" ----
@@ -310,23 +323,6 @@ fn first_out_does_not_grow() {
 }
 
 #[test]
-fn first_out_on_forced_and_bad_ways_out_of_normal() {
-    for values in [0, 1] {
-        let mut forced = corner(Phase::Normal).with(|words| {
-            words.force_permit = 1;
-            words.force_trip = 1;
-        });
-        forced.row.words.values = values;
-        assert_eq!(forced.after(), (Phase::Tripped, 0, 1 - values));
-        let mut bad = corner(Phase::Normal).with(|words| words.bad = 1);
-        bad.settings.options = 1;
-        bad.settings.slots[0].delay = 500;
-        bad.row.words.values = values;
-        assert_eq!(bad.after(), (Phase::Tripped, 0, 1 - values));
-    }
-}
-
-#[test]
 fn held_reset_counts_in_the_first_scan_alone() {
     let reset = |phase| {
         corner(phase).with(|words| {
@@ -373,10 +369,6 @@ fn masked_causes_are_not_exercised() {
     assert_eq!(case.answer().exercised, 0);
     case.row.words.mask = 0;
     assert_eq!(case.answer().exercised, 7);
-    case.row.words.values = 1;
-    case.row.words.bad = 1;
-    case.settings.options = 1;
-    assert_eq!(case.answer().exercised, 0);
 }
 
 // ---- Latent words and forces ----
@@ -396,11 +388,181 @@ fn latent_word_needs_a_force_that_counts() {
     let mut by_option = forced(0, 0);
     by_option.settings.options = 2;
     assert_eq!(by_option.answer().latent_word, 1);
-    let mut bad = forced(1, 1).with(|words| words.bad = 1);
-    assert_eq!(bad.answer().latent_word, 0);
-    bad.settings.options = 1;
-    assert_eq!(bad.answer().latent_word, 1);
-    assert_eq!(bad.answer().effect_word, 1);
+}
+
+// ---- Bad causes, as document 02, L3, changes document 01 ----
+
+/// Both causes of the cases below, and both effects.
+const BOTH: u16 = 3;
+const DELAY: u32 = 500;
+
+/// Two causes and two quiet effects with a delay, of which the first sees cause 1 and the second
+/// both. Both stand in the state, with option bit 0.
+fn two_effects(phase: Phase) -> Corner {
+    let mut case = corner(phase).options(TRIP_IF_BAD).with(|words| {
+        words.values = BOTH;
+        words.start_permit = BOTH;
+        words.reset_permit = BOTH;
+    });
+    case.settings.causes = 2;
+    case.settings.effects = 2;
+    for (index, association) in [(0, 1), (1, BOTH)] {
+        case.settings.slots[index] = Effect {
+            association,
+            delay: DELAY,
+        };
+        case.state.slots[index] = Slot {
+            phase,
+            timer: case.state.slots[0].timer,
+            first_out: if phase == Phase::Normal { 0 } else { 1 },
+        };
+    }
+    case
+}
+
+impl Corner {
+    fn bad(self, bad: u16, mask: u16) -> Corner {
+        self.with(|words| {
+            words.bad = bad;
+            words.mask = mask;
+        })
+    }
+
+    fn forced(self, trip: u16, normal: u16) -> Corner {
+        let options = self.settings.options;
+        self.options(options | SEVERAL_FORCED).with(|words| {
+            words.force_permit = 1;
+            words.force_trip = trip;
+            words.force_normal = normal;
+        })
+    }
+
+    fn phases_after(&self) -> [Phase; 2] {
+        let slots = self.answer().state.slots;
+        [slots[0].phase, slots[1].phase]
+    }
+
+    fn first_outs_after(&self) -> [u16; 2] {
+        let slots = self.answer().state.slots;
+        [slots[0].first_out, slots[1].first_out]
+    }
+}
+
+/// The Bad word, the mask, and whether each effect sees a Bad cause.
+const SEEN: [(u16, u16, [bool; 2]); 9] = [
+    (0, 0, [false, false]),
+    (1, 0, [true, true]),
+    (1, 1, [false, false]),
+    (1, 2, [true, true]),
+    (2, 0, [false, true]),
+    (2, 2, [false, false]),
+    (2, 1, [false, true]),
+    (3, 1, [false, true]),
+    (3, 3, [false, false]),
+];
+
+#[test]
+fn each_effect_trips_by_its_own_unmasked_bad_causes() {
+    for phase in PHASES {
+        let left = two_effects(phase).phases_after();
+        assert!(phase == Phase::Tripped || left != [Phase::Tripped; 2]);
+        for (bad, mask, seen) in SEEN {
+            let case = two_effects(phase).bad(bad, mask);
+            let due = [0, 1].map(|index| {
+                if seen[index] {
+                    Phase::Tripped
+                } else {
+                    left[index]
+                }
+            });
+            assert_eq!(case.phases_after(), due, "{phase:?} {bad} {mask}");
+        }
+    }
+}
+
+#[test]
+fn no_other_option_trips_if_bad() {
+    for options in 0..=ALL_OPTIONS {
+        let case = two_effects(Phase::Normal).bad(BOTH, 0).options(options);
+        let tripped = options & TRIP_IF_BAD != 0;
+        let due = if tripped {
+            Phase::Tripped
+        } else {
+            Phase::Normal
+        };
+        assert_eq!(case.phases_after(), [due; 2], "options {options}");
+        assert_eq!(case.answer().exercised, u32::from(tripped));
+    }
+}
+
+/// Rule 3 comes before 4 to 9: neither a delay nor a timer counts, and no first-out is written but
+/// on leaving Normal.
+#[test]
+fn bad_trip_does_not_wait_and_keeps_a_first_out() {
+    let normal = two_effects(Phase::Normal).bad(2, 0);
+    let tripped = |first_out| Slot {
+        phase: Phase::Tripped,
+        timer: 0,
+        first_out,
+    };
+    assert_eq!(normal.answer().state.slots[1], tripped(2));
+    let delayed = two_effects(Phase::Delayed).bad(2, 0);
+    assert_eq!(delayed.answer().state.slots[1], tripped(1));
+    assert_eq!(delayed.answer().state.slots[0].phase, Phase::Delayed);
+}
+
+/// On every way out of Normal: the active causes, and with option bit 0 the Bad ones besides.
+#[test]
+fn first_out_takes_bad_causes_besides_the_active_ones() {
+    for values in 0..=BOTH {
+        for (bad, mask, _) in SEEN {
+            let tripped = !values & !mask & BOTH;
+            for (options, counted) in [(0, 0), (TRIP_IF_BAD, bad & !mask)] {
+                let case = two_effects(Phase::Normal)
+                    .options(options)
+                    .bad(bad, mask)
+                    .with(|words| words.values = values);
+                let first = tripped | counted;
+                let due = [first & 1, first];
+                assert_eq!(case.first_outs_after(), due, "{values} {bad} {mask}");
+                let forced = case.forced(BOTH, 0);
+                assert_eq!(forced.first_outs_after(), due, "{values} {bad} {mask}");
+                assert_eq!(forced.phases_after(), [Phase::Tripped; 2]);
+            }
+        }
+    }
+}
+
+#[test]
+fn latent_word_has_the_effects_that_see_a_bad_cause() {
+    for (bad, mask, seen) in SEEN {
+        let case = two_effects(Phase::Tripped).bad(bad, mask).forced(0, BOTH);
+        let due = u16::from(seen[0]) | u16::from(seen[1]) << 1;
+        assert_eq!(case.answer().latent_word, due, "{bad} {mask}");
+        assert_eq!(case.answer().effect_word, BOTH);
+        let options = case.settings.options & !TRIP_IF_BAD;
+        assert_eq!(case.options(options).answer().latent_word, 0);
+    }
+}
+
+/// A Bad cause that an effect sees is exercised, forced or not, with option bit 0 alone.
+#[test]
+fn bad_causes_that_an_effect_sees_are_exercised() {
+    for (bad, mask, seen) in SEEN {
+        for (trip, normal) in [(0, 0), (BOTH, 0), (0, BOTH)] {
+            let mut case = two_effects(Phase::Normal)
+                .bad(bad, mask)
+                .forced(trip, normal);
+            case.row.hold = 7;
+            let due = if seen[1] { 7 } else { 0 };
+            assert_eq!(case.answer().exercised, due, "{bad} {mask}");
+            let options = case.settings.options & !TRIP_IF_BAD;
+            assert_eq!(case.options(options).answer().exercised, 0);
+        }
+    }
+    let mut nobody = two_effects(Phase::Normal).bad(2, 0);
+    nobody.settings.slots[1].association = 1;
+    assert_eq!(nobody.answer().exercised, 0);
 }
 
 #[test]

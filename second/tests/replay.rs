@@ -579,7 +579,7 @@ fn fresh_listings_end_about_the_end_of_a_buffer() {
     let edge = 65_536 - 1_568;
     let mut seen = BTreeSet::new();
     let mut random = Random::new(3);
-    for _ in 0..60 {
+    for _ in 0..400 {
         let ending = random_ending(&mut random, 65_536);
         let file = filled_file(&mut random, 65_536, &ending);
         let one = printed(&file, 65_536).expect("read");

@@ -6,8 +6,9 @@ use Prim.Native.Nat.{ℕ, zero, suc, _+_, _-_, _*_, _/_, _%_, _^_, _<_, _≤_}
 use native.Mathlib.Nat.{lt-of-lt-of-le, lt-of-le-of-lt, pow-suc, mul-assoc, add-mul-div-right, add-mul-mod-self-right, div-eq-of-lt, mod-eq-of-lt, mod-lt, mod-one, zero-add, zero-lt-suc, eq-or-lt-of-le, le-of-suc-le-suc, not-suc-le-zero}
 use native.Mathlib.Numerals.{add-one, one-add}
 use native.Mathlib.Omega.{arith}
-use lib.Bits.{bitAnd, bitOr, bitXor, or-shifted-r, and-shr, or-shr, xor-shr, and-mod, or-mod, xor-mod, and-le-l, and-lt, or-lt}
-use lib.Dec.{eqb, lit<}
+use borrow.Author.Tests.{lt-ltb}
+use lib.Bits.{bitAnd, bitOr, bitXor, or-shifted-r, and-shr, or-shr, xor-shr, and-mod, or-mod, xor-mod, and-le-l, and-le-r, and-lt, or-lt, or-zero-l, or-add-and}
+use lib.Dec.{eqb, ltb, lit<}
 use lib.Pow.{shl-exact, pow-add, pow-pos, pow-mono, mod-pow-add}
 use Rattle.bits.specs.Words.{bitOf, wordOf, one}
 
@@ -189,28 +190,37 @@ less-word f g n h =
     ∙ ap₂ _&&_ (bit-wordOf f n i k) (bit-not (wordOf g n) i small (omega arith) ∙ ap not (bit-wordOf g n i k))
     ∙ sym (bit-wordOf (λ j. f j && not (g j)) n i k))
 
-pub and-assoc : (a b c : ℕ) → a < 65536 → bitAnd (bitAnd a b) c ≡ bitAnd a (bitAnd b c)
-and-assoc a b c h =
-    same-bits _ _ 16 (omega (arith, and-le-l (bitAnd a b) c, and-le-l a b)) (omega (arith, and-le-l a (bitAnd b c)))
-    (λ i k. bit-and (bitAnd a b) c i ∙ ap (λ (x : Bool). x && bitOf c i) (bit-and a b i) ∙ go (bitOf a i) (bitOf b i) (bitOf c i)
-    ∙ sym (bit-and a (bitAnd b c) i ∙ ap (λ (x : Bool). bitOf a i && x) (bit-and b c i)))
+-- a number has fewer than so many bits
+few-bits : (a : ℕ) → a < 2 ^ a
+few-bits zero = omega arith
+few-bits (suc a) = omega (arith, few-bits a)
+
+-- the bits of a that v or w also has are those that v has and those that w has
+pub and-or : (a v w : ℕ) → bitAnd a (bitOr v w) ≡ bitOr (bitAnd a v) (bitAnd a w)
+and-or a v w =
+    let lt : (x : ℕ) → bitAnd a x < 2 ^ a = λ x. lt-of-le-of-lt (and-le-l a x) (few-bits a) in
+    same-bits _ _ a (lt (bitOr v w)) (or-lt a _ _ (lt v) (lt w))
+    (λ i k. bit-and a (bitOr v w) i ∙ ap (λ (b : Bool). bitOf a i && b) (bit-or v w i) ∙ go (bitOf a i) (bitOf v i) (bitOf w i)
+    ∙ sym (bit-or (bitAnd a v) (bitAnd a w) i ∙ ap₂ _||_ (bit-and a v i) (bit-and a w i)))
   where
-    go : (x y z : Bool) → ((x && y) && z) ≡ (x && (y && z))
+    go : (x y z : Bool) → (x && (y || z)) ≡ ((x && y) || (x && z))
     go true y z = refl
     go false y z = refl
 
--- the bits of a that m and v also have are bits of a
-pub less-inside : (a m v : ℕ) → a < 65536 → bitAnd (bitAnd (bitAnd a m) v) a ≡ bitAnd (bitAnd a m) v
-less-inside a m v h =
-    let b : bitAnd (bitAnd a m) v < 2 ^ 16 = omega (arith, and-le-l (bitAnd a m) v, and-le-l a m) in
-    same-bits _ _ 16 (omega (arith, and-le-l (bitAnd (bitAnd a m) v) a)) b
-    (λ i k. bit-and (bitAnd (bitAnd a m) v) a i ∙ ap₂ _&&_ (three i) refl ∙ again (bitOf a i) (bitOf m i) (bitOf v i) ∙ sym (three i))
-  where
-    three : (i : ℕ) → bitOf (bitAnd (bitAnd a m) v) i ≡ ((bitOf a i && bitOf m i) && bitOf v i)
-    three i = bit-and (bitAnd a m) v i ∙ ap (λ (b : Bool). b && bitOf v i) (bit-and a m i)
+-- one of two words has a bit if and only if they have one together
+pub some-or : (v w : ℕ) → ltb 0 (bitOr v w) ≡ (ltb 0 v || ltb 0 w)
+some-or zero w = ap (ltb 0) (or-zero-l w)
+some-or (suc v) w =
+    lt-ltb 0 (bitOr (suc v) w) (omega (arith, or-add-and (suc v) w, and-le-r (suc v) w))
+    ∙ sym (ap (λ (b : Bool). b || ltb 0 w) (lt-ltb 0 (suc v) (omega arith)))
 
-    again : (x y z : Bool) → (((x && y) && z) && x) ≡ ((x && y) && z)
-    again true true true = refl
-    again true true false = refl
-    again true false z = refl
-    again false y z = refl
+-- the bits of a that v also has are bits of a
+pub and-inside : (a v : ℕ) → bitAnd (bitAnd a v) a ≡ bitAnd a v
+and-inside a v =
+    same-bits _ _ a (lt-of-le-of-lt (and-le-r (bitAnd a v) a) (few-bits a)) (lt-of-le-of-lt (and-le-l a v) (few-bits a))
+    (λ i k. bit-and (bitAnd a v) a i ∙ ap (λ (b : Bool). b && bitOf a i) (bit-and a v i) ∙ again (bitOf a i) (bitOf v i) ∙ sym (bit-and a v i))
+  where
+    again : (x y : Bool) → ((x && y) && x) ≡ (x && y)
+    again true true = refl
+    again true false = refl
+    again false y = refl

@@ -7,17 +7,17 @@ use Prim.Native.Nat.{ℕ, _-_, _≤_, _<_}
 use native.Mathlib.Nat.{zero-add}
 use native.Mathlib.Omega.{arith}
 use borrow.Author.Tests.{leb-true, leb-false, ltb-true, ltb-false, le-leb, eq-eqb, lt-ltb, not-true}
-use lib.Bits.{bitAnd}
+use lib.Bits.{bitAnd, bitOr}
 use lib.Dec.{leb, ltb, eqb}
 use lib.ListN.{length, getD}
 use Rattle.bits.specs.Lists.{allFrom}
 use Rattle.bits.proofs.Lists.{and-left, and-right, both as both-true, all-at, all-pass, all-replicate, length-tabulate, getD-tabulate}
-use Rattle.bits.proofs.Words.{less-inside}
+use Rattle.bits.proofs.Words.{and-or, and-inside}
 use Rattle.rules.specs.declared.EffectState.{EffectState}
 use Rattle.rules.specs.declared.EffectState.the-variants.{Normal, Delayed}
 use Rattle.rules.specs.Signals.{Signals, Asks}
 use Rattle.rules.specs.declared.Slot.{Slot}
-use Rattle.rules.specs.Rules.{same, rule, asks, after as stateAfter, next, noSlot, noSignals}
+use Rattle.rules.specs.Rules.{same, rule, asks, after as stateAfter, next, firstOutWord, noSlot, noSignals}
 use Rattle.rules.proofs.Answers.{both, allStates, every, every-at}
 use Rattle.effects.specs.Scan.{steps}
 use Rattle.effects.proofs.Laws.{step-at, step-past, length-steps}
@@ -25,9 +25,9 @@ use Rattle.settings.specs.declared.Settings.{Settings}
 use Rattle.settings.specs.declared.Words.{Words}
 use Rattle.rules.specs.Limits.{mostScans}
 use Rattle.settings.specs.Right.{settingsNumber}
+use Rattle.settings.specs.Causes.{seenOf}
 use Rattle.settings.specs.Signals.{signals, signalsOf, noEffect}
 use Rattle.settings.proofs.Refusals.{unless-none}
-use Rattle.settings.proofs.Right.{association-lt}
 use Rattle.block.specs.declared.State.{State}
 use Rattle.slots.specs.Slots.{timerRight, firstRight, slotRight, slotUnused, slotOk}
 use Rattle.block.specs.State.{stateOk, stateNumber, fresh}
@@ -69,11 +69,11 @@ module _ (s : Signals) (x : Slot) where
           both-true (leb 1 (s .delay)) (leb (s .delay) (s .delay)) (le-leb 1 (s .delay) (omega arith)) (le-leb (s .delay) (s .delay) (omega arith))
 
   -- a scan keeps a first-out inside the association word
-  pub first-keeps : (association : ℕ) → bitAnd (s .active) association ≡ s .active → firstRight association x ≡ true → firstRight association (next s x) ≡ true
+  pub first-keeps : (association : ℕ) → bitAnd (firstOutWord s) association ≡ firstOutWord s → firstRight association x ≡ true → firstRight association (next s x) ≡ true
   first-keeps a inside r = go (same (stateAfter s x) Normal) (same (x .state) Normal) r
     where
       go : (b c : Bool) → cond c (eqb (x .«first_out») 0) (eqb (bitAnd (x .«first_out») a) (x .«first_out»)) ≡ true
-          → cond b (eqb (cond b 0 (cond c (s .active) (x .«first_out»))) 0) (eqb (bitAnd (cond b 0 (cond c (s .active) (x .«first_out»))) a) (cond b 0 (cond c (s .active) (x .«first_out»)))) ≡ true
+          → cond b (eqb (cond b 0 (cond c (firstOutWord s) (x .«first_out»))) 0) (eqb (bitAnd (cond b 0 (cond c (firstOutWord s) (x .«first_out»))) a) (cond b 0 (cond c (firstOutWord s) (x .«first_out»)))) ≡ true
       go true c r = refl
       go false true r = eq-eqb _ _ inside
       go false false r = r
@@ -81,15 +81,19 @@ module _ (s : Signals) (x : Slot) where
 -- ## All slots
 
 -- what an effect sees agrees with its settings
-module _ (st : Settings) (w : Words) (right : settingsNumber st ≡ 0) (i : ℕ) (h : i < st .count) where
-  active-inside : bitAnd (signalsOf st w i .active) (getD (st .effects) i noEffect .association) ≡ signalsOf st w i .active
+module _ (st : Settings) (w : Words) (i : ℕ) where
+  -- the word that a first-out takes lies inside the association word
+  first-inside : bitAnd (firstOutWord (signalsOf st w i)) (getD (st .effects) i noEffect .association) ≡ firstOutWord (signalsOf st w i)
   unfolding signalsOf
-  active-inside = less-inside _ _ _ (association-lt st right i h)
+  first-inside =
+      let seen = seenOf (st .options) w in
+      let a = getD (st .effects) i noEffect .association in
+      rw (← and-or a (seen .tripped) (seen .bad)) (and-inside a (bitOr (seen .tripped) (seen .bad)))
 
   pub slot-keeps : (x : Slot) → slotRight (getD (st .effects) i noEffect) x ≡ true → slotRight (getD (st .effects) i noEffect) (next (signalsOf st w i) x) ≡ true
   unfolding signalsOf
   slot-keeps x r =
-      both-true _ _ (timer-keeps (signalsOf st w i) x (and-left _ _ r)) (first-keeps (signalsOf st w i) x _ active-inside (and-right (timerRight (getD (st .effects) i noEffect .delay) x) _ r))
+      both-true _ _ (timer-keeps (signalsOf st w i) x (and-left _ _ r)) (first-keeps (signalsOf st w i) x _ first-inside (and-right (timerRight (getD (st .effects) i noEffect .delay) x) _ r))
 
 -- the parts of a valid state
 module _ (st : Settings) (x : State) (right : stateNumber st x ≡ 0) where
@@ -116,7 +120,7 @@ module _ (st : Settings) (w : Words) (right : settingsNumber st ≡ 0) (xs : Lis
   below : (i : ℕ) → i < length xs → i < st .count → slotOk st i (getD (steps (signals st w) xs) i noSlot) ≡ true
   below i k h =
       rw (step-at (signals st w) xs i noSignals noSlot (rw length-tabulate h) k, getD-tabulate (signalsOf st w) (st .count) i noSignals h, lt-ltb i (st .count) h)
-      (slot-keeps st w right i h (getD xs i noSlot) (rw (lt-ltb i (st .count) h) at (slot-at i k)))
+      (slot-keeps st w i (getD xs i noSlot) (rw (lt-ltb i (st .count) h) at (slot-at i k)))
 
   past : (i : ℕ) → i < length xs → st .count ≤ i → slotOk st i (getD (steps (signals st w) xs) i noSlot) ≡ true
   past i k h = rw (step-past (signals st w) xs i noSlot (rw length-tabulate h)) (slot-at i k)

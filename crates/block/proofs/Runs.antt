@@ -90,7 +90,7 @@ module _ (st : Settings) (row : Row) (x : State) (input : inputNumber st x row �
   words-are : (run st row x .effect ≡ effectWord (st .count) (run st row x .state .slots)) × (run st row x .latent ≡ latentWord (signals st (row .words)))
   words-are = from-hold (row .hold) (hold-some (knownOf st) row (row-right st row x _ refl input)) refl
 
-  -- the exercised scans are the hold if some effect's active word is not 0, else 0
+  -- the exercised scans are the hold if some effect is exercised, else 0
   pub exercised-is : run st row x .exercised ≡ row .hold * one (anyExercised (signals st (row .words)))
   unfolding run
   exercised-is = stepped-exercised st (row .hold) (row .words) (start x) ∙ zero-add _

@@ -95,7 +95,7 @@ module _ (st : Settings) (row : Row) (x : State) (settings : settingsNumber st �
   pub scans-done-grow-by-the-hold : run st row x .state .«scans_done» ≡ x .«scans_done» + row .hold
   scans-done-grow-by-the-hold = runs.done-is st row x right-input-is-accepted
 
-  -- exercised scans are the hold where some effect's active word is not 0, else 0
+  -- exercised scans are the hold where some effect is exercised, else 0
   pub exercised-is-the-hold-or-nothing : run st row x .exercised ≡ row .hold * one (anyExercised (signals st (row .words)))
   exercised-is-the-hold-or-nothing = runs.exercised-is st row x right-input-is-accepted
 

@@ -54,7 +54,7 @@ abbrev pub single : Settings → Words → State → Scanned
 single st w x = scanOf st w x (recordLength * length (events st w x))
 
 -- one single scan more. It is live if some effect's state after it differs from before, and it counts as exercised if any
--- effect's active word is not 0
+-- effect does
 abbrev pub step : Settings → Words → Stepped → Stepped
 step st w r =
     record {

@@ -16,6 +16,7 @@ use Rattle.bits.proofs.Words.{bit-wordOf}
 use Rattle.rules.specs.Limits.{mostHold, mostPeriod}
 use Rattle.rules.specs.declared.EffectState.the-variants.{Delayed}
 use Rattle.rules.specs.declared.Slot.{Slot}
+use Rattle.rules.specs.declared.Seen.{Seen}
 use Rattle.rules.specs.Signals.{Signals}
 use Rattle.rules.specs.Rules.{noSlot, same, asks, next, moved}
 use Rattle.effects.specs.Scan.{anyMoved}
@@ -125,7 +126,7 @@ module _ (n : ℕ) (few : n ≤ 16) (s : ℕ → Signals) (xs : List Slot) (long
   pub live-word : not (eqb (changedOf (planesOf n (λ i. x i .state)) (planesOf n (λ i. next (s i) (x i) .state))) 0) ≡ anyMoved (tabulate s n) xs
   live-word = rw (changed-word n few, none-set) (Bool·not-not _ ∙ sym (any-upto n few))
 
-  module _ (associations delays : List ℕ) (period tripped : ℕ) (sees : Sees associations delays period tripped s) where
+  module _ (associations delays : List ℕ) (period : ℕ) (seen : Seen) (sees : Sees associations delays period seen s) where
     module _ (m : ℕ) (pos : 0 < period) (short : period ≤ mostPeriod) (most : m ≤ mostHold) where
       abbrev before : ℕ → ℕ
       before j = cond (anyTo (λ i. moved (s i) (x i)) j) 0 (min m ((lowTo (λ i. same (x i .state) Delayed) (λ i. x i .timer) j - 1) / period))
@@ -152,7 +153,7 @@ module _ (n : ℕ) (few : n ≤ 16) (s : ℕ → Signals) (xs : List Slot) (long
       pub quiets-word : quietsBy m n period (askedOf n (λ i. asks (s i))) (tableOf n xs .planes) (tableOf n xs .timers) ≡ quiets m (tabulate s n) xs
       unfolding quietsBy tableOf planesOf
       quiets-word =
-          rw (planes-step n few associations delays period tripped s sees xs long, changed-word n few, none-set, low-word)
+          rw (planes-step n few associations delays period seen s sees xs long, changed-word n few, none-set, low-word)
           (not-cond (anyTo (λ i. moved (s i) (x i)) n) _ ∙ sym (to n few))
 
     -- ## The slots after scans that are not live

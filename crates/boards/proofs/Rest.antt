@@ -11,9 +11,10 @@ use lib.Seq.{getD-drop}
 use Rattle.bits.specs.Lists.{tabulate}
 use Rattle.bits.specs.Words.{bitOf, wordOf}
 use Rattle.bits.proofs.Lists.{length-tabulate, getD-filled}
+use Rattle.rules.specs.declared.Seen.{Seen}
 use Rattle.planes.specs.declared.Asked.{Asked}
 use Rattle.planes.specs.Planes.{planesAfter}
-use Rattle.boards.specs.Table.{Table, activeIn, dueAt, timerBy, firstBy, Still, Blank, Narrow, Settled, tableAfter, tableLater}
+use Rattle.boards.specs.Table.{Table, watchedBy, blamed, dueAt, timerBy, firstBy, Still, Blank, Narrow, Settled, tableAfter, tableLater}
 
 -- ## Filled anew
 
@@ -29,11 +30,11 @@ still-after n timers delays period was is =
       none = λ i k e. getD-filled _ n _ i 0 k ∙ ap (λ (t : Bool). cond t (cond (bitOf was i) (getD timers i 0 - period) (getD delays i 0)) 0) e;
     }
 
-blank-after : (n : ℕ) (firsts associations : List ℕ) (tripped was is : ℕ) → Blank n is (tabulate (firstBy firsts associations tripped was is) n ++ drop n firsts)
-blank-after n firsts associations tripped was is =
+blank-after : (n : ℕ) (firsts associations : List ℕ) (causes was is : ℕ) → Blank n is (tabulate (firstBy firsts associations causes was is) n ++ drop n firsts)
+blank-after n firsts associations causes was is =
     record {
       long = filled-long _ n firsts;
-      none = λ i k e. getD-filled _ n _ i 0 k ∙ ap (λ (t : Bool). cond t 0 (cond (bitOf was i) (activeIn associations tripped i) (getD firsts i 0))) e;
+      none = λ i k e. getD-filled _ n _ i 0 k ∙ ap (λ (t : Bool). cond t 0 (cond (bitOf was i) (watchedBy associations causes i) (getD firsts i 0))) e;
     }
 
 -- first-outs have 16 bits in two lists joined, and in a list made by index, if they do in each part
@@ -51,30 +52,30 @@ unfolding tabulate
 narrow-tabulate f zero h i = omega arith
 narrow-tabulate f (suc n) h i = narrow-append (tabulate f n) (f n ∷ []) (narrow-tabulate f n h) (narrow-one (f n) (h n)) i
 
--- a first-out is 0, or some of the causes that are tripped, or as it was
-narrow-first : (firsts associations : List ℕ) (tripped was is : ℕ) → tripped < 2 ^ 16 → Narrow firsts → (i : ℕ) → firstBy firsts associations tripped was is i < 2 ^ 16
-narrow-first firsts associations tripped was is small h i = go (bitOf was i) (bitOf is i)
+-- a first-out is 0, or some of the causes that it may take, or as it was
+narrow-first : (firsts associations : List ℕ) (causes was is : ℕ) → causes < 2 ^ 16 → Narrow firsts → (i : ℕ) → firstBy firsts associations causes was is i < 2 ^ 16
+narrow-first firsts associations causes was is small h i = go (bitOf was i) (bitOf is i)
   where
-    go : (was is : Bool) → cond is 0 (cond was (activeIn associations tripped i) (getD firsts i 0)) < 2 ^ 16
+    go : (was is : Bool) → cond is 0 (cond was (watchedBy associations causes i) (getD firsts i 0)) < 2 ^ 16
     go was true = omega arith
-    go true false = omega (arith, and-le-r (getD associations i 0) tripped)
+    go true false = omega (arith, and-le-r (getD associations i 0) causes)
     go false false = h i
 
-pub narrow-after : (n : ℕ) (firsts associations : List ℕ) (tripped was is : ℕ) → tripped < 2 ^ 16 → Narrow firsts
-    → Narrow (tabulate (firstBy firsts associations tripped was is) n ++ drop n firsts)
-narrow-after n firsts associations tripped was is small h =
-    narrow-append (tabulate (firstBy firsts associations tripped was is) n) (drop n firsts) (narrow-tabulate _ n (narrow-first firsts associations tripped was is small h))
+pub narrow-after : (n : ℕ) (firsts associations : List ℕ) (causes was is : ℕ) → causes < 2 ^ 16 → Narrow firsts
+    → Narrow (tabulate (firstBy firsts associations causes was is) n ++ drop n firsts)
+narrow-after n firsts associations causes was is small h =
+    narrow-append (tabulate (firstBy firsts associations causes was is) n) (drop n firsts) (narrow-tabulate _ n (narrow-first firsts associations causes was is small h))
     (λ i. rw getD-drop (h (n + i)))
 
-pub settled-after : (n : ℕ) (associations delays : List ℕ) (period tripped : ℕ) (w : Asked) (b : Table) → tripped < 2 ^ 16 → Narrow (b .firsts)
-    → Settled n (tableAfter n associations delays period tripped w b)
+pub settled-after : (n : ℕ) (associations delays : List ℕ) (period : ℕ) (seen : Seen) (w : Asked) (b : Table) → blamed seen < 2 ^ 16 → Narrow (b .firsts)
+    → Settled n (tableAfter n associations delays period seen w b)
 unfolding tableAfter
-settled-after n associations delays period tripped w b small h =
+settled-after n associations delays period seen w b small h =
     let q = planesAfter w (wordOf (dueAt (b .timers) period) n) (b .planes) in
     record {
       still = still-after n (b .timers) delays period (b .planes .delayed) (q .delayed);
-      blank = blank-after n (b .firsts) associations tripped (b .planes .normal) (q .normal);
-      narrow = narrow-after n (b .firsts) associations tripped (b .planes .normal) (q .normal) small h;
+      blank = blank-after n (b .firsts) associations (blamed seen) (b .planes .normal) (q .normal);
+      narrow = narrow-after n (b .firsts) associations (blamed seen) (b .planes .normal) (q .normal) small h;
     }
 
 pub settled-later : (k n period : ℕ) (b : Table) → Settled n b → Settled n (tableLater k n period b)

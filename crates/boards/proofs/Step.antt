@@ -9,15 +9,16 @@ use lib.Seq.{drop-at}
 use Rattle.bits.specs.Lists.{tabulate}
 use Rattle.bits.specs.Words.{wordOf}
 use Rattle.bits.proofs.Lists.{length-tabulate, tabulate-ext, getD-tabulate, getD-filled}
-use Rattle.bits.proofs.Words.{bit-wordOf, wordOf-ext}
+use Rattle.bits.proofs.Words.{bit-wordOf, wordOf-ext, and-or}
 use Rattle.rules.specs.declared.EffectState.the-variants.{Normal, Delayed}
 use Rattle.rules.specs.declared.Slot.{Slot}
+use Rattle.rules.specs.declared.Seen.{Seen}
 use Rattle.rules.specs.Signals.{Signals}
 use Rattle.rules.specs.Rules.{noSlot, same, asks, next}
 use Rattle.effects.specs.Scan.{steps}
 use Rattle.effects.proofs.Laws.{step-at}
 use Rattle.planes.specs.declared.Planes.{Planes}
-use Rattle.boards.specs.Table.{Table, activeIn, dueAt, timerBy, firstBy, tableAfter, padded, tableOf}
+use Rattle.boards.specs.Table.{Table, watchedBy, blamed, dueAt, timerBy, firstBy, tableAfter, padded, tableOf}
 use Rattle.planes.specs.Planes.{planesOf, planesAfter, askedOf}
 use Rattle.planes.proofs.ByWord.{by-word, planesOf-ext}
 
@@ -48,15 +49,16 @@ table-path a b c = λ i. table (a i) (b i) (c i)
 
 -- ## What the signals of the effects have to be
 
--- the signals s i see these causes, delays and this period
-pub record Sees (associations delays : List ℕ) (period tripped : ℕ) (s : ℕ → Signals) : Type 0 where
-  pub active : (i : ℕ) → s i .active ≡ activeIn associations tripped i
+-- the signals s i see this of the causes, these delays and this period
+pub record Sees (associations delays : List ℕ) (period : ℕ) (seen : Seen) (s : ℕ → Signals) : Type 0 where
+  pub active : (i : ℕ) → s i .active ≡ watchedBy associations (seen .tripped) i
+  pub bad : (i : ℕ) → s i .bad ≡ watchedBy associations (seen .bad) i
   pub delay : (i : ℕ) → s i .delay ≡ getD delays i 0
   pub time : (i : ℕ) → s i .period ≡ period
 
 -- ## The scan
 
-module _ (n : ℕ) (few : n ≤ 16) (associations delays : List ℕ) (period tripped : ℕ) (s : ℕ → Signals) (sees : Sees associations delays period tripped s)
+module _ (n : ℕ) (few : n ≤ 16) (associations delays : List ℕ) (period : ℕ) (seen : Seen) (s : ℕ → Signals) (sees : Sees associations delays period seen s)
     (xs : List Slot) (long : length xs ≡ 16) where
   abbrev x : ℕ → Slot
   x i = getD xs i noSlot
@@ -88,20 +90,22 @@ module _ (n : ℕ) (few : n ≤ 16) (associations delays : List ℕ) (period tri
       )
 
   first-step : (i : ℕ) → i < n
-      → firstBy (padded n (λ j. x j .«first_out»)) associations tripped (wordOf (λ j. same (x j .state) Normal) n) (wordOf (λ j. same (y j .state) Normal) n) i ≡ y i .«first_out»
+      → firstBy (padded n (λ j. x j .«first_out»)) associations (blamed seen) (wordOf (λ j. same (x j .state) Normal) n) (wordOf (λ j. same (y j .state) Normal) n) i ≡ y i .«first_out»
   first-step i k =
       rw (
         bit-wordOf (λ j. same (y j .state) Normal) n i k,
         bit-wordOf (λ j. same (x j .state) Normal) n i k,
         padded-at n (λ j. x j .«first_out») i k,
-        ← sees .active i,
+        sees .active i,
+        sees .bad i,
+        ← and-or (getD associations i 0) (seen .tripped) (seen .bad),
       )
 
   -- the table after the scan, effect by effect
   abbrev middle : Table
   middle = table (planesOf n (λ i. y i .state)) (padded n (λ i. y i .timer)) (padded n (λ i. y i .«first_out»))
 
-  pub table-middle : tableAfter n associations delays period tripped (askedOf n (λ i. asks (s i))) (tableOf n xs) ≡ middle
+  pub table-middle : tableAfter n associations delays period seen (askedOf n (λ i. asks (s i))) (tableOf n xs) ≡ middle
   unfolding tableAfter tableOf planesOf
   table-middle =
       rw planes-step
@@ -117,5 +121,5 @@ module _ (n : ℕ) (few : n ≤ 16) (associations delays : List ℕ) (period tri
       (padded-ext n _ _ (λ i k. sym (ap (λ (z : Slot). z .timer) (stepped i k))))
       (padded-ext n _ _ (λ i k. sym (ap (λ (z : Slot). z .«first_out») (stepped i k))))
 
-  pub table-step : tableAfter n associations delays period tripped (askedOf n (λ i. asks (s i))) (tableOf n xs) ≡ tableOf n (steps (tabulate s n) xs)
+  pub table-step : tableAfter n associations delays period seen (askedOf n (λ i. asks (s i))) (tableOf n xs) ≡ tableOf n (steps (tabulate s n) xs)
   table-step = table-middle ∙ middle-table

@@ -7,13 +7,14 @@ use lib.Dec.{eqb}
 use lib.ListN.{length, getD}
 use Rattle.bits.specs.Lists.{tabulate}
 use Rattle.bits.specs.Words.{bitOf, one}
+use Rattle.rules.specs.declared.Seen.{Seen}
 use Rattle.rules.specs.Signals.{Signals}
 use Rattle.rules.specs.Rules.{asks}
 use Rattle.effects.specs.Records.{recordLength}
 use Rattle.rounds.specs.Steps.{Run, start}
 use Rattle.planes.specs.declared.Asked.{Asked}
 use Rattle.planes.specs.Planes.{changedOf, askedOf}
-use Rattle.boards.specs.Table.{Table, activeIn, tableAfter, tableLater, Settled, tableOf, slotsOf, entriesTo}
+use Rattle.boards.specs.Table.{Table, watchedBy, tableAfter, tableLater, Settled, tableOf, slotsOf, entriesTo}
 
 -- how far a run of scans has got: the scans done, the next sequence number, the place after its records, the live scans so far, and
 -- what is kept of the effects
@@ -25,16 +26,16 @@ pub record Board : Type 0 where
   pub table : Table
 
 -- the records of a scan
-abbrev pub entriesOf : (n : ℕ) (associations delays : List ℕ) (period tripped : ℕ) → Asked → Board → List (List ℕ)
-entriesOf n associations delays period tripped w x =
-    let y = tableAfter n associations delays period tripped w (x .table) in
+abbrev pub entriesOf : (n : ℕ) (associations delays : List ℕ) (period : ℕ) → Seen → Asked → Board → List (List ℕ)
+entriesOf n associations delays period seen w x =
+    let y = tableAfter n associations delays period seen w (x .table) in
     entriesTo (x .next) (x .«scans_done» + 1) (changedOf (x .table .planes) (y .planes)) (x .table .planes) (y .planes) (y .firsts) 16
 
 -- the board after one scan more
-unfoldable pub scanned : (n : ℕ) (associations delays : List ℕ) (period tripped : ℕ) → Asked → Board → Board
-scanned n associations delays period tripped w x =
-    let y = tableAfter n associations delays period tripped w (x .table) in
-    let es = entriesOf n associations delays period tripped w x in
+unfoldable pub scanned : (n : ℕ) (associations delays : List ℕ) (period : ℕ) → Seen → Asked → Board → Board
+scanned n associations delays period seen w x =
+    let y = tableAfter n associations delays period seen w (x .table) in
+    let es = entriesOf n associations delays period seen w x in
     record {
       «scans_done» = x .«scans_done» + 1;
       next = (x .next + length es) % 2 ^ 16;
@@ -66,11 +67,11 @@ unset w =
 -- ## What the words show
 
 -- the signals of effect i
-unfoldable pub signalsBy : (associations delays : List ℕ) (period tripped : ℕ) → Asked → ℕ → Signals
-signalsBy associations delays period tripped w i =
+unfoldable pub signalsBy : (associations delays : List ℕ) (period : ℕ) → Seen → Asked → ℕ → Signals
+signalsBy associations delays period seen w i =
     record {
-      active = activeIn associations tripped i;
-      bad = bitOf (w .«bad_trip») i;
+      active = watchedBy associations (seen .tripped) i;
+      bad = watchedBy associations (seen .bad) i;
       trip = bitOf (w .«force_trip») i;
       normal = bitOf (w .«force_normal») i;
       require = bitOf (w .«require_reset») i;
@@ -82,8 +83,8 @@ signalsBy associations delays period tripped w i =
     }
 
 -- the signals of all effects
-abbrev pub signalsIn : (n : ℕ) (associations delays : List ℕ) (period tripped : ℕ) → Asked → List Signals
-signalsIn n associations delays period tripped w = tabulate (signalsBy associations delays period tripped w) n
+abbrev pub signalsIn : (n : ℕ) (associations delays : List ℕ) (period : ℕ) → Seen → Asked → List Signals
+signalsIn n associations delays period seen w = tabulate (signalsBy associations delays period seen w) n
 
 -- the run that starts at a board
 abbrev pub runOf : ℕ → Board → Run
@@ -100,6 +101,6 @@ pub record Shown (n : ℕ) (b : Table) : Type 0 where
   pub settled : Settled n b
 
 -- the words are those of the signals and slots that they show
-pub record Right (n : ℕ) (associations delays : List ℕ) (period tripped : ℕ) (w : Asked) (x : Board) : Type 0 where
-  pub asked : w ≡ askedOf n (λ i. asks (signalsBy associations delays period tripped w i))
+pub record Right (n : ℕ) (associations delays : List ℕ) (period : ℕ) (seen : Seen) (w : Asked) (x : Board) : Type 0 where
+  pub asked : w ≡ askedOf n (λ i. asks (signalsBy associations delays period seen w i))
   pub table : Shown n (x .table)

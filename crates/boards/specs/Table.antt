@@ -3,11 +3,12 @@ use mathlib.Core.Path.{_≡_}
 use Prim.Native.Nat.{ℕ, zero, suc, _+_, _-_, _*_, _/_, _%_, _^_, _<_, _≤_, min}
 use mathlib.Core.Bool.{Bool, true, false, cond, _&&_}
 use mathlib.Core.List.{List, _++_, flatMap}
-use lib.Bits.{bitAnd}
+use lib.Bits.{bitAnd, bitOr}
 use lib.Dec.{leb, ltb, eqb}
 use lib.ListN.{drop, getD, length, replicate}
 use Rattle.bits.specs.Lists.{tabulate}
 use Rattle.bits.specs.Words.{bitOf, wordOf}
+use Rattle.rules.specs.declared.Seen.{Seen}
 use Rattle.rules.specs.declared.Slot.{Slot}
 use Rattle.rules.specs.Rules.{noSlot}
 use Rattle.effects.specs.Records.{recordOf}
@@ -24,12 +25,17 @@ pub record Table : Type 0 where
 
 -- ## A scan
 
--- the active word of effect i. tripped: the causes that are tripped and not masked
-abbrev pub activeIn : (associations : List ℕ) (tripped : ℕ) → ℕ → ℕ
-activeIn associations tripped i = bitAnd (getD associations i 0) tripped
+-- of a word of causes, those that effect i watches
+abbrev pub watchedBy : (associations : List ℕ) (causes : ℕ) → ℕ → ℕ
+watchedBy associations causes i = bitAnd (getD associations i 0) causes
 
-abbrev pub activeAt : (associations : List ℕ) (tripped : ℕ) → ℕ → Bool
-activeAt associations tripped i = ltb 0 (activeIn associations tripped i)
+-- effect i watches one of the causes
+abbrev pub watches : (associations : List ℕ) (causes : ℕ) → ℕ → Bool
+watches associations causes i = ltb 0 (watchedBy associations causes i)
+
+-- the causes that a first-out takes, if its effect watches them
+abbrev pub blamed : Seen → ℕ
+blamed seen = bitOr (seen .tripped) (seen .bad)
 
 abbrev pub dueAt : (timers : List ℕ) (period : ℕ) → ℕ → Bool
 dueAt timers period i = leb (getD timers i 0) period
@@ -42,17 +48,17 @@ dueIn timers period delayed i = bitOf delayed i && dueAt timers period i
 abbrev pub timerBy : (timers delays : List ℕ) (period was is : ℕ) → ℕ → ℕ
 timerBy timers delays period was is i = cond (bitOf is i) (cond (bitOf was i) (getD timers i 0 - period) (getD delays i 0)) 0
 
--- the first-out of effect i after a scan. was, is: the effects in Normal before it and after it
-abbrev pub firstBy : (firsts associations : List ℕ) (tripped was is : ℕ) → ℕ → ℕ
-firstBy firsts associations tripped was is i = cond (bitOf is i) 0 (cond (bitOf was i) (activeIn associations tripped i) (getD firsts i 0))
+-- the first-out of effect i after a scan. causes: those that it may take. was, is: the effects in Normal before the scan and after it
+abbrev pub firstBy : (firsts associations : List ℕ) (causes was is : ℕ) → ℕ → ℕ
+firstBy firsts associations causes was is i = cond (bitOf is i) 0 (cond (bitOf was i) (watchedBy associations causes i) (getD firsts i 0))
 
-unfoldable pub tableAfter : (n : ℕ) (associations delays : List ℕ) (period tripped : ℕ) → Asked → Table → Table
-tableAfter n associations delays period tripped w b =
+unfoldable pub tableAfter : (n : ℕ) (associations delays : List ℕ) (period : ℕ) → Seen → Asked → Table → Table
+tableAfter n associations delays period seen w b =
     let after = planesAfter w (wordOf (dueAt (b .timers) period) n) (b .planes) in
     record {
       planes = after;
       timers = tabulate (timerBy (b .timers) delays period (b .planes .delayed) (after .delayed)) n ++ drop n (b .timers);
-      firsts = tabulate (firstBy (b .firsts) associations tripped (b .planes .normal) (after .normal)) n ++ drop n (b .firsts);
+      firsts = tabulate (firstBy (b .firsts) associations (blamed seen) (b .planes .normal) (after .normal)) n ++ drop n (b .firsts);
     }
 
 -- ## What rests

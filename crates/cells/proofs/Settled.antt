@@ -25,17 +25,17 @@ put-before l o [] j v h = refl
 put-before l o (x ∷ vs) j v h =
     ap (λ (r : List ℕ). sets r (suc o) vs) (set-comm l j o v x (λ e. omega (arith, e))) ∙ put-before (set l o x) (suc o) vs j v (omega arith)
 
-module _ (tripped : ℕ) (was is : Planes) (ch : ℕ) (xs : List ℕ) where
+module _ (causes : ℕ) (was is : Planes) (ch : ℕ) (xs : List ℕ) where
   -- what effect i gets
   abbrev timer : ℕ → ℕ
   timer i = cond (bitOf ch i) (newTimer (is .delayed) xs i) (getD (timersIn xs) i 0)
 
   abbrev first : ℕ → ℕ
-  first i = cond (bitOf ch i) (newFirst tripped (was .normal) (is .normal) xs i) (getD (firstsIn xs) i 0)
+  first i = cond (bitOf ch i) (newFirst causes (was .normal) (is .normal) xs i) (getD (firstsIn xs) i 0)
 
   -- the effects below m have theirs
   abbrev to : ℕ → List ℕ
-  to = settledIn tripped was is ch xs
+  to = settledIn causes was is ch xs
 
   abbrev timed : ℕ → List ℕ
   timed m = sets xs timersAt (tabulate timer m)
@@ -69,7 +69,7 @@ module _ (tripped : ℕ) (was is : Planes) (ch : ℕ) (xs : List ℕ) where
   same-there : (i : ℕ) → i < partLength → bitOf ch i ≡ false → to (i + 1) ≡ to i
   same-there i h e =
       let t : timer i ≡ getD (to i) (timersAt + i) 0 = ap (λ (b : Bool). cond b (newTimer (is .delayed) xs i) (getD (timersIn xs) i 0)) e ∙ sym (timer-before i h) in
-      let f : first i ≡ getD (to i) (firstsAt + i) 0 = ap (λ (b : Bool). cond b (newFirst tripped (was .normal) (is .normal) xs i) (getD (firstsIn xs) i 0)) e ∙ sym (first-before i h) in
+      let f : first i ≡ getD (to i) (firstsAt + i) 0 = ap (λ (b : Bool). cond b (newFirst causes (was .normal) (is .normal) xs i) (getD (firstsIn xs) i 0)) e ∙ sym (first-before i h) in
       next i h
       ∙ ap (λ (v : ℕ). set (set (to i) (timersAt + i) v) (firstsAt + i) (first i)) t
       ∙ ap (λ (r : List ℕ). set r (firstsAt + i) (first i)) (set-getD (to i) (timersAt + i) 0)
@@ -84,15 +84,15 @@ module _ (tripped : ℕ) (was is : Planes) (ch : ℕ) (xs : List ℕ) where
   settled-rests n few inside = record { few = few; inside = inside; same = λ i h e. same-there i (omega arith) e }
 
   -- one changed effect more
-  pub settled-more : (i : ℕ) → i < partLength → bitOf ch i ≡ true → settledAt tripped (was .normal) (is .normal) (is .delayed) i (to i) ≡ to (i + 1)
+  pub settled-more : (i : ℕ) → i < partLength → bitOf ch i ≡ true → settledAt causes (was .normal) (is .normal) (is .delayed) i (to i) ≡ to (i + 1)
   settled-more i h e =
       let t : newTimer (is .delayed) (to i) i ≡ timer i =
       ap (λ (l : List ℕ). cond (bitOf (is .delayed) i) (getD l i 0) 0) (early delaysAt i (omega arith))
       ∙ sym (ap (λ (b : Bool). cond b (newTimer (is .delayed) xs i) (getD (timersIn xs) i 0)) e) in
       let g : getD (firstsIn (to i)) i 0 ≡ getD (firstsIn xs) i 0 = getD-part firstsAt (to i) i h ∙ first-before i h in
-      let f : newFirst tripped (was .normal) (is .normal) (to i) i ≡ first i =
+      let f : newFirst causes (was .normal) (is .normal) (to i) i ≡ first i =
       rw (g, early associationsAt i (omega arith)) refl
-      ∙ sym (ap (λ (b : Bool). cond b (newFirst tripped (was .normal) (is .normal) xs i) (getD (firstsIn xs) i 0)) e) in
+      ∙ sym (ap (λ (b : Bool). cond b (newFirst causes (was .normal) (is .normal) xs i) (getD (firstsIn xs) i 0)) e) in
       (λ j. set (set (to i) (timersAt + i) (t j)) (firstsAt + i) (f j)) ∙ sym (next i h)
 
   -- the first-out of an effect that has its own
@@ -104,23 +104,23 @@ module _ (tripped : ℕ) (was is : Planes) (ch : ℕ) (xs : List ℕ) where
 
 -- ## A turn of the loop
 
-module _ (tripped : ℕ) (was is : Planes) (ch : ℕ) (xs : List ℕ) {now : List ℕ} {rest : ℕ} (d : Done 16 ch (settledIn tripped was is ch xs) now rest) (left : 0 < rest) where
+module _ (causes : ℕ) (was is : Planes) (ch : ℕ) (xs : List ℕ) {now : List ℕ} {rest : ℕ} (d : Done 16 ch (settledIn causes was is ch xs) now rest) (left : 0 < rest) where
   abbrev k : ℕ
   k = trailingZeros 16 rest
 
-  then-is : settledAt tripped (was .normal) (is .normal) (is .delayed) k now ≡ settledIn tripped was is ch xs (k + 1)
-  then-is = ap (settledAt tripped (was .normal) (is .normal) (is .delayed) k) (before-it d left) ∙ settled-more tripped was is ch xs k (below d left) (is-set d left)
+  then-is : settledAt causes (was .normal) (is .normal) (is .delayed) k now ≡ settledIn causes was is ch xs (k + 1)
+  then-is = ap (settledAt causes (was .normal) (is .normal) (is .delayed) k) (before-it d left) ∙ settled-more causes was is ch xs k (below d left) (is-set d left)
 
-  pub settled-turn : Done 16 ch (settledIn tripped was is ch xs) (settledAt tripped (was .normal) (is .normal) (is .delayed) k now) (bitAnd rest (rest - 1))
+  pub settled-turn : Done 16 ch (settledIn causes was is ch xs) (settledAt causes (was .normal) (is .normal) (is .delayed) k now) (bitAnd rest (rest - 1))
   settled-turn = again d left then-is
 
   -- the first-out that the effect has got is the one that it has at the end
   pub first-stays : length xs ≡ arrayLength
-      → getD (firstsIn (settledAt tripped (was .normal) (is .normal) (is .delayed) k now)) k 0 ≡ getD (firstsIn (settledIn tripped was is ch xs 16)) k 0
+      → getD (firstsIn (settledAt causes (was .normal) (is .normal) (is .delayed) k now)) k 0 ≡ getD (firstsIn (settledIn causes was is ch xs 16)) k 0
   first-stays long =
       ap (λ (l : List ℕ). getD (firstsIn l) k 0) then-is
-      ∙ first-there tripped was is ch xs (k + 1) k (omega arith) (omega (arith, below d left)) long
-      ∙ sym (first-there tripped was is ch xs 16 k (below d left) (omega arith) long)
+      ∙ first-there causes was is ch xs (k + 1) k (omega arith) (omega (arith, below d left)) long
+      ∙ sym (first-there causes was is ch xs 16 k (below d left) (omega arith) long)
 
 -- ## A list stored over another
 

@@ -19,17 +19,17 @@ fallen n by array = sets array timersAt (tabulate (λ i. getD (timersIn array) i
 abbrev pub newTimer : (delayed : ℕ) → (array : List ℕ) → ℕ → ℕ
 newTimer delayed array i = cond (bitOf delayed i) (getD (delaysIn array) i 0) 0
 
--- its first-out. tripped: the causes that are tripped and not masked. was, is: the effects in Normal before and now
-abbrev pub newFirst : (tripped was is : ℕ) → (array : List ℕ) → ℕ → ℕ
-newFirst tripped was is array = firstBy (firstsIn array) (associationsIn array) tripped was is
+-- its first-out. causes: those that it may take. was, is: the effects in Normal before and now
+abbrev pub newFirst : (causes was is : ℕ) → (array : List ℕ) → ℕ → ℕ
+newFirst causes was is array = firstBy (firstsIn array) (associationsIn array) causes was is
 
 -- effect i has its new timer and first-out
-abbrev pub settledAt : (tripped was is delayed i : ℕ) → (array : List ℕ) → List ℕ
-settledAt tripped was is delayed i array =
-    set (set array (timersAt + i) (newTimer delayed array i)) (firstsAt + i) (newFirst tripped was is array i)
+abbrev pub settledAt : (causes was is delayed i : ℕ) → (array : List ℕ) → List ℕ
+settledAt causes was is delayed i array =
+    set (set array (timersAt + i) (newTimer delayed array i)) (firstsAt + i) (newFirst causes was is array i)
 
 -- the effects in the word `ch`, of n, have theirs
-unfoldable pub settledIn : (tripped : ℕ) → (was is : Planes) → (ch : ℕ) → (array : List ℕ) → (n : ℕ) → List ℕ
-settledIn tripped was is ch array n =
+unfoldable pub settledIn : (causes : ℕ) → (was is : Planes) → (ch : ℕ) → (array : List ℕ) → (n : ℕ) → List ℕ
+settledIn causes was is ch array n =
     sets (sets array timersAt (tabulate (λ i. cond (bitOf ch i) (newTimer (is .delayed) array i) (getD (timersIn array) i 0)) n))
-    firstsAt (tabulate (λ i. cond (bitOf ch i) (newFirst tripped (was .normal) (is .normal) array i) (getD (firstsIn array) i 0)) n)
+    firstsAt (tabulate (λ i. cond (bitOf ch i) (newFirst causes (was .normal) (is .normal) array i) (getD (firstsIn array) i 0)) n)

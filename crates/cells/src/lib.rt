@@ -12,7 +12,7 @@ ghost use lib.Count.{trailingZeros};
 ghost use lib.ListN.{getD};
 ghost use Rattle.bits.specs.Words.{bitOf, wordOf};
 ghost use Rattle.rules.specs.Limits.{mostHold, mostPeriod};
-ghost use Rattle.boards.specs.Table.{activeAt, dueIn, Still, lowTo};
+ghost use Rattle.boards.specs.Table.{watches, dueIn, Still, lowTo};
 ghost use Rattle.cells.specs.Array.{associationsIn, timersIn};
 ghost use Rattle.cells.specs.Changed.{fallen, settledAt};
 
@@ -44,19 +44,19 @@ pub fn lowest(w: u16) -> usize
 
 // ---- words of effects
 
-// The effects whose active word is not 0. tripped: the causes that are tripped and not masked. In most rows it is 0, because no
-// effect watches a tripped cause; the loop is then left out.
-pub fn active_word(count: usize, board: &[u32; 64], tripped: u16) -> u16
+// The effects that watch one of the causes. In most rows there are none, because no effect watches a cause that is tripped or Bad; the
+// loop is then left out.
+pub fn watching(count: usize, board: &[u32; 64], causes: u16) -> u16
     requires { ⌜ count ≤ 16 ⌝ }
-    ensures { λ r. ⌜ r ≡ wordOf (activeAt (associationsIn (now (board .entry))) tripped) count ⌝ }
+    ensures { λ r. ⌜ r ≡ wordOf (watches (associationsIn (now (board .entry))) causes) count ⌝ }
 {
-    if tripped == 0 {
+    if causes == 0 {
         return 0;
     }
     let mut word: u16 = 0;
     let mut i: usize = 0;
     while i < count {
-        word = bits::put_bit(word, i, 0 < board[i] & tripped as u32);
+        word = bits::put_bit(word, i, 0 < board[i] & causes as u32);
         i += 1;
     }
     word
@@ -109,11 +109,11 @@ pub fn tick(board: &mut [u32; 64], plan: Plan, delayed: u16) -> u16
     word
 }
 
-// The timer and the first-out of effect i, in place, where a scan has changed its state. tripped: the causes that are tripped and not
-// masked. was, is: the effects in Normal before the scan and after it. delayed: those in Delayed after it.
-pub fn settle(board: &mut [u32; 64], i: usize, tripped: u16, was: u16, is: u16, delayed: u16)
+// The timer and the first-out of effect i, in place, where a scan has changed its state. causes: those that a first-out may take. was, is:
+// the effects in Normal before the scan and after it. delayed: those in Delayed after it.
+pub fn settle(board: &mut [u32; 64], i: usize, causes: u16, was: u16, is: u16, delayed: u16)
     requires { ⌜ i < 16 ⌝ }
-    ensures { λ _. ⌜ now (board .exit) ≡ settledAt tripped was is delayed i (now (board .entry)) ⌝ }
+    ensures { λ _. ⌜ now (board .exit) ≡ settledAt causes was is delayed i (now (board .entry)) ⌝ }
 {
     let c = board[i];
     let d = board[DELAYS + i];
@@ -122,7 +122,7 @@ pub fn settle(board: &mut [u32; 64], i: usize, tripped: u16, was: u16, is: u16, 
     board[FIRST_OUTS + i] = bits::pick32(
         bits::bit(is, i),
         0,
-        bits::pick32(bits::bit(was, i), c & tripped as u32, f),
+        bits::pick32(bits::bit(was, i), c & causes as u32, f),
     );
 }
 

@@ -48,7 +48,7 @@ use Rattle.cells.proofs.low_timer.Reads as cells·low-timer
 use Rattle.cells.proofs.tick.Reads as cells·tick
 use Rattle.cells.proofs.settle.Reads as cells·settle
 use Rattle.cells.proofs.timers_later.Reads as cells·timers-later
-use Rattle.cells.proofs.active_word.Reads as cells·active-word
+use Rattle.cells.proofs.watching.Reads as cells·watching
 use Rattle.cells.proofs.load.Reads as cells·load
 use Rattle.cells.proofs.slots_of.Reads as cells·slots-of
 use Rattle.engine.proofs.begin.Reads as engine·begin
@@ -249,8 +249,8 @@ cells-settle κs = by-equations (cells·settle.Learnt κs) (λ e. now (e .0)) (�
 pub cells-timers-later : (κs : Lfts 1) → Unique (cells·timers-later.Learnt κs) (λ e. now (e .1 .0))
 cells-timers-later κs = by-equations (cells·timers-later.Learnt κs) (λ e. now (e .1 .0)) (λ a. tt) _ (λ a r e h. (refl, h))
 
-pub cells-active-word : (κs : Lfts 1) → Unique (cells·active-word.Learnt κs) none
-cells-active-word κs = by-equation (cells·active-word.Learnt κs) _ (λ a r e h. h)
+pub cells-watching : (κs : Lfts 1) → Unique (cells·watching.Learnt κs) none
+cells-watching κs = by-equation (cells·watching.Learnt κs) _ (λ a r e h. h)
 
 pub cells-load : (κs : Lfts 1) → Unique (cells·load.Learnt κs) (λ e. now (e .0))
 cells-load κs = by-equations (cells·load.Learnt κs) (λ e. now (e .0)) _ _ (λ a r e h. h)

@@ -115,29 +115,25 @@ none-moved [] xs h = refl
 none-moved (s ∷ ss) [] h = refl
 none-moved (s ∷ ss) (x ∷ xs) h = ap₂ (λ (a b : Bool). a || b) (not-moved s x (h 0 (omega arith))) (none-moved ss xs (λ i l. h (suc i) (omega (arith, l))))
 
-any-exercised : (ss : List Signals) (i : ℕ) → i < length ss → (getD ss i noSignals .active ≡ 0 → ⊥) → anyExercised ss ≡ true
+any-exercised : (ss : List Signals) (i : ℕ) → i < length ss → isExercised (getD ss i noSignals) ≡ true → anyExercised ss ≡ true
 any-exercised [] i l h = absurd (omega (arith, l))
-any-exercised (s ∷ ss) zero l h = go (s .active) h
-  where
-    go : (n : ℕ) → (n ≡ 0 → ⊥) → (ltb 0 n || anyExercised ss) ≡ true
-    go zero h = absurd (h refl)
-    go (suc n) h = rw (lt-ltb 0 (suc n) (omega arith))
+any-exercised (s ∷ ss) zero l h = ap (λ (b : Bool). b || anyExercised ss) h
 any-exercised (s ∷ ss) (suc i) l h = ap (λ (b : Bool). isExercised s || b) (any-exercised ss i (omega (arith, l)) h) ∙ or-true (isExercised s)
 
-none-exercised : (ss : List Signals) → ((i : ℕ) → i < length ss → getD ss i noSignals .active ≡ 0) → anyExercised ss ≡ false
+none-exercised : (ss : List Signals) → ((i : ℕ) → i < length ss → isExercised (getD ss i noSignals) ≡ false) → anyExercised ss ≡ false
 none-exercised [] h = refl
-none-exercised (s ∷ ss) h = ap₂ (λ (a b : Bool). a || b) (ap (ltb 0) (h 0 (omega arith))) (none-exercised ss (λ i l. h (suc i) (omega (arith, l))))
+none-exercised (s ∷ ss) h = ap₂ (λ (a b : Bool). a || b) (h 0 (omega arith)) (none-exercised ss (λ i l. h (suc i) (omega (arith, l))))
 
 module _ (st : Settings) (w : Words) where
   seen : (i : ℕ) → i < st .count → getD (signals st w) i noSignals ≡ signalsOf st w i
   seen i h = getD-tabulate (signalsOf st w) (st .count) i noSignals h
 
-  pub exercised-yes : (i : ℕ) → i < st .count → (signalsOf st w i .active ≡ 0 → ⊥) → anyExercised (signals st w) ≡ true
-  exercised-yes i h some = any-exercised (signals st w) i (omega (arith, count st w, h)) (λ e. some (ap (λ (s : Signals). s .active) (sym (seen i h)) ∙ e))
+  pub exercised-yes : (i : ℕ) → i < st .count → isExercised (signalsOf st w i) ≡ true → anyExercised (signals st w) ≡ true
+  exercised-yes i h some = any-exercised (signals st w) i (omega (arith, count st w, h)) (ap isExercised (seen i h) ∙ some)
 
-  pub exercised-no : ((i : ℕ) → i < st .count → signalsOf st w i .active ≡ 0) → anyExercised (signals st w) ≡ false
+  pub exercised-no : ((i : ℕ) → i < st .count → isExercised (signalsOf st w i) ≡ false) → anyExercised (signals st w) ≡ false
   exercised-no none =
-      none-exercised (signals st w) (λ i l. let h : i < st .count = omega (arith, count st w, l) in ap (λ (s : Signals). s .active) (seen i h) ∙ none i h)
+      none-exercised (signals st w) (λ i l. let h : i < st .count = omega (arith, count st w, l) in ap isExercised (seen i h) ∙ none i h)
 
   live-yes : (x : State) (i : ℕ) → (slot (after st w x) i .state ≡ slot x i .state → ⊥) → anyMoved (signals st w) (x .slots) ≡ true
   unfolding after

@@ -62,7 +62,7 @@ entry-points κ0 κ1 κ2 κ3 =
       known-of = record { nothing-asked = λ a. tt; says = λ a r e h. (h, refl) };
       is-several = record { nothing-asked = λ a. tt; says = λ a r e h. (h, refl) };
       forces-count = record { nothing-asked = λ a. tt; says = λ a r e h. (h, refl) };
-      bad-trip = record { nothing-asked = λ a. tt; says = λ a r e h. (h, refl) };
+      seen-of = record { nothing-asked = λ a. tt; says = λ a r e h. (h, refl) };
       most-hold = record { nothing-asked = λ a. tt; says = λ a r e h. (h, refl) };
       most-delay = record { nothing-asked = λ a. tt; says = λ a r e h. (h, refl) };
       code = record { nothing-asked = λ a. tt; says = λ a r e h. (h, refl) };

@@ -33,7 +33,8 @@ use Rattle.pohandira.proofs as pohandira
 use Rattle.rules.specs.Limits.{mostDelay, mostHold, mostScans}
 use Rattle.rules.specs.Rules.{code, same}
 use Rattle.settings.specs.Right.{blockNumber, effectNumber, knownOf, several, settingsNumber, wordsNumber, rowNumber}
-use Rattle.settings.specs.Signals.{badTrip, forcesCount}
+use Rattle.settings.specs.Causes.{seenOf}
+use Rattle.settings.specs.Signals.{forcesCount}
 use Rattle.block.specs.State.{fresh}
 use Rattle.block.specs.Scan.{scansNumber, scanOf, scanInto}
 use Rattle.block.specs.Held.{heldOf, heldInto}
@@ -100,7 +101,7 @@ pub record EntryPoints (κ0 : Lfts 0) (κ1 : Lfts 1) (κ2 : Lfts 2) (κ3 : Lfts 
   pub known-of : Returns (settings.known_of.Reads.Asked κ0) (settings.known_of.Reads.Learnt κ0) (λ (st, _). knownOf st)
   pub is-several : Returns (settings.is_several.Reads.Asked κ0) (settings.is_several.Reads.Learnt κ0) (λ (w, _). several w)
   pub forces-count : Returns (settings.forces_count.Reads.Asked κ0) (settings.forces_count.Reads.Learnt κ0) (λ (options, (w, _)). forcesCount options w)
-  pub bad-trip : Returns (settings.bad_trip.Reads.Asked κ0) (settings.bad_trip.Reads.Learnt κ0) (λ (options, (w, _)). badTrip options w)
+  pub seen-of : Returns (settings.seen_of.Reads.Asked κ0) (settings.seen_of.Reads.Learnt κ0) (λ (options, (w, _)). seenOf options w)
   pub most-hold : Returns (settings.Row.most_hold.Reads.Asked κ0) (settings.Row.most_hold.Reads.Learnt κ0) (λ _. mostHold)
   pub most-delay : Returns (settings.Effect.most_delay.Reads.Asked κ0) (settings.Effect.most_delay.Reads.Learnt κ0) (λ _. mostDelay)
   -- one effect (`rules`)

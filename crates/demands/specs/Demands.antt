@@ -153,9 +153,9 @@ pub record OneStroke (st : Settings) (x : State) (w : Words) (hold : ℕ) : Type
   pub at-first : stepped st w 0 (start x) ≡ start x
   pub singly : (k : ℕ) → k < hold → let y = stepped st w k (start x) in
       OneScanMore st (wordsAt k w) y (single st (wordsAt k w) (y .state)) (stepped st w (k + 1) (start x))
-  -- the exercised scans are the hold if any effect's active word is not 0, otherwise 0
-  pub exercised : (i : ℕ) → i < st .count → (signalsOf st w i .active ≡ 0 → ⊥) → stepped st w hold (start x) .exercised ≡ hold
-  pub not-exercised : ((i : ℕ) → i < st .count → signalsOf st w i .active ≡ 0) → stepped st w hold (start x) .exercised ≡ 0
+  -- the exercised scans are the hold if any effect counts for them, otherwise 0
+  pub exercised : (i : ℕ) → i < st .count → isExercised (signalsOf st w i) ≡ true → stepped st w hold (start x) .exercised ≡ hold
+  pub not-exercised : ((i : ℕ) → i < st .count → isExercised (signalsOf st w i) ≡ false) → stepped st w hold (start x) .exercised ≡ 0
   -- the scans in which an effect changes state never outnumber twice the effects
   pub few-live : stepped st w hold (start x) .live ≤ 2 * st .count
 

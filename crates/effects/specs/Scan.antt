@@ -58,7 +58,7 @@ effectWord n xs = wordOf (λ i. isOn (getD xs i noSlot .state)) n
 abbrev pub latentWord : List Signals → ℕ
 latentWord ss = wordOf (λ i. isLatent (getD ss i noSignals)) (length ss)
 
--- some effect's active word is not 0
+-- the scan counts as exercised: some effect does
 abbrev pub anyExercised : List Signals → Bool
 anyExercised [] = false
 anyExercised (s ∷ ss) = isExercised s || anyExercised ss

@@ -14,7 +14,7 @@ use Rattle.cells.specs.declared.Plan.{Plan}
 use Rattle.engine.specs.declared.Task.{Task}
 use Rattle.cells.specs.Array.{associationsIn, delaysIn, timersIn, Same}
 use Rattle.cells.specs.Changed.{fallen}
-use Rattle.boards.specs.Table.{Still, Within, quietsBy, joined}
+use Rattle.boards.specs.Table.{blamed, Still, Within, quietsBy, joined}
 use Rattle.boards.specs.Board.{Board, entriesOf, scanned, unset}
 use Rattle.engine.specs.Marks.{boardAt, begun}
 use Rattle.engine.specs.Stroke.{heldBy, ScanReady, ScanDone, StrokeReady, StrokeDone}
@@ -25,21 +25,21 @@ use Rattle.boards.proofs.Turn.{Kept, fresh, starts, turned, within, within-then
 -- what holds at the loop's head. x₀: the mark that the loop begins with
 pub record Head (plan : Plan) (task : Task) (array₀ buf₀ : List ℕ) (x₀ : Mark) (w : Asked) (x : Mark) (array buf : List ℕ) (left fuel : ℕ) : Type 0 where
   pub kept :
-      Kept (plan .count) (associationsIn array₀) (delaysIn array₀) (plan .period) (task .tripped) (task .hold) (task .asked) (fresh (boardAt x₀ array₀)) buf₀
+      Kept (plan .count) (associationsIn array₀) (delaysIn array₀) (plan .period) (task .seen) (task .hold) (task .asked) (fresh (boardAt x₀ array₀)) buf₀
       w (boardAt x array) buf left fuel
   pub same : Same array₀ array
   pub room : recordLength * length (heldBy plan task x₀ array₀ .events) ≤ length buf₀
 
 -- what holds at the head holds at the start
 pub begins : {plan : Plan} {task : Task} {from x₀ : Mark} {array buf : List ℕ} {fuel : ℕ} → StrokeReady plan task from array (length buf)
-    → task .tripped < 2 ^ 16 → from .next < 2 ^ 16 → 2 * plan .count < fuel → x₀ ≡ begun from
+    → blamed (task .seen) < 2 ^ 16 → from .next < 2 ^ 16 → 2 * plan .count < fuel → x₀ ≡ begun from
     → Head plan task array buf x₀ (task .asked) x₀ array buf (task .hold) fuel
-begins {plan} {task} {from} {x₀} {array} {buf} {fuel} h trips small f e =
+begins {plan} {task} {from} {x₀} {array} {buf} {fuel} h causes small f e =
     rw e
     (record {
       kept =
-          starts (plan .count) (associationsIn array) (delaysIn array) (plan .period) (task .tripped) (task .hold) (task .asked) (boardAt from array) buf fuel
-          (h .few) (h .some) (h .quick) trips (h .right) small (h .short) (h .countable) f;
+          starts (plan .count) (associationsIn array) (delaysIn array) (plan .period) (task .seen) (task .hold) (task .asked) (boardAt from array) buf fuel
+          (h .few) (h .some) (h .quick) causes (h .right) small (h .short) (h .countable) f;
       same = record { associations = refl; delays = refl; long = h .long };
       room = h .fits;
     })
@@ -50,7 +50,7 @@ module _ {plan : Plan} {task : Task} {array₀ buf₀ : List ℕ} {x₀ : Mark} 
   n = plan .count
 
   module _ (more : 0 < left) where
-    pub scan-ready : ScanReady plan (task .tripped) w x array (length buf)
+    pub scan-ready : ScanReady plan (task .seen) w x array (length buf)
     scan-ready =
         record {
           few = h .kept .few;
@@ -65,11 +65,11 @@ module _ {plan : Plan} {task : Task} {array₀ buf₀ : List ℕ} {x₀ : Mark} 
         }
 
     -- what holds after the scan
-    module _ {y : Mark} {mid buf′ : List ℕ} (d : ScanDone plan (task .tripped) w x array buf y mid buf′) where
-      board-then : boardAt y mid ≡ scanned n (associationsIn array₀) (delaysIn array₀) (plan .period) (task .tripped) w (boardAt x array)
+    module _ {y : Mark} {mid buf′ : List ℕ} (d : ScanDone plan (task .seen) w x array buf y mid buf′) where
+      board-then : boardAt y mid ≡ scanned n (associationsIn array₀) (delaysIn array₀) (plan .period) (task .seen) w (boardAt x array)
       board-then = rw (h .same .associations, h .same .delays) at (d .board)
 
-      laid-then : buf′ ≡ sets buf (x .at) (joined (entriesOf n (associationsIn array₀) (delaysIn array₀) (plan .period) (task .tripped) w (boardAt x array)))
+      laid-then : buf′ ≡ sets buf (x .at) (joined (entriesOf n (associationsIn array₀) (delaysIn array₀) (plan .period) (task .seen) w (boardAt x array)))
       laid-then = rw (h .same .associations, h .same .delays) at (d .laid)
 
       pub within-scanned : Within n (y .planes)

@@ -14,6 +14,7 @@ use Rattle.bits.specs.Words.{bitOf, wordOf, one}
 use Rattle.bits.proofs.Lists.{length-tabulate, tabulate-ext, getD-filled}
 use Rattle.bits.proofs.Words.{bit-past}
 use Rattle.effects.specs.Records.{recordLength}
+use Rattle.rules.specs.declared.Seen.{Seen}
 use Rattle.planes.specs.declared.Asked.{Asked}
 use Rattle.engine.specs.declared.Mark.{Mark}
 use Rattle.cells.specs.declared.Plan.{Plan}
@@ -21,7 +22,7 @@ use Rattle.planes.specs.declared.Planes.{Planes}
 use Rattle.cells.specs.Array.{partLength, arrayLength, timersAt, firstsAt, associationsIn, delaysIn, timersIn, firstsIn, Same}
 use Rattle.planes.specs.Planes.{planesAfter, changedOf}
 use Rattle.cells.specs.Changed.{fallen, newTimer, newFirst, settledIn}
-use Rattle.boards.specs.Table.{Table, activeIn, dueIn, timerBy, firstBy, Narrow, Settled, Steady, Within, tableAfter, tableLater, entriesTo, joined}
+use Rattle.boards.specs.Table.{Table, watchedBy, blamed, dueIn, timerBy, firstBy, Narrow, Settled, Steady, Within, tableAfter, tableLater, entriesTo, joined}
 use Rattle.boards.specs.Board.{Board, scanned, later}
 use Rattle.engine.specs.Marks.{boardAt, scanEntries}
 use Rattle.cells.specs.Loaded.{tableIn}
@@ -67,16 +68,16 @@ first-same false false false a f k b = refl
 -- ## A scan
 
 -- what a scan stores: the states, and the array with the timers and the first-outs
-pub record Stored (plan : Plan) (tripped : ℕ) (w : Asked) (x : Mark) (array : List ℕ) (is : Planes) (array′ : List ℕ) : Type 0 where
-  pub table : tableIn is array′ ≡ scannedBy plan tripped w x array .table
+pub record Stored (plan : Plan) (seen : Seen) (w : Asked) (x : Mark) (array : List ℕ) (is : Planes) (array′ : List ℕ) : Type 0 where
+  pub table : tableIn is array′ ≡ scannedBy plan seen w x array .table
   pub same : Same array array′
 
-module _ {plan : Plan} {tripped : ℕ} {w : Asked} {x : Mark} {array : List ℕ} {room : ℕ} (h : ScanReady plan tripped w x array room) where
+module _ {plan : Plan} {seen : Seen} {w : Asked} {x : Mark} {array : List ℕ} {room : ℕ} (h : ScanReady plan seen w x array room) where
   abbrev n : ℕ
   n = plan .count
 
   module _ {due : ℕ} {is : Planes} (d : due ≡ wordOf (dueIn (timersIn array) (plan .period) (x .planes .delayed)) n) (p : is ≡ planesAfter w due (x .planes)) where
-    states : is ≡ scannedBy plan tripped w x array .table .planes
+    states : is ≡ scannedBy plan seen w x array .table .planes
     unfolding scanned tableAfter
     states = after-due n (plan .period) (timersIn array) w (x .planes) (h .few) (h .within .0) due is d p
 
@@ -95,11 +96,11 @@ module _ {plan : Plan} {tripped : ℕ} {w : Asked} {x : Mark} {array : List ℕ}
       same-mid = timers-same timer n array t (h .few) (h .long)
 
       -- after the first-outs are stored, too
-      stored : {then : List ℕ} → then ≡ sets mid firstsAt (tabulate (firstBy (firstsIn mid) (associationsIn mid) tripped (x .planes .normal) (is .normal)) n)
-          → Stored plan tripped w x array is then
+      stored : {then : List ℕ} → then ≡ sets mid firstsAt (tabulate (firstBy (firstsIn mid) (associationsIn mid) (blamed seen) (x .planes .normal) (is .normal)) n)
+          → Stored plan seen w x array is then
       unfolding scanned tableAfter
       stored f =
-          let first = firstBy (firstsIn mid) (associationsIn mid) tripped (x .planes .normal) (is .normal) in
+          let first = firstBy (firstsIn mid) (associationsIn mid) (blamed seen) (x .planes .normal) (is .normal) in
           let l : firstsAt + partLength ≤ length mid = omega (arith, same-mid .long) in
           record {
             table =
@@ -107,7 +108,7 @@ module _ {plan : Plan} {tripped : ℕ} {w : Asked} {x : Mark} {array : List ℕ}
                 (ap timersIn f ∙ part-before timersAt firstsAt mid (tabulate first n) (omega arith) ∙ timers-filled timer n array t (h .few) (h .long)
                 ∙ (λ j. tabulate (timerBy (timersIn array) (delaysIn array) (plan .period) (x .planes .delayed) (states j .delayed)) n ++ drop n (timersIn array)))
                 (ap firstsIn f ∙ part-filled firstsAt first n mid l (h .few)
-                ∙ (λ j. tabulate (firstBy (firsts-mid j) (same-mid .associations j) tripped (x .planes .normal) (states j .normal)) n ++ drop n (firsts-mid j)));
+                ∙ (λ j. tabulate (firstBy (firsts-mid j) (same-mid .associations j) (blamed seen) (x .planes .normal) (states j .normal)) n ++ drop n (firsts-mid j)));
             same = rw f (same-then same-mid (same-put firstsAt mid (tabulate first n) (omega arith) (same-mid .long)));
           }
 
@@ -149,41 +150,41 @@ module _ {plan : Plan} {tripped : ℕ} {w : Asked} {x : Mark} {array : List ℕ}
       firsts-ticks : firstsIn ticks ≡ firstsIn array
       firsts-ticks = firsts-kept run n array e (h .few) (h .long)
 
-      first-is : (i : ℕ) → i < n → cond (bitOf ch i) (newFirst tripped (x .planes .normal) (is .normal) ticks i) (getD (firstsIn ticks) i 0)
-          ≡ firstBy (firstsIn mid-then) (associationsIn mid-then) tripped (x .planes .normal) (is .normal) i
+      first-is : (i : ℕ) → i < n → cond (bitOf ch i) (newFirst (blamed seen) (x .planes .normal) (is .normal) ticks i) (getD (firstsIn ticks) i 0)
+          ≡ firstBy (firstsIn mid-then) (associationsIn mid-then) (blamed seen) (x .planes .normal) (is .normal) i
       first-is i k =
-          (λ j. cond (bitOf ch i) (firstBy (firsts-ticks j) (same-ticks .associations j) tripped (x .planes .normal) (is .normal) i) (getD (firsts-ticks j) i 0))
-          ∙ first-same (bitOf ch i) (bitOf (x .planes .normal) i) (bitOf (is .normal) i) (activeIn (associationsIn array) tripped i) (getD (firstsIn array) i 0)
+          (λ j. cond (bitOf ch i) (firstBy (firsts-ticks j) (same-ticks .associations j) (blamed seen) (x .planes .normal) (is .normal) i) (getD (firsts-ticks j) i 0))
+          ∙ first-same (bitOf ch i) (bitOf (x .planes .normal) i) (bitOf (is .normal) i) (watchedBy (associationsIn array) (blamed seen) i) (getD (firstsIn array) i 0)
           (λ z. unchanged .normal i k (sym (ap (λ (w : ℕ). bitOf w i) c) ∙ z))
           (h .settled .blank .none i k)
-          ∙ sym (λ j. firstBy (firsts-mid refl j) (same-mid refl .associations j) tripped (x .planes .normal) (is .normal) i)
+          ∙ sym (λ j. firstBy (firsts-mid refl j) (same-mid refl .associations j) (blamed seen) (x .planes .normal) (is .normal) i)
 
       -- the effects past the count are in no word
-      all-is : settledIn tripped (x .planes) is ch ticks 16 ≡ settledIn tripped (x .planes) is ch ticks n
+      all-is : settledIn (blamed seen) (x .planes) is ch ticks 16 ≡ settledIn (blamed seen) (x .planes) is ch ticks n
       all-is =
           let inside : ch < 2 ^ n = rw c (unchanged .inside) in
-          passed (settled-rests tripped (x .planes) is ch ticks 16 (omega arith) (lt-of-lt-of-le inside (pow-mono (h .few)))) n 16 (h .few) (omega arith)
+          passed (settled-rests (blamed seen) (x .planes) is ch ticks 16 (omega arith) (lt-of-lt-of-le inside (pow-mono (h .few)))) n 16 (h .few) (omega arith)
           (λ j u v. bit-past ch n j inside u)
 
-      pub settles : {then : List ℕ} → then ≡ settledIn tripped (x .planes) is ch ticks 16 → Stored plan tripped w x array is then
+      pub settles : {then : List ℕ} → then ≡ settledIn (blamed seen) (x .planes) is ch ticks 16 → Stored plan seen w x array is then
       unfolding settledIn
       settles f =
           stored refl
           (f ∙ all-is
-          ∙ (λ j. sets (mid-is j) firstsAt (tabulate (λ i. cond (bitOf ch i) (newFirst tripped (x .planes .normal) (is .normal) ticks i) (getD (firstsIn ticks) i 0)) n))
+          ∙ (λ j. sets (mid-is j) firstsAt (tabulate (λ i. cond (bitOf ch i) (newFirst (blamed seen) (x .planes .normal) (is .normal) ticks i) (getD (firstsIn ticks) i 0)) n))
           ∙ ap (sets mid-then firstsAt) (tabulate-ext _ _ n first-is))
 
 -- what holds after both are stored
-module _ {plan : Plan} {tripped : ℕ} {w : Asked} {x : Mark} {array : List ℕ} {room : ℕ} (h : ScanReady plan tripped w x array room)
-    {is : Planes} {array′ : List ℕ} (s : Stored plan tripped w x array is array′) where
-  pub narrow-then : tripped < 2 ^ 16 → Narrow (firstsIn array′)
+module _ {plan : Plan} {seen : Seen} {w : Asked} {x : Mark} {array : List ℕ} {room : ℕ} (h : ScanReady plan seen w x array room)
+    {is : Planes} {array′ : List ℕ} (s : Stored plan seen w x array is array′) where
+  pub narrow-then : blamed seen < 2 ^ 16 → Narrow (firstsIn array′)
   unfolding scanned
   narrow-then small =
       subst (λ (t : Table). Narrow (t .firsts)) (sym (s .table))
-      (settled-after (plan .count) (associationsIn array) (delaysIn array) (plan .period) tripped w (tableIn (x .planes) array) small (h .settled .narrow) .narrow)
+      (settled-after (plan .count) (associationsIn array) (delaysIn array) (plan .period) seen w (tableIn (x .planes) array) small (h .settled .narrow) .narrow)
 
   module _ {ch : ℕ} (c : ch ≡ changedOf (x .planes) is) where
-    entries-are : scanEntries (firstsIn array′) x is ch ≡ entriesBy plan tripped w x array
+    entries-are : scanEntries (firstsIn array′) x is ch ≡ entriesBy plan seen w x array
     unfolding scanned
     entries-are =
         rw c
@@ -195,7 +196,7 @@ module _ {plan : Plan} {tripped : ℕ} {w : Asked} {x : Mark} {array : List ℕ}
     pub scanned-is : {at q live : ℕ} {buf buf′ : List ℕ} → at ≡ x .at + recordLength * length (scanEntries (firstsIn array′) x is ch)
         → q ≡ (x .next + (at - x .at) / recordLength) % 2 ^ 16 → live ≡ x .live + one (not (eqb ch 0))
         → buf′ ≡ sets buf (x .at) (joined (scanEntries (firstsIn array′) x is ch))
-        → ScanDone plan tripped w x array buf (record { «scans_done» = x .«scans_done» + 1; next = q; at = at; live = live; planes = is }) array′ buf′
+        → ScanDone plan seen w x array buf (record { «scans_done» = x .«scans_done» + 1; next = q; at = at; live = live; planes = is }) array′ buf′
     unfolding scanned
     scanned-is {at} {q} {live} {buf} a e l b =
         let es = scanEntries (firstsIn array′) x is ch in

@@ -48,9 +48,9 @@ recordBy firsts x is q i =
 abbrev pub scanEntries : (firsts : List ℕ) → Mark → (is : Planes) → (ch : ℕ) → List (List ℕ)
 scanEntries firsts x is ch = entriesTo (x .next) (x .«scans_done» + 1) ch (x .planes) is firsts 16
 
--- what is asked for where the effects in the word `ch` have changed from x to the states `is`
-pub record Changeable (tripped : ℕ) (x : Mark) (is : Planes) (ch : ℕ) (array : List ℕ) (room : ℕ) : Type 0 where
+-- what is asked for where the effects in the word `ch` have changed from x to the states `is`, with the causes that a first-out may take
+pub record Changeable (causes : ℕ) (x : Mark) (is : Planes) (ch : ℕ) (array : List ℕ) (room : ℕ) : Type 0 where
   pub long : length array ≡ arrayLength
   pub countable : x .«scans_done» < mostScans
-  pub narrow : Narrow (firstsIn (settledIn tripped (x .planes) is ch array 16))
-  pub fits : x .at + recordLength * length (scanEntries (firstsIn (settledIn tripped (x .planes) is ch array 16)) x is ch) ≤ room
+  pub narrow : Narrow (firstsIn (settledIn causes (x .planes) is ch array 16))
+  pub fits : x .at + recordLength * length (scanEntries (firstsIn (settledIn causes (x .planes) is ch array 16)) x is ch) ≤ room

@@ -6,6 +6,7 @@ use lib.ListN.{length}
 use lib.Seq.{sets}
 use Rattle.rules.specs.Limits.{mostHold, mostPeriod, mostScans}
 use Rattle.effects.specs.Records.{recordLength, bytes}
+use Rattle.rules.specs.declared.Seen.{Seen}
 use Rattle.rules.specs.Signals.{Signals}
 use Rattle.rounds.specs.Steps.{Run, held}
 use Rattle.planes.specs.declared.Asked.{Asked}
@@ -20,29 +21,29 @@ use Rattle.engine.specs.Marks.{boardAt}
 -- ## A scan
 
 -- the board after a scan, from a mark and its array
-abbrev pub scannedBy : Plan → (tripped : ℕ) → Asked → Mark → (array : List ℕ) → Board
-scannedBy plan tripped w x array =
-    scanned (plan .count) (associationsIn array) (delaysIn array) (plan .period) tripped w (boardAt x array)
+abbrev pub scannedBy : Plan → Seen → Asked → Mark → (array : List ℕ) → Board
+scannedBy plan seen w x array =
+    scanned (plan .count) (associationsIn array) (delaysIn array) (plan .period) seen w (boardAt x array)
 
 -- the records of a scan, from a mark and its array
-abbrev pub entriesBy : Plan → (tripped : ℕ) → Asked → Mark → (array : List ℕ) → List (List ℕ)
-entriesBy plan tripped w x array =
-    entriesOf (plan .count) (associationsIn array) (delaysIn array) (plan .period) tripped w (boardAt x array)
+abbrev pub entriesBy : Plan → Seen → Asked → Mark → (array : List ℕ) → List (List ℕ)
+entriesBy plan seen w x array =
+    entriesOf (plan .count) (associationsIn array) (delaysIn array) (plan .period) seen w (boardAt x array)
 
-pub record ScanReady (plan : Plan) (tripped : ℕ) (w : Asked) (x : Mark) (array : List ℕ) (room : ℕ) : Type 0 where
+pub record ScanReady (plan : Plan) (seen : Seen) (w : Asked) (x : Mark) (array : List ℕ) (room : ℕ) : Type 0 where
   pub few : plan .count ≤ 16
   pub long : length array ≡ arrayLength
   pub countable : x .«scans_done» < mostScans
   pub short : x .live < mostHold
   pub settled : Settled (plan .count) (boardAt x array .table)
   pub within : Within (plan .count) (x .planes)
-  pub within-then : Within (plan .count) (scannedBy plan tripped w x array .table .planes)
-  pub steady : Steady (plan .count) (x .planes) (scannedBy plan tripped w x array .table .planes)
-  pub fits : x .at + recordLength * length (entriesBy plan tripped w x array) ≤ room
+  pub within-then : Within (plan .count) (scannedBy plan seen w x array .table .planes)
+  pub steady : Steady (plan .count) (x .planes) (scannedBy plan seen w x array .table .planes)
+  pub fits : x .at + recordLength * length (entriesBy plan seen w x array) ≤ room
 
-pub record ScanDone (plan : Plan) (tripped : ℕ) (w : Asked) (x : Mark) (array buf : List ℕ) (r : Mark) (array′ buf′ : List ℕ) : Type 0 where
-  pub board : boardAt r array′ ≡ scannedBy plan tripped w x array
-  pub laid : buf′ ≡ sets buf (x .at) (joined (entriesBy plan tripped w x array))
+pub record ScanDone (plan : Plan) (seen : Seen) (w : Asked) (x : Mark) (array buf : List ℕ) (r : Mark) (array′ buf′ : List ℕ) : Type 0 where
+  pub board : boardAt r array′ ≡ scannedBy plan seen w x array
+  pub laid : buf′ ≡ sets buf (x .at) (joined (entriesBy plan seen w x array))
   pub same : Same array array′
 
 -- ## A stroke
@@ -50,7 +51,7 @@ pub record ScanDone (plan : Plan) (tripped : ℕ) (w : Asked) (x : Mark) (array 
 -- what the effects see of a task
 abbrev pub seenBy : Plan → Task → (array : List ℕ) → List Signals
 seenBy plan task array =
-    signalsIn (plan .count) (associationsIn array) (delaysIn array) (plan .period) (task .tripped) (task .asked)
+    signalsIn (plan .count) (associationsIn array) (delaysIn array) (plan .period) (task .seen) (task .asked)
 
 -- the held run of a task
 abbrev pub heldBy : Plan → Task → Mark → (array : List ℕ) → Run
@@ -63,7 +64,7 @@ pub record StrokeReady (plan : Plan) (task : Task) (x : Mark) (array : List ℕ)
   pub some : 0 < plan .period
   pub quick : plan .period ≤ mostPeriod
   pub countable : x .«scans_done» + task .hold ≤ mostScans
-  pub right : Right (plan .count) (associationsIn array) (delaysIn array) (plan .period) (task .tripped) (task .asked) (boardAt x array)
+  pub right : Right (plan .count) (associationsIn array) (delaysIn array) (plan .period) (task .seen) (task .asked) (boardAt x array)
   pub fits : recordLength * length (heldBy plan task x array .events) ≤ room
 
 pub record StrokeDone (plan : Plan) (task : Task) (x : Mark) (array buf : List ℕ) (r : Mark) (array′ buf′ : List ℕ) : Type 0 where

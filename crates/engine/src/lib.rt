@@ -20,11 +20,12 @@ use cells::Plan;
 use effects::Record;
 use planes::Asked;
 use planes::Planes;
+use rules::Seen;
 
-// What a row asks of a stroke: its hold, the causes that are tripped and not masked, and what the rules ask.
+// What a row asks of a stroke: its hold, what is seen of the causes, and what the rules ask.
 pub struct Task {
     pub hold: u32,
-    pub tripped: u16,
+    pub seen: Seen,
     pub asked: Asked,
 }
 
@@ -80,18 +81,18 @@ fn record_at(board: &[u32; 64], x: Mark, is: Planes, q: u16, i: usize) -> Record
 }
 
 // Ends a scan from x to the states `is` for the effects in the word `ch`, which it has changed: their timers and first-outs go into the
-// array and their records into the buffer, in one loop. The answer is the place after the records.
+// array and their records into the buffer, in one loop. causes: those that a first-out may take. The answer is the place after the records.
 fn put_changed(
     buf: &mut [u8],
     board: &mut [u32; 64],
-    tripped: u16,
+    causes: u16,
     x: Mark,
     is: Planes,
     ch: u16,
 ) -> usize
-    requires { ⌜ Changeable tripped x is ch (now board) (length (now buf)) ⌝ }
+    requires { ⌜ Changeable causes x is ch (now board) (length (now buf)) ⌝ }
     ensures { λ r. ⌜ r ≡ x .at + recordLength * length (scanEntries (firstsIn (now (board .exit))) x is ch) ⌝ }
-    ensures { λ _. ⌜ now (board .exit) ≡ settledIn tripped (x .planes) is ch (now (board .entry)) 16 ⌝ }
+    ensures { λ _. ⌜ now (board .exit) ≡ settledIn causes (x .planes) is ch (now (board .entry)) 16 ⌝ }
     ensures { λ _. ⌜ now (buf .exit) ≡ sets (now (buf .entry)) (x .at) (joined (scanEntries (firstsIn (now (board .exit))) x is ch)) ⌝ }
 {
     let was = x.planes;
@@ -100,7 +101,7 @@ fn put_changed(
     let mut rest = ch;
     while 0 < rest {
         let i = cells::lowest(rest);
-        cells::settle(board, i, tripped, was.normal, is.normal, is.delayed);
+        cells::settle(board, i, causes, was.normal, is.normal, is.delayed);
         effects::put_record(buf, at, record_at(board, x, is, q, i));
         at += effects::RECORD_LENGTH;
         q = std::num::wrapping_add_u16(q, 1);
@@ -127,15 +128,15 @@ fn count_live(n: u32, b: bool) -> u32
 }
 
 // One scan more. Its records go to the buffer at the run's place.
-fn scan(buf: &mut [u8], board: &mut [u32; 64], plan: Plan, tripped: u16, w: Asked, x: Mark) -> Mark
-    requires { ⌜ ScanReady plan tripped w x (now board) (length (now buf)) ⌝ }
-    ensures { λ r. ⌜ ScanDone plan tripped w x (now (board .entry)) (now (buf .entry)) r (now (board .exit)) (now (buf .exit)) ⌝ }
+fn scan(buf: &mut [u8], board: &mut [u32; 64], plan: Plan, seen: Seen, w: Asked, x: Mark) -> Mark
+    requires { ⌜ ScanReady plan seen w x (now board) (length (now buf)) ⌝ }
+    ensures { λ r. ⌜ ScanDone plan seen w x (now (board .entry)) (now (buf .entry)) r (now (board .exit)) (now (buf .exit)) ⌝ }
 {
     let was = x.planes;
     let due = cells::tick(board, plan, was.delayed);
     let is = planes::planes_after(w, due, was);
     let ch = planes::changed(was, is);
-    let at = put_changed(buf, board, tripped, x, is, ch);
+    let at = put_changed(buf, board, seen.tripped | seen.bad, x, is, ch);
     Mark {
         scans_done: x.scans_done + 1,
         next: seq_after(x.next, x.at, at),
@@ -195,7 +196,7 @@ pub fn stroke(buf: &mut [u8], board: &mut [u32; 64], plan: Plan, task: Task, fro
     let mut fuel = 2 * plan.count + 1;
     while 0 < left {
         fuel -= 1;
-        let y = scan(buf, board, plan, task.tripped, w, x);
+        let y = scan(buf, board, plan, task.seen, w, x);
         let v = unset(w);
         let rest = left - 1;
         let p = y.planes;

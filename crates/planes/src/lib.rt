@@ -11,7 +11,8 @@ ghost use mathlib.Core.Path.{_≡_};
 ghost use Prim.Native.Nat.{_≤_, _<_};
 ghost use Rattle.planes.specs.Planes.{planesAfter, changedOf, oneOf, codeAt};
 
-// What the rules ask of all effects, one bit an effect. active and with_delay: the active word and the delay are not 0.
+// What the rules ask of all effects, one bit an effect. bad_trip, active and with_delay: the effect's Bad causes, its active word and its
+// delay are not 0.
 pub struct Asked {
     pub force_trip: u16,
     pub force_normal: u16,

@@ -45,7 +45,7 @@ planOf st =
       options = st .options;
       all = wordOf (λ i. true) (st .count);
       «with_delay» = wordOf (λ i. ltb 0 (delayAt st i)) (st .count);
-      watched = unionTo (associationAt st) 16;
+      watched = unionTo (associationAt st) (st .count);
     }
 
 -- plan and array are those of the settings

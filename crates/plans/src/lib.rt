@@ -75,12 +75,13 @@ fn delay_word(count: usize, st: Settings) -> u16
 }
 
 // The causes that any effect watches.
-fn watched_word(st: Settings) -> u16
-    ensures { λ r. ⌜ r ≡ unionTo (associationAt st) 16 ⌝ }
+fn watched_word(count: usize, st: Settings) -> u16
+    requires { ⌜ count ≤ 16 ⌝ }
+    ensures { λ r. ⌜ r ≡ unionTo (associationAt st) count ⌝ }
 {
     let mut word: u16 = 0;
     let mut i: usize = 0;
-    while i < 16 {
+    while i < count {
         let e = st.effects[i];
         word |= e.association;
         i += 1;
@@ -100,6 +101,6 @@ pub fn plan_of(st: Settings) -> Plan
         options: st.options,
         all: all_word(count),
         with_delay: delay_word(count, st),
-        watched: watched_word(st),
+        watched: watched_word(count, st),
     }
 }

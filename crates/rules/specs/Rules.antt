@@ -1,6 +1,7 @@
--- One effect in one scan. Document 01, "Settings, row, state" (the state codes) and "The rules of one scan".
+-- One effect in one scan. Document 01, "Settings, row, state" (the state codes) and "The rules of one scan"; document 02, L3 (Bad causes).
 use Prim.Native.Nat.{ℕ, _-_}
 use mathlib.Core.Bool.{Bool, true, false, cond, not, _&&_, _||_}
+use lib.Bits.{bitOr}
 use lib.Dec.{leb, ltb, eqb}
 use Rattle.rules.specs.declared.EffectState.{EffectState}
 use Rattle.rules.specs.declared.EffectState.the-variants.{Tripped, WaitReset, Ready, WaitStart, Normal, Delayed}
@@ -74,7 +75,7 @@ asks s =
     record {
       trip = s .trip;
       normal = s .normal;
-      bad = s .bad;
+      bad = ltb 0 (s .bad);
       active = ltb 0 (s .active);
       require = s .require;
       permit = s .permit;
@@ -91,9 +92,9 @@ after s x = rule (asks s) (leb (x .timer) (s .period)) (x .state)
 abbrev pub timerAt : Signals → Slot → EffectState → ℕ
 timerAt s x q = cond (same q Delayed) (cond (same (x .state) Delayed) (x .timer - s .period) (s .delay)) 0
 
--- the word that a first-out takes: the active word of the scan (perhaps 0)
+-- the word that a first-out takes: the active causes of the scan, and the Bad ones besides (perhaps 0)
 abbrev pub firstOutWord : Signals → ℕ
-firstOutWord s = s .active
+firstOutWord s = bitOr (s .active) (s .bad)
 
 -- the first-out in state q, where x was before: 0 in Normal, `firstOutWord` in the scan that leaves Normal, and kept otherwise
 abbrev pub firstAt : Signals → Slot → EffectState → ℕ
@@ -123,11 +124,11 @@ isOn Delayed = true
 
 -- the effect's bit of the latent word: force normal counts, and active is not 0 or there is a Bad trip
 abbrev pub isLatent : Signals → Bool
-isLatent s = s .normal && (ltb 0 (s .active) || s .bad)
+isLatent s = s .normal && (ltb 0 (s .active) || ltb 0 (s .bad))
 
--- the effect counts for the exercised scans: its active word is not 0
+-- the effect counts for the exercised scans, forced or not: active is not 0 or there is a Bad trip
 abbrev pub isExercised : Signals → Bool
-isExercised s = ltb 0 (s .active)
+isExercised s = ltb 0 (s .active) || ltb 0 (s .bad)
 
 -- ## No effect
 
@@ -138,4 +139,4 @@ noSlot = record { state = Tripped; timer = 0; «first_out» = 0 }
 -- the signals of no effect
 abbrev pub noSignals : Signals
 noSignals =
-    record { active = 0; bad = false; trip = false; normal = false; require = false; permit = false; start = false; reset = false; delay = 0; period = 0 }
+    record { active = 0; bad = 0; trip = false; normal = false; require = false; permit = false; start = false; reset = false; delay = 0; period = 0 }

@@ -1,5 +1,6 @@
-// The state of one effect, and its code. What the effect sees, and the nine rules of one scan, are definitions (specs/) and no code:
-// the code that runs works on words of effects (`planes`). Document 01, "The rules of one scan". It rests on `bits`.
+// The state of one effect, and its code; and what is seen of the causes. What the effect sees, and the nine rules of one scan, are
+// definitions (specs/) and no code: the code that runs works on words of effects (`planes`). Document 01, "The rules of one scan";
+// document 02, L3 (Bad causes). It rests on `bits`.
 // A rule that changes in specs/ changes what every crate above promises, and its formula in `planes` has to change with it. The proofs
 // above stay, because what they need of the rules is tested by computing.
 ghost use mathlib.Core.Path.{_≡_};
@@ -21,6 +22,13 @@ pub struct Slot {
     pub state: EffectState,
     pub timer: u32,
     pub first_out: u16,
+}
+
+// What is seen of the causes in a scan: those that are tripped, and those that are Bad; no masked cause is. Of both words an effect sees
+// the causes that it is associated with.
+pub struct Seen {
+    pub tripped: u16,
+    pub bad: u16,
 }
 
 // The code of a state.

@@ -1,3 +1,4 @@
+pub mod Causes
 pub mod Refusals
 pub mod Right
 pub mod Signals

@@ -1,9 +1,9 @@
--- What an effect sees in a scan, of the settings and the ten words. Document 01, "The rules of one scan".
-use Prim.Native.Nat.{ℕ, _-_}
+-- What an effect sees in a scan, of the settings and the ten words. Document 01, "The rules of one scan"; document 02, L3 (Bad trip).
+use Prim.Native.Nat.{ℕ}
 use mathlib.Core.Bool.{Bool, _&&_, _||_}
 use mathlib.Core.List.{List}
 use lib.Bits.{bitAnd}
-use lib.Dec.{eqb, ltb}
+use lib.Dec.{eqb}
 use lib.ListN.{getD}
 use Rattle.bits.specs.Lists.{tabulate}
 use Rattle.bits.specs.Words.{bitOf}
@@ -11,14 +11,7 @@ use Rattle.rules.specs.Signals.{Signals}
 use Rattle.settings.specs.declared.Effect.{Effect}
 use Rattle.settings.specs.declared.Settings.{Settings}
 use Rattle.settings.specs.declared.Words.{Words}
-
--- active: the association word, less the masked causes, less those whose value is 1
-abbrev pub activeOf : (association mask values : ℕ) → ℕ
-activeOf association mask values = bitAnd (bitAnd association (65535 - mask)) (65535 - values)
-
--- Bad trip: option bit 0 is set and any cause is Bad, masked or not, associated or not
-abbrev pub badTrip : (options : ℕ) → Words → Bool
-badTrip options w = bitOf options 0 && ltb 0 (w .bad)
+use Rattle.settings.specs.Causes.{seenOf}
 
 -- forces count only if force permit is 1 or option bit 1 is set
 abbrev pub forcesCount : (options : ℕ) → Words → Bool
@@ -28,12 +21,12 @@ forcesCount options w = eqb (w .«force_permit») 1 || bitOf options 1
 abbrev pub noEffect : Effect
 noEffect = record { association = 0; delay = 0 }
 
--- what effect i sees, counted from 0
+-- what effect i sees, counted from 0: of the causes, those in its association word
 unfoldable pub signalsOf : Settings → Words → ℕ → Signals
 signalsOf st w i =
     record {
-      active = activeOf (getD (st .effects) i noEffect .association) (w .mask) (w .values);
-      bad = badTrip (st .options) w;
+      active = bitAnd (getD (st .effects) i noEffect .association) (seenOf (st .options) w .tripped);
+      bad = bitAnd (getD (st .effects) i noEffect .association) (seenOf (st .options) w .bad);
       trip = forcesCount (st .options) w && bitOf (w .«force_trip») i;
       normal = forcesCount (st .options) w && bitOf (w .«force_normal») i;
       require = bitOf (w .«require_reset») i;

@@ -11,7 +11,9 @@ ghost use lib.Dec.{eqb, leb, ltb};
 ghost use Rattle.bits.specs.Lists.{allFrom};
 ghost use Rattle.rules.specs.Limits.{mostDelay, mostHold};
 ghost use Rattle.settings.specs.Right.{knownOf, blockNumber, effectOk, effectNumber, countOk, slotOk, effectsNumber, settingsNumber, wordsOk, fieldsNumber, apart, apartNumber, several, severalNumber, wordsNumber, holdNumber, rowNumber};
-ghost use Rattle.settings.specs.Signals.{forcesCount, badTrip};
+ghost use Rattle.settings.specs.Causes.{seenOf};
+ghost use Rattle.settings.specs.Signals.{forcesCount};
+use rules::Seen;
 
 // The settings of one effect: its association word and its delay in milliseconds.
 pub struct Effect {
@@ -266,9 +268,12 @@ pub fn forces_count(options: u8, w: Words) -> bool
     (w.force_permit == 1) | bits::bit(options as u16, 1)
 }
 
-// There is a Bad trip.
-pub fn bad_trip(options: u8, w: Words) -> bool
-    ensures { λ r. ⌜ r ≡ badTrip options w ⌝ }
+// What is seen of the causes.
+pub fn seen_of(options: u8, w: Words) -> Seen
+    ensures { λ r. ⌜ r ≡ seenOf options w ⌝ }
 {
-    bits::bit(options as u16, 0) & (0 < w.bad)
+    Seen {
+        tripped: !w.values & !w.mask,
+        bad: bits::pick16(bits::bit(options as u16, 0), w.bad & !w.mask, 0),
+    }
 }

@@ -7,10 +7,11 @@ use native.Mathlib.Omega.{arith}
 use lib.Bits.{bitAnd, bitOr}
 use lib.Dec.{eqb}
 use lib.Seq.{sets}
+use Rattle.rules.specs.declared.Seen.{Seen}
 use Rattle.rules.specs.Signals.{Signals}
 use Rattle.rules.specs.Rules.{asks}
 use Rattle.effects.specs.Records.{bytes}
-use Rattle.effects.specs.Scan.{latentWord, anyExercised}
+use Rattle.effects.specs.Scan.{latentWord}
 use Rattle.rounds.specs.Steps.{Run}
 use Rattle.planes.specs.declared.Asked.{Asked}
 use Rattle.engine.specs.declared.Mark.{Mark}
@@ -29,7 +30,7 @@ use Rattle.settings.specs.Signals.{signals}
 use Rattle.settings.proofs.Right.{row-words, count-few, period-some, period-most, hold-most}
 use Rattle.wiring.specs.declared.Struck.{Struck}
 use Rattle.plans.specs.Plans.{planOf}
-use Rattle.wiring.specs.Wiring.{Stroked, strokedAt, taskOf, heldOf, Runs, Ran}
+use Rattle.wiring.specs.Wiring.{Stroked, strokedAt, watchedOf, taskOf, heldOf, Runs, Ran}
 use Rattle.wiring.proofs.Signals.{signals-are, asked-right, effect-is, latent-is, exercised-is}
 
 abbrev stroked : Board → ℕ → ℕ → Bool → Stroked
@@ -65,7 +66,7 @@ module _ {st : Settings} {plan : Plan} {row : Row} {x : Mark} {array : List ℕ}
 
   module _ {task : Task} (et : task ≡ taskOf plan (associationsIn array) row) where
     abbrev s : ℕ → Signals
-    s = signalsBy (associationsIn array) (delaysIn array) (plan .period) (task .tripped) (task .asked)
+    s = signalsBy (associationsIn array) (delaysIn array) (plan .period) (task .seen) (task .asked)
 
     seen-are : seenBy plan task array ≡ signals st w
     unfolding planOf
@@ -74,6 +75,9 @@ module _ {st : Settings} {plan : Plan} {row : Row} {x : Mark} {array : List ℕ}
     asked-is : task .asked ≡ askedOf (plan .count) (λ i. asks (s i))
     unfolding planOf
     asked-is = rw (et, runs .wired .associations-are, runs .wired .delays-are, ep) (asked-right st (runs .settings) w words)
+
+    seen-is : task .seen ≡ watchedOf (planOf st) w
+    seen-is = ap (λ (y : Task). y .seen) et ∙ ap (λ (y : Plan). watchedOf y w) ep
 
     hold-is : task .hold ≡ row .hold
     hold-is = ap (λ (y : Task). y .hold) et
@@ -103,14 +107,14 @@ module _ {st : Settings} {plan : Plan} {row : Row} {x : Mark} {array : List ℕ}
       comes-to = done .board ∙ rw (held-is, en)
 
       -- the code's answer is the result of the run of slots
-      pub ran : {r : Struck} → strokedAt r array′ ≡ stroked (boardAt y array′) (bitOr (y .planes .normal) (y .planes .delayed)) (bitAnd (task .asked .«force_normal») (bitOr (task .asked .active) (task .asked .«bad_trip»))) (not (eqb (task .asked .active) 0))
+      pub ran : {r : Struck} → strokedAt r array′ ≡ stroked (boardAt y array′) (bitOr (y .planes .normal) (y .planes .delayed)) (bitAnd (task .asked .«force_normal») (bitOr (task .asked .active) (task .asked .«bad_trip»))) (not (eqb (bitOr (task .seen .tripped) (task .seen .bad)) 0))
           → Ran st plan row x array buf r array′ buf′
       ran e =
           record {
             stroked = e ∙ stroked-path comes-to
                 (ap (λ (b : Board). bitOr (b .table .planes .normal) (b .table .planes .delayed)) comes-to ∙ effect-is (st .count) (run .slots))
                 (ap (λ (a : Asked). bitAnd (a .«force_normal») (bitOr (a .active) (a .«bad_trip»))) asked-is ∙ latent-is (plan .count) s ∙ ap latentWord seen-are)
-                (ap (λ (a : Asked). not (eqb (a .active) 0)) asked-is ∙ exercised-is (plan .count) s ∙ ap anyExercised seen-are);
+                (ap (λ (v : Seen). not (eqb (bitOr (v .tripped) (v .bad)) 0)) seen-is ∙ exercised-is st w);
             laid = done .laid ∙ ap (λ (q : Run). sets buf 0 (bytes (q .events))) held-is;
             wired = record {
               plan-is = ep;

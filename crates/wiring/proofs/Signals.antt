@@ -1,47 +1,47 @@
 -- The words that a row gives are those of what the effects see.
-use mathlib.Core.Path.{_≡_, refl, ap, sym, _∙_}
-use mathlib.Core.Bool.{Bool, true, false, cond, not, _&&_, _||_, or-assoc, or-false, Bool·not-not}
+use mathlib.Core.Path.{_≡_, refl, ap, ap₂, sym, _∙_}
+use mathlib.Core.Bool.{Bool, true, false, cond, not, _&&_, _||_, or-assoc, or-false}
 use mathlib.Core.List.{List, [], _∷_, _++_}
-use Prim.Native.Nat.{ℕ, zero, suc, _-_, _^_, _<_, _≤_}
+use Prim.Native.Nat.{ℕ, zero, suc, _^_, _<_, _≤_}
 use native.Mathlib.Nat.{lt-of-lt-of-le}
-use lib.Bits.{bitAnd, bitOr}
+use native.Mathlib.Omega.{arith}
+use borrow.Author.Tests.{lt-ltb, ne-eqb}
+use lib.Bits.{bitAnd, bitOr, and-comm}
 use lib.Dec.{eqb, ltb}
 use lib.ListN.{getD}
 use lib.Pow.{pow-pos}
 use Rattle.bits.specs.Lists.{tabulate}
 use Rattle.bits.specs.Words.{bitOf, wordOf}
 use Rattle.bits.proofs.Lists.{length-tabulate, tabulate-ext, getD-tabulate}
-use Rattle.bits.proofs.Words.{bit-wordOf, bit-none, wordOf-ext, wordOf-lt, word-bits, and-assoc, and-word, or-word}
+use Rattle.bits.proofs.Words.{bit-wordOf, bit-none, wordOf-ext, word-bits, and-word, or-word, and-or, some-or}
 use Rattle.rules.specs.declared.EffectState.{EffectState}
 use Rattle.rules.specs.declared.EffectState.the-variants.{Tripped, WaitReset, Ready, WaitStart, Normal, Delayed}
+use Rattle.rules.specs.declared.Seen.{Seen}
 use Rattle.rules.specs.Signals.{Signals}
 use Rattle.rules.specs.declared.Slot.{Slot}
 use Rattle.rules.specs.Rules.{noSlot, noSignals, asks, same, isOn, isLatent, isExercised}
 use Rattle.effects.specs.Scan.{effectWord, latentWord, anyExercised}
 use Rattle.planes.specs.declared.Asked.{Asked}
 use Rattle.planes.specs.Planes.{planesOf, askedOf}
-use Rattle.boards.specs.Table.{activeAt, tableOf}
+use Rattle.boards.specs.Table.{watchedBy, tableOf}
 use Rattle.boards.specs.Board.{signalsBy, signalsIn}
-use Rattle.boards.proofs.Quiet.{anyTo, none-set}
+use Rattle.boards.proofs.Quiet.{anyTo}
 use Rattle.settings.specs.declared.Settings.{Settings}
 use Rattle.settings.specs.declared.Words.{Words}
 use Rattle.settings.specs.Right.{knownOf, settingsNumber, wordsNumber}
-use Rattle.settings.specs.Signals.{badTrip, forcesCount, signals, signalsOf}
+use Rattle.settings.specs.Causes.{seenOf}
+use Rattle.settings.specs.Signals.{forcesCount, signals, signalsOf}
 use Rattle.settings.proofs.Right.{count-few, association-lt, inside}
 use Rattle.plans.specs.Plans.{associationAt, delayAt, associationsOf, delaysOf, unionTo, planOf}
-use Rattle.wiring.specs.Wiring.{trippedOf, askedBy}
-use Rattle.wiring.proofs.Watched.{in-union, and-watched}
+use Rattle.wiring.specs.Wiring.{watchedOf, askedBy}
+use Rattle.wiring.proofs.Watched.{in-union, and-watched, some-watched}
 
 -- a bit of a word that counts if b holds, and is 0 otherwise
 bit-if : (b : Bool) (w i : ℕ) → bitOf (cond b w 0) i ≡ (b && bitOf w i)
 bit-if true w i = refl
 bit-if false w i = bit-none i
 
-bit-all : (b : Bool) (n i : ℕ) → i < n → bitOf (cond b (wordOf (λ j. true) n) 0) i ≡ b
-bit-all true n i k = bit-wordOf (λ j. true) n i k
-bit-all false n i k = bit-none i
-
-signals-path : {a a′ : ℕ} {b b′ t t′ m m′ q p s r : Bool} {d d′ e : ℕ} → a ≡ a′ → b ≡ b′ → t ≡ t′ → m ≡ m′ → d ≡ d′
+signals-path : {a a′ b b′ : ℕ} {t t′ m m′ q p s r : Bool} {d d′ e : ℕ} → a ≡ a′ → b ≡ b′ → t ≡ t′ → m ≡ m′ → d ≡ d′
     → _≡_ {A = Signals} (record { active = a; bad = b; trip = t; normal = m; require = q; permit = p; start = s; reset = r; delay = d; period = e })
     (record { active = a′; bad = b′; trip = t′; normal = m′; require = q; permit = p; start = s; reset = r; delay = d′; period = e })
 signals-path {q = q} {p = p} {s = s} {r = r} {e = e} ea eb et em ed =
@@ -61,35 +61,41 @@ module _ (st : Settings) (right : settingsNumber st ≡ 0) (w : Words) (words : 
   abbrev n : ℕ
   n = st .count
 
+  -- what is seen of all causes, and of those that any effect watches
+  abbrev all : Seen
+  all = seenOf (st .options) w
+
+  abbrev seen : Seen
+  seen = watchedOf (planOf st) w
+
   abbrev asked : Asked
-  asked = askedBy (planOf st) (associationsOf st) w
+  asked = askedBy (planOf st) (associationsOf st) seen w
 
   abbrev shown : ℕ → Signals
-  shown = signalsBy (associationsOf st) (delaysOf st) (st .period) (trippedOf w) asked
+  shown = signalsBy (associationsOf st) (delaysOf st) (st .period) seen asked
 
   few : n ≤ 16
   few = count-few st right
 
-  -- a cause that no effect watches makes no effect active
-  active-is : (i : ℕ) → i < n → activeAt (associationsOf st) (bitAnd (trippedOf w) (unionTo (associationAt st) 16)) i ≡ activeAt (associationsOf st) (trippedOf w) i
-  active-is i k =
-      let l : i < 16 = lt-of-lt-of-le k few in
-      let a = getD-tabulate (associationAt st) 16 i 0 l in
-      rw (a, and-watched (associationAt st i) (trippedOf w) (unionTo (associationAt st) 16) (association-lt st right i k) (λ j e. in-union (associationAt st) 16 i j l e))
+  -- effect i sees of the causes those in its association word, although those that no effect watches are left out
+  watched-is : (causes i : ℕ) → i < n → watchedBy (associationsOf st) (bitAnd causes (planOf st .watched)) i ≡ bitAnd (associationAt st i) causes
+  unfolding planOf
+  watched-is causes i k =
+      ap (λ (a : ℕ). bitAnd a (bitAnd causes (unionTo (associationAt st) n))) (getD-tabulate (associationAt st) 16 i 0 (lt-of-lt-of-le k few))
+      ∙ and-watched (associationAt st i) causes (unionTo (associationAt st) n) (association-lt st right i k) (λ j e. in-union (associationAt st) n i j k e)
 
   -- effect i sees what the words show
   sees : (i : ℕ) → i < n → shown i ≡ signalsOf st w i
   unfolding signalsBy signalsOf askedBy planOf
   sees i k =
-      let l : i < 16 = lt-of-lt-of-le k few in
       signals-path
-      (ap (λ (a : ℕ). bitAnd a (trippedOf w)) (getD-tabulate (associationAt st) 16 i 0 l) ∙ sym (and-assoc (associationAt st i) (65535 - w .mask) (65535 - w .values) (association-lt st right i k)))
-      (bit-all (badTrip (st .options) w) n i k)
+      (watched-is (all .tripped) i k)
+      (watched-is (all .bad) i k)
       (bit-if (forcesCount (st .options) w) (w .«force_trip») i)
       (bit-if (forcesCount (st .options) w) (w .«force_normal») i)
-      (getD-tabulate (delayAt st) 16 i 0 l)
+      (getD-tabulate (delayAt st) 16 i 0 (lt-of-lt-of-le k few))
 
-  pub signals-are : signalsIn n (associationsOf st) (delaysOf st) (st .period) (trippedOf w) asked ≡ signals st w
+  pub signals-are : signalsIn n (associationsOf st) (delaysOf st) (st .period) seen asked ≡ signals st w
   signals-are = tabulate-ext shown (signalsOf st w) n sees
 
   -- the words that are asked are those of what they show
@@ -101,8 +107,8 @@ module _ (st : Settings) (right : settingsNumber st ≡ 0) (w : Words) (words : 
       asked-path
       (sym (word-bits _ n (lt-if c (w .«force_trip») n (h .trip))))
       (sym (word-bits _ n (lt-if c (w .«force_normal») n (h .normal))))
-      (sym (word-bits _ n (lt-if (badTrip (st .options) w) (wordOf (λ i. true) n) n (wordOf-lt _ n))))
-      (wordOf-ext _ _ n active-is)
+      refl
+      refl
       (sym (word-bits _ n (h .require)))
       (sym (word-bits _ n (h .permit)))
       (sym (word-bits _ n (h .start)))
@@ -132,7 +138,8 @@ latent-is m s =
     simp (or-word, and-word)
     (wordOf-ext _ _ m (λ i k. ap isLatent (sym (getD-tabulate s m i noSignals k))) ∙ ap (wordOf (λ i. isLatent (getD (tabulate s m) i noSignals))) (sym (length-tabulate s m)))
 
--- some effect is exercised if and only if the word of the active effects is not 0
+-- ## Whether an effect is exercised
+
 exercised-snoc : (ss : List Signals) (s : Signals) → anyExercised (ss ++ (s ∷ [])) ≡ (anyExercised ss || isExercised s)
 exercised-snoc [] s = or-false (isExercised s)
 exercised-snoc (r ∷ ss) s = ap (λ (b : Bool). isExercised r || b) (exercised-snoc ss s) ∙ sym (or-assoc (isExercised r) (anyExercised ss) (isExercised s))
@@ -142,6 +149,39 @@ unfolding anyTo tabulate
 exercised-upto s zero = refl
 exercised-upto s (suc m) = ap (λ (b : Bool). b || isExercised (s m)) (exercised-upto s m) ∙ sym (exercised-snoc (tabulate s m) (s m))
 
-pub exercised-is : (m : ℕ) (s : ℕ → Signals) → not (eqb (askedOf m (λ i. asks (s i)) .active) 0) ≡ anyExercised (tabulate s m)
-unfolding askedOf
-exercised-is m s = ap not (none-set (λ i. isExercised (s i)) m) ∙ Bool·not-not _ ∙ exercised-upto s m
+any-ext : (f g : ℕ → Bool) (m : ℕ) → ((i : ℕ) → f i ≡ g i) → anyTo f m ≡ anyTo g m
+unfolding anyTo
+any-ext f g zero e = refl
+any-ext f g (suc m) e = ap₂ _||_ (any-ext f g m e) (e m)
+
+not-none : (w : ℕ) → not (eqb w 0) ≡ ltb 0 w
+not-none zero = refl
+not-none (suc w) = ap not (ne-eqb (suc w) 0 (λ e. absurd (omega (arith, e)))) ∙ sym (lt-ltb 0 (suc w) (omega arith))
+
+-- some effect is exercised if and only if a cause is seen that one of them watches
+module _ (st : Settings) (w : Words) where
+  abbrev causes : ℕ
+  causes = bitOr (seenOf (st .options) w .tripped) (seenOf (st .options) w .bad)
+
+  sees-one : (i : ℕ) → ltb 0 (bitAnd (associationAt st i) causes) ≡ isExercised (signalsOf st w i)
+  unfolding signalsOf
+  sees-one i =
+      let a = associationAt st i in
+      let v = seenOf (st .options) w in
+      ap (ltb 0) (and-or a (v .tripped) (v .bad)) ∙ some-or (bitAnd a (v .tripped)) (bitAnd a (v .bad))
+
+  abbrev watched : ℕ
+  watched = bitOr (watchedOf (planOf st) w .tripped) (watchedOf (planOf st) w .bad)
+
+  watched-of-all : watched ≡ bitAnd causes (planOf st .watched)
+  unfolding planOf
+  watched-of-all =
+      let u = unionTo (associationAt st) (st .count) in
+      let v = seenOf (st .options) w in
+      ap₂ bitOr (and-comm (v .tripped) u) (and-comm (v .bad) u) ∙ sym (and-or u (v .tripped) (v .bad)) ∙ and-comm u causes
+
+  pub exercised-is : not (eqb watched 0) ≡ anyExercised (signals st w)
+  unfolding planOf
+  exercised-is =
+      not-none watched ∙ ap (ltb 0) watched-of-all ∙ some-watched (associationAt st) causes (st .count)
+      ∙ any-ext _ _ (st .count) sees-one ∙ exercised-upto (signalsOf st w) (st .count)

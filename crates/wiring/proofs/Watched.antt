@@ -1,12 +1,14 @@
--- The quick test: a cause that no effect watches makes no effect active, so it may be left out.
-use mathlib.Core.Path.{_≡_, refl, ap, sym, _∙_}
+-- A cause that no effect watches may be left out, of what an effect sees and of whether any sees one.
+use mathlib.Core.Path.{_≡_, refl, ap, ap₂, sym, _∙_}
 use mathlib.Core.Bool.{Bool, true, false, _&&_, _||_}
 use mathlib.Core.Logic.{⊎-elim}
 use Prim.Native.Nat.{ℕ, zero, suc, _^_, _<_}
 use native.Mathlib.Nat.{eq-or-lt-of-le, le-of-suc-le-suc, not-suc-le-zero, lt-of-le-of-lt}
-use lib.Bits.{bitAnd, and-le-l}
+use lib.Bits.{bitAnd, and-le-l, and-comm, and-zero-r}
+use lib.Dec.{ltb}
 use Rattle.bits.specs.Words.{bitOf}
-use Rattle.bits.proofs.Words.{bit-and, bit-or, same-bits}
+use Rattle.bits.proofs.Words.{bit-and, bit-or, same-bits, and-or, some-or}
+use Rattle.boards.proofs.Quiet.{anyTo}
 use Rattle.plans.specs.Plans.{unionTo}
 
 or-first : (a b : Bool) → a ≡ true → (a || b) ≡ true
@@ -35,3 +37,11 @@ and-watched a t u h all =
     go true true z e = e refl
     go true false z e = refl
     go false y z e = refl
+
+-- one of the causes is in the union of n words if and only if it is in one of them
+pub some-watched : (f : ℕ → ℕ) (causes n : ℕ) → ltb 0 (bitAnd causes (unionTo f n)) ≡ anyTo (λ i. ltb 0 (bitAnd (f i) causes)) n
+unfolding unionTo anyTo
+some-watched f causes zero = ap (ltb 0) (and-zero-r causes)
+some-watched f causes (suc n) =
+    ap (ltb 0) (and-or causes (unionTo f n) (f n)) ∙ some-or (bitAnd causes (unionTo f n)) (bitAnd causes (f n))
+    ∙ ap₂ _||_ (some-watched f causes n) (ap (ltb 0) (and-comm causes (f n)))

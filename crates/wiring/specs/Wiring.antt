@@ -1,5 +1,5 @@
 -- What a row gives to the words of effects. No entry point's contract cites this page.
-use Prim.Native.Nat.{ℕ, _+_, _-_, _*_, _≤_}
+use Prim.Native.Nat.{ℕ, _+_, _*_, _≤_}
 use mathlib.Core.Path.{_≡_}
 use mathlib.Core.Bool.{Bool, cond}
 use mathlib.Core.List.{List}
@@ -10,12 +10,13 @@ use Rattle.bits.specs.Words.{wordOf}
 use Rattle.effects.specs.Records.{recordLength, bytes}
 use Rattle.effects.specs.Scan.{effectWord, latentWord, anyExercised}
 use Rattle.rounds.specs.Steps.{Run, held}
+use Rattle.rules.specs.declared.Seen.{Seen}
 use Rattle.planes.specs.declared.Asked.{Asked}
 use Rattle.engine.specs.declared.Mark.{Mark}
 use Rattle.cells.specs.declared.Plan.{Plan}
 use Rattle.engine.specs.declared.Task.{Task}
 use Rattle.cells.specs.Array.{associationsIn}
-use Rattle.boards.specs.Table.{activeAt}
+use Rattle.boards.specs.Table.{watches}
 use Rattle.boards.specs.Board.{Board, boardOf, runOf, Shown}
 use Rattle.engine.specs.Marks.{boardAt}
 use Rattle.settings.specs.declared.Row.{Row}
@@ -23,24 +24,27 @@ use Rattle.settings.specs.declared.Settings.{Settings}
 use Rattle.settings.specs.declared.Words.{Words}
 use Rattle.rules.specs.Limits.{mostScans}
 use Rattle.settings.specs.Right.{knownOf, settingsNumber, rowNumber}
-use Rattle.settings.specs.Signals.{forcesCount, badTrip, signals}
+use Rattle.settings.specs.Causes.{seenOf}
+use Rattle.settings.specs.Signals.{forcesCount, signals}
 use Rattle.plans.specs.Plans.{Wired}
 use Rattle.wiring.specs.declared.Struck.{Struck}
 
 -- ## A row
 
--- the causes that are tripped and not masked
-abbrev pub trippedOf : Words → ℕ
-trippedOf w = bitAnd (65535 - w .mask) (65535 - w .values)
+-- what is seen of the causes that any effect watches; the others reach no effect
+abbrev pub watchedOf : Plan → Words → Seen
+watchedOf plan w =
+    let seen = seenOf (plan .options) w in
+    record { tripped = bitAnd (seen .tripped) (plan .watched); bad = bitAnd (seen .bad) (plan .watched) }
 
--- what the rules are asked in a row
-unfoldable pub askedBy : Plan → (associations : List ℕ) → Words → Asked
-askedBy plan associations w =
+-- what the rules are asked in a row, where this is seen of the causes
+unfoldable pub askedBy : Plan → (associations : List ℕ) → Seen → Words → Asked
+askedBy plan associations seen w =
     record {
       «force_trip» = cond (forcesCount (plan .options) w) (w .«force_trip») 0;
       «force_normal» = cond (forcesCount (plan .options) w) (w .«force_normal») 0;
-      «bad_trip» = cond (badTrip (plan .options) w) (plan .all) 0;
-      active = wordOf (activeAt associations (bitAnd (trippedOf w) (plan .watched))) (plan .count);
+      «bad_trip» = wordOf (watches associations (seen .bad)) (plan .count);
+      active = wordOf (watches associations (seen .tripped)) (plan .count);
       «require_reset» = w .«require_reset»;
       «reset_permit» = w .«reset_permit»;
       «start_permit» = w .«start_permit»;
@@ -51,7 +55,8 @@ askedBy plan associations w =
 -- what the row asks of a stroke
 abbrev pub taskOf : Plan → (associations : List ℕ) → Row → Task
 taskOf plan associations row =
-    record { hold = row .hold; tripped = trippedOf (row .words); asked = askedBy plan associations (row .words) }
+    let seen = watchedOf plan (row .words) in
+    record { hold = row .hold; seen = seen; asked = askedBy plan associations seen (row .words) }
 
 -- ## A held run
 

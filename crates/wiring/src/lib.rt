@@ -7,11 +7,12 @@ ghost use mathlib.Core.Path.{_≡_};
 ghost use Prim.Native.Nat.{_≤_};
 ghost use lib.ListN.{length};
 ghost use Rattle.cells.specs.Array.{associationsIn};
-ghost use Rattle.wiring.specs.Wiring.{trippedOf, askedBy, taskOf, Runnable, RunsBy};
+ghost use Rattle.wiring.specs.Wiring.{watchedOf, askedBy, taskOf, Runnable, RunsBy};
 use cells::Plan;
 use engine::Mark;
 use engine::Task;
 use planes::Asked;
+use rules::Seen;
 use settings::Row;
 use settings::Words;
 
@@ -25,24 +26,28 @@ pub struct Struck {
 
 // ---- a row
 
-// The causes that are tripped and not masked.
-fn tripped_causes(w: Words) -> u16
-    ensures { λ r. ⌜ r ≡ trippedOf w ⌝ }
+// What is seen of the causes that any effect watches. The others reach no effect, and are left out once for all that is asked of the causes.
+fn watched_of(plan: Plan, w: Words) -> Seen
+    ensures { λ r. ⌜ r ≡ watchedOf plan w ⌝ }
 {
-    !w.mask & !w.values
+    let seen = settings::seen_of(plan.options, w);
+    Seen {
+        tripped: seen.tripped & plan.watched,
+        bad: seen.bad & plan.watched,
+    }
 }
 
-// What the rules are asked in a row.
-fn asked_by(plan: Plan, board: &[u32; 64], w: Words) -> Asked
+// What the rules are asked in a row. seen: of the causes that any effect watches.
+fn asked_by(plan: Plan, board: &[u32; 64], seen: Seen, w: Words) -> Asked
     requires { ⌜ plan .count ≤ 16 ⌝ }
-    ensures { λ r. ⌜ r ≡ askedBy plan (associationsIn (now (board .entry))) w ⌝ }
+    ensures { λ r. ⌜ r ≡ askedBy plan (associationsIn (now (board .entry))) seen w ⌝ }
 {
     let counts = settings::forces_count(plan.options, w);
     Asked {
         force_trip: bits::pick16(counts, w.force_trip, 0),
         force_normal: bits::pick16(counts, w.force_normal, 0),
-        bad_trip: bits::pick16(settings::bad_trip(plan.options, w), plan.all, 0),
-        active: cells::active_word(plan.count, board, tripped_causes(w) & plan.watched),
+        bad_trip: cells::watching(plan.count, board, seen.bad),
+        active: cells::watching(plan.count, board, seen.tripped),
         require_reset: w.require_reset,
         reset_permit: w.reset_permit,
         start_permit: w.start_permit,
@@ -57,10 +62,11 @@ fn task_of(plan: Plan, board: &[u32; 64], row: Row) -> Task
     ensures { λ r. ⌜ r ≡ taskOf plan (associationsIn (now (board .entry))) row ⌝ }
 {
     let words = row.words;
+    let seen = watched_of(plan, words);
     Task {
         hold: row.hold,
-        tripped: tripped_causes(words),
-        asked: asked_by(plan, board, words),
+        seen,
+        asked: asked_by(plan, board, seen, words),
     }
 }
 
@@ -72,12 +78,13 @@ pub fn stroke(buf: &mut [u8], board: &mut [u32; 64], plan: Plan, row: Row, from:
 {
     let task = task_of(plan, board, row);
     let mark = engine::stroke(buf, board, plan, task, from);
+    let seen = task.seen;
     let asked = task.asked;
     let p = mark.planes;
     Struck {
         mark,
         effect: p.normal | p.delayed,
         latent: asked.force_normal & (asked.active | asked.bad_trip),
-        exercised: asked.active != 0,
+        exercised: seen.tripped | seen.bad != 0,
     }
 }

@@ -1,4 +1,4 @@
--- Document 01, "Corner table": P1 to P12, in its order. One cause, one effect, period 100.
+-- Document 01, "Corner table": P1 to P12, in its order, P12 as document 02, L3, changes it. One cause, one effect, period 100.
 use Prim.Native.Nat.{ℕ}
 use mathlib.Core.Bool.{Bool, _&&_}
 use mathlib.Core.List.{List, [], _∷_}
@@ -42,16 +42,16 @@ waiting requireReset resetPermit startPermit reset =
       «force_normal» = 0;
     }
 
--- the cause's value, Bad status and mask, and force permit and force normal; every other word is zero
-abbrev causing : (value bad mask forcePermit forceNormal : ℕ) → Words
-causing value bad mask forcePermit forceNormal =
+-- the cause's value, Bad status and mask, and start permit, force permit and force normal; every other word is zero
+abbrev causing : (value bad mask startPermit forcePermit forceNormal : ℕ) → Words
+causing value bad mask startPermit forcePermit forceNormal =
     record {
       values = value;
       bad = bad;
       mask = mask;
       «require_reset» = 0;
       «reset_permit» = 0;
-      «start_permit» = 0;
+      «start_permit» = startPermit;
       reset = 0;
       «force_permit» = forcePermit;
       «force_trip» = 0;
@@ -82,15 +82,17 @@ corners =
     -- Wait-reset, require reset 0, reset permit: Ready
     ∷ corner 7 0 0 (waiting 0 1 0 0) (slot WaitReset 0 1) (slot Ready 0 1)
     -- Normal, active, delay 0: Tripped, first-out 1
-    ∷ corner 8 0 0 (causing 0 0 0 0 0) (slot Normal 0 0) (slot Tripped 0 1)
+    ∷ corner 8 0 0 (causing 0 0 0 0 0 0) (slot Normal 0 0) (slot Tripped 0 1)
     -- Delayed, timer 100, quiet: Tripped
-    ∷ corner 9 0 500 (causing 1 0 0 0 0) (slot Delayed 100 1) (slot Tripped 0 1)
+    ∷ corner 9 0 500 (causing 1 0 0 0 0 0) (slot Delayed 100 1) (slot Tripped 0 1)
     -- Delayed, timer 101, quiet: Delayed, timer 1
-    ∷ corner 10 0 500 (causing 1 0 0 0 0) (slot Delayed 101 1) (slot Delayed 1 1)
+    ∷ corner 10 0 500 (causing 1 0 0 0 0 0) (slot Delayed 101 1) (slot Delayed 1 1)
     -- Delayed, force normal: Normal, first-out 0
-    ∷ corner 11 0 500 (causing 1 0 0 1 1) (slot Delayed 500 1) (slot Normal 0 0)
-    -- Tripped, option bit 0, quiet, a masked cause Bad: Tripped
-    ∷ corner 12 1 0 (causing 1 1 1 0 0) (slot Tripped 0 1) (slot Tripped 0 1)
+    ∷ corner 11 0 500 (causing 1 0 0 0 1 1) (slot Delayed 500 1) (slot Normal 0 0)
+    -- Tripped, option bit 0, quiet, a masked cause Bad: Wait-start
+    ∷ corner 12 1 0 (causing 1 1 1 0 0 0) (slot Tripped 0 1) (slot WaitStart 0 1)
+    -- the same with start permit: Normal
+    ∷ corner 12 1 0 (causing 1 1 1 1 0 0) (slot Tripped 0 1) (slot Normal 0 0)
     ∷ []
 
 abbrev settingsOf : Corner → Settings

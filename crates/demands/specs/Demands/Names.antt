@@ -23,7 +23,7 @@ pub use Rattle.settings.specs.Right.{knownOf, settingsNumber, wordsNumber, rowN
 pub use Rattle.block.specs.State.{stateOk}
 -- one scan, and a held run
 pub use Rattle.rules.specs.Rules as rules
-pub use Rattle.rules.specs.Rules.{noSlot, isOn, isLatent}
+pub use Rattle.rules.specs.Rules.{noSlot, isOn, isLatent, isExercised}
 pub use Rattle.effects.specs.Records.{bytes}
 pub use Rattle.effects.specs.Scan.{seqAfter}
 pub use Rattle.settings.specs.Signals.{signals, signalsOf}

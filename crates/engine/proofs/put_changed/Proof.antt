@@ -13,19 +13,19 @@ use Rattle.engine.proofs.put_changed.Statement.{statement}
 use Rattle.engine.proofs.put_changed.Tie as tie
 
 abbrev Inv-loop : tie.InvT-loop
-Inv-loop buf₀ board₀ tripped x is ch was at₀ q₀ rest₀ buf board at q rest =
-    Put buf₀ (firstsIn (settledIn tripped (x .planes) is ch board₀ 16)) x is ch buf at q rest
-    × Done 16 ch (settledIn tripped (x .planes) is ch board₀) board rest
+Inv-loop buf₀ board₀ causes x is ch was at₀ q₀ rest₀ buf board at q rest =
+    Put buf₀ (firstsIn (settledIn causes (x .planes) is ch board₀ 16)) x is ch buf at q rest
+    × Done 16 ch (settledIn causes (x .planes) is ch board₀) board rest
 
 abbrev μ-loop : tie.MeasureT-loop
-μ-loop buf₀ board₀ tripped x is ch was at₀ q₀ rest₀ buf board at q rest = rest
+μ-loop buf₀ board₀ causes x is ch was at₀ q₀ rest₀ buf board at q rest = rest
 
 loop-holds : tie.Need-loop-holds Inv-loop μ-loop
 loop-holds c =
     let s = c .before .before in
     let a = s .args in (
       begun _ _ _ _ _ (omega (arith, s .good)) (omega (arith, s .fits .ch)),
-      started (settled-rests (a .tripped) (a .x .planes) (a .is) (a .ch) (now (a .board)) 16 (omega arith) (omega (arith, s .fits .ch))) (settled-none _ _ _ _ _),
+      started (settled-rests (a .causes) (a .x .planes) (a .is) (a .ch) (now (a .board)) 16 (omega arith) (omega (arith, s .fits .ch))) (settled-none _ _ _ _ _),
     )
 
 -- ## In a turn
@@ -58,8 +58,8 @@ loop-again c =
     let a = start i .args in
     let v = i .before .loop .inv in (
       rw (c .wrapping-add-u16 .ensures, c .before .before .before .put-record .ensures, r .record-at .ensures, k .settle .ensures, k .before .before .lowest .ensures .0)
-          (put-same (v .0) (omega arith) (firstsIn (settledAt (a .tripped) (a .x .planes .normal) (a .is .normal) (a .is .delayed) (trailingZeros 16 (i .before .loop .rest)) (i .before .loop .board))) (first-stays (a .tripped) (a .x .planes) (a .is) (a .ch) (now (a .board)) (v .1) (omega arith) (start i .pre .long)) (start i .pre .narrow)),
-      rw (k .settle .ensures, k .before .before .lowest .ensures .0) (settled-turn (a .tripped) (a .x .planes) (a .is) (a .ch) (now (a .board)) (v .1) (omega arith)),
+          (put-same (v .0) (omega arith) (firstsIn (settledAt (a .causes) (a .x .planes .normal) (a .is .normal) (a .is .delayed) (trailingZeros 16 (i .before .loop .rest)) (i .before .loop .board))) (first-stays (a .causes) (a .x .planes) (a .is) (a .ch) (now (a .board)) (v .1) (omega arith) (start i .pre .long)) (start i .pre .narrow)),
+      rw (k .settle .ensures, k .before .before .lowest .ensures .0) (settled-turn (a .causes) (a .x .planes) (a .is) (a .ch) (now (a .board)) (v .1) (omega arith)),
     )
 
 same-length : tie.Need-same-length Inv-loop μ-loop

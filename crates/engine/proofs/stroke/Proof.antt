@@ -2,6 +2,7 @@
 use Prim.Native.Nat.{_-_, _≤_}
 use native.Mathlib.Omega.{arith}
 use borrow.Author.Needs.{needs}
+use lib.Bits.{or-lt}
 use Rattle.boards.proofs.Quiet.{quiets-few}
 use Rattle.boards.proofs.Turn.{as-long}
 use Rattle.engine.proofs.Loop.{Head, begins, scan-ready, within-scanned, still-scanned, left-fits, scanned-fits, goes-on, ends}
@@ -17,7 +18,8 @@ abbrev μ-loop : tie.MeasureT-loop
 loop-holds : tie.Need-loop-holds Inv-loop μ-loop
 loop-holds c =
     let s = c .before .before .before .before in
-    begins (s .pre) (omega (arith, s .good)) (omega (arith, s .good)) (omega arith) (c .before .begin .ensures)
+    let seen = s .args .task .seen in
+    begins (s .pre) (or-lt 16 (seen .tripped) (seen .bad) (omega (arith, s .good)) (omega (arith, s .good))) (omega (arith, s .good)) (omega arith) (c .before .begin .ensures)
 
 sub-fuel : tie.Need-sub-fuel Inv-loop μ-loop
 sub-fuel c = omega (arith, c .before .loop .inv .kept .going .fuelled (c .loop-test .taken))

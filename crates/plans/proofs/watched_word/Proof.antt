@@ -9,10 +9,10 @@ use Rattle.plans.proofs.watched_word.Statement.{statement}
 use Rattle.plans.proofs.watched_word.Tie as tie
 
 abbrev Inv-loop : tie.InvT-loop
-Inv-loop st word₀ i₀ word i = (i ≤ 16) × (word ≡ unionTo (associationAt st) i)
+Inv-loop count st word₀ i₀ word i = (i ≤ count) × (word ≡ unionTo (associationAt st) i)
 
 abbrev μ-loop : tie.MeasureT-loop
-μ-loop st word₀ i₀ word i = 16 - i
+μ-loop count st word₀ i₀ word i = count - i
 
 loop-holds : tie.Need-loop-holds Inv-loop μ-loop
 unfolding unionTo
@@ -26,7 +26,7 @@ loop-again c =
 
 returns : tie.Need-returns Inv-loop μ-loop
 returns c =
-    let e : c .before .loop .i ≡ 16 = omega arith in
+    let e : c .before .loop .i ≡ c .before .before .args .count = omega arith in
     rw (c .before .loop .inv .1, e)
 
 pub watched-word-spec : {M : Type 1} → statement M

@@ -7,20 +7,8 @@ use Rattle.wiring.proofs.asked_by.Tie as tie
 returns : tie.Need-returns
 unfolding askedBy
 returns c =
-    let p = c .before .before in
-    let b = p .before .before in
-    let f = b .before .before .before in
-    rw (c .active-word .ensures, p .tripped-causes .ensures, p .before .pick163 .ensures, b .bad-trip .ensures, b .before .pick162 .ensures, b .before .before .pick16 .ensures, f .forces-count .ensures)
+    let f = c .before .before in
+    rw (c .watching2 .ensures, c .before .watching .ensures, f .pick162 .ensures, f .before .pick16 .ensures, f .before .before .forces-count .ensures)
 
 pub asked-by-spec : {M : Type 1} → statement M
-asked-by-spec =
-    tie.close
-    (tie.spec
-    (λ c κs. search needs)
-    (λ c κs. search needs)
-    (λ c κs. search needs)
-    (λ c κs. search needs)
-    (λ c κs. search needs)
-    (λ c κs. search needs)
-    (λ c κs. search needs)
-    returns)
+asked-by-spec = tie.close (tie.spec (λ c κs. search needs) (λ c κs. search needs) (λ c κs. search needs) (λ c κs. search needs) (λ c κs. search needs) returns)

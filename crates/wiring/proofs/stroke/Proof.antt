@@ -15,7 +15,7 @@ stroke-requires c κs =
 
 returns : tie.Need-returns
 returns c =
-    let k = c .before .before .before .before .before .before .before .before in
+    let k = c .before .before .before .before .before .before .before .before .before in
     λ st runs. ran runs (k .before .before .before .task-of .ensures) (k .stroke .ensures) refl
 
 pub stroke-spec : {M : Type 1} → statement M

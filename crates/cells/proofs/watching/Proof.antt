@@ -1,4 +1,4 @@
--- `cells::active_word` meets its contract. The loop's invariant: the word is that of the first i effects.
+-- `cells::watching` meets its contract. The loop's invariant: the word is that of the first i effects.
 use mathlib.Core.Path.{_≡_, refl, sym}
 use mathlib.Core.List.{List}
 use Prim.Native.Nat.{ℕ, zero, suc, _≤_, _-_}
@@ -9,27 +9,27 @@ use lib.Bits.{and-zero-r}
 use Rattle.bits.specs.Words.{wordOf}
 use Rattle.bits.proofs.Words.{wordOf-lt, wordOf-more}
 use Rattle.cells.specs.Array.{associationsIn}
-use Rattle.boards.specs.Table.{activeAt}
+use Rattle.boards.specs.Table.{watches}
 use Rattle.cells.proofs.Filled.{getD-association}
-use Rattle.cells.proofs.active_word.Statement.{statement}
-use Rattle.cells.proofs.active_word.Tie as tie
+use Rattle.cells.proofs.watching.Statement.{statement}
+use Rattle.cells.proofs.watching.Tie as tie
 
 abbrev Inv-loop : tie.InvT-loop
-Inv-loop count board tripped word₀ i₀ word i = (i ≤ count) × (word ≡ wordOf (activeAt (associationsIn board) tripped) i)
+Inv-loop count board causes word₀ i₀ word i = (i ≤ count) × (word ≡ wordOf (watches (associationsIn board) causes) i)
 
 abbrev μ-loop : tie.MeasureT-loop
-μ-loop count board tripped word₀ i₀ word i = count - i
+μ-loop count board causes word₀ i₀ word i = count - i
 
-none-active : (associations : List ℕ) (n : ℕ) → wordOf (activeAt associations 0) n ≡ 0
+none-watches : (associations : List ℕ) (n : ℕ) → wordOf (watches associations 0) n ≡ 0
 unfolding wordOf
-none-active associations zero = refl
-none-active associations (suc n) = rw (none-active associations n, and-zero-r)
+none-watches associations zero = refl
+none-watches associations (suc n) = rw (none-watches associations n, and-zero-r)
 
--- where no cause is tripped, no effect is active
+-- where there are no causes, no effect watches one
 returns : tie.Need-returns Inv-loop μ-loop
 returns c =
     let a = c .before .args in
-    rw (c .if1 .taken) (sym (none-active (associationsIn (now (a .board))) (a .count)))
+    rw (c .if1 .taken) (sym (none-watches (associationsIn (now (a .board))) (a .count)))
 
 loop-holds : tie.Need-loop-holds Inv-loop μ-loop
 unfolding wordOf
@@ -51,8 +51,8 @@ returns-2 c =
     let e : c .before .loop .i ≡ c .before .before .before .args .count = omega arith in
     rw (c .before .loop .inv .1, e)
 
-pub active-word-spec : {M : Type 1} → statement M
-active-word-spec =
+pub watching-spec : {M : Type 1} → statement M
+watching-spec =
     tie.close
     (tie.spec
     Inv-loop
