@@ -19,6 +19,9 @@ SECOND = ROOT / "second" / "target" / "release" / "second"
 COUNT = 10_000  # of fresh recordings in one call
 REPLAYS = 10  # one in so many is of the stream of replays, whose recordings are longer
 PAIRS = 992  # of forces: 120 pairs of effects in four ways and 16 effects twice, each by two options
+# Cases of Bad causes, in twos that differ in one Bad bit alone. The twos of masked causes come first.
+BAD_CASES = {"scan": 3520, "held": 3520, "recording": 640, "replay": 640, "season": 640}
+BAD_MASKED = {"scan": 880, "held": 880, "recording": 160, "replay": 160, "season": 160}  # of the twos
 TIME_LIMIT = 60  # seconds for one run
 PAUSE = 0.3  # seconds between two pieces of a recording
 LONGEST_NAME = 255  # bytes of a file's name
@@ -249,6 +252,11 @@ def put_fresh(command, seed, count):
 def put_pairs(command):
     """A recording of each pair of forces, without and with option bit 2, in the folder."""
     return put_numbered(command, list(files_of(second(["pairs", "recording"])[0])), PAIRS)
+
+
+def put_bad(command):
+    """The recordings of Bad causes, in the folder."""
+    return put_numbered(command, list(files_of(second(["bad", "recording"])[0])), BAD_CASES["recording"])
 
 
 # ---- Options that every command has ----

@@ -9,6 +9,7 @@ pub mod answers;
 pub mod block;
 pub mod cases;
 pub mod make;
+pub mod make_bad;
 pub mod make_files;
 pub mod make_filled;
 pub mod make_pairs;

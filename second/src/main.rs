@@ -1,9 +1,10 @@
-//! `second answer|make|pairs|show KIND ...`, `second replay`, `second show FILE` and
+//! `second answer|make|pairs|bad|show KIND ...`, `second replay`, `second show FILE` and
 //! `second check|explain|summary|season NAME...`: see `USAGE`.
 
 use second::answers::{refusal_line, Question};
 use second::cases::{answer_next, Kind, Stream};
 use second::make::{filled_stream, stream_of};
+use second::make_bad::bad_stream;
 use second::make_filled::FILLED_BUFFERS;
 use second::make_pairs::pairs_stream;
 use second::replay::{replay, ENOUGH_BYTES};
@@ -22,6 +23,7 @@ const USAGE: &str = "usage:
   second answer scan|held|recording|writing|replay|season < cases > answers
   second make scan|held|recording|writing|replay|season SEED COUNT > cases
   second pairs scan|held|recording|writing|replay|season > a case of every pair of forces
+  second bad scan|held|recording|replay|season > cases in twos that differ in one Bad bit
   second fill BUFFER SEED COUNT > replay cases
   second show scan|held|recording|writing|replay|season < cases
   second show FILE > a recording in words; - is standard input, ./scan a file of that name
@@ -107,6 +109,11 @@ fn make(kind: Kind, seed: &str, count: &str, out: &mut impl Write) -> Result<(),
 
 fn make_pairs(kind: Kind, out: &mut impl Write) -> Result<(), String> {
     written(out.write_all(&pairs_stream(kind)))
+}
+
+fn make_bad(kind: &str, out: &mut impl Write) -> Result<(), String> {
+    let stream = bad_stream(kind_of(kind)?).ok_or_else(|| format!("no Bad cases of {kind}"))?;
+    written(out.write_all(&stream))
 }
 
 /// Replay cases for a printing buffer of so many bytes.
@@ -224,6 +231,7 @@ fn work(given: &[OsString], out: &mut impl Write) -> Result<u8, String> {
         ["show", _] => status = show_kind_or_file(&given[1], out)?,
         ["make", kind, seed, count] => make(kind_of(kind)?, seed, count, out)?,
         ["pairs", kind] => make_pairs(kind_of(kind)?, out)?,
+        ["bad", kind] => make_bad(kind, out)?,
         ["fill", buffer, seed, count] => fill(buffer, seed, count, out)?,
         ["season", ..] => status = season(&given[1..], out)?,
         [question, ..] => status = ask(question_of(question)?, &given[1..], out)?,

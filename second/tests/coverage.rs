@@ -1,15 +1,18 @@
 //! What the made streams reach. The expectations are planted by hand in the generators or
 //! listed here from document 01.
 
-use second::block::{deciding_rule, step, Inputs, Phase, Words, PHASES, RECORD_BYTES};
-use second::cases::{answer_writing, call_run, lent, written_back, Kind, RunCase};
+use second::block::{deciding_rule, step, Inputs, Phase, State, Words, PHASES, RECORD_BYTES};
+use second::cases::{
+    answer_next, answer_writing, call_run, lent, written_back, Kind, RunCase, Stream,
+};
 use second::make::Named;
+use second::make_bad::{bad_files, bad_runs, bad_stream, standings, Force, Standing, Trial};
 use second::make_files::{file_cases, writing_cases};
 use second::make_pairs::{pairs, Pair};
 use second::make_runs::{run_cases, ORDER};
 use second::recording::read;
-use second::replay::{replay, Totals};
-use second::settings::TRIP_IF_BAD;
+use second::replay::{replay, run_row, Totals};
+use second::settings::{PERMIT_NOT_REQUIRED, TRIP_IF_BAD};
 use std::collections::{BTreeMap, BTreeSet};
 use std::sync::OnceLock;
 use Phase::*;
@@ -462,4 +465,189 @@ fn every_pair_of_forces_is_there_and_is_answered() {
         let number = read(&pair.file()).map_or_else(|refusal| refusal.number, |_| 0);
         assert_eq!(number, due(&pair), "{pair:?}");
     }
+}
+
+// ---- Bad causes in twos ----
+
+/// The twos of masked causes, which come first, and all twos; `tests/runs.py` has the same numbers.
+const MASKED_RUNS: usize = 880;
+const BAD_RUNS: usize = 1760;
+const MASKED_FILES: usize = 160;
+const BAD_FILES: usize = 320;
+
+fn masked_first(trials: &[Trial], masked: usize, all: usize) {
+    assert_eq!(trials.len(), all);
+    let count = trials.iter().take_while(|trial| trial.masked).count();
+    assert_eq!(count, masked);
+    assert!(trials[masked..].iter().all(|trial| !trial.masked));
+}
+
+/// What decides whether an effect sees the Bad cause.
+fn deciding(trial: &Trial) -> (bool, u8, bool) {
+    (trial.masked, trial.options, trial.associated)
+}
+
+#[test]
+fn twos_of_runs_differ_in_one_bad_bit() {
+    let runs = bad_runs();
+    let trials: Vec<Trial> = runs.iter().map(|run| run.trial).collect();
+    masked_first(&trials, MASKED_RUNS, BAD_RUNS);
+    for run in &runs {
+        let [clear, set] = run.cases(Kind::Scan);
+        let bit = 1 << run.cause;
+        assert_eq!((clear.row.words.bad, set.row.words.bad), (0, bit));
+        let mut cleared = set;
+        cleared.row.words.bad = 0;
+        assert_eq!(cleared, clear);
+        let words = &set.row.words;
+        assert_eq!(words.mask & bit != 0, run.trial.masked);
+        for (index, effect) in set.settings.slots.iter().enumerate() {
+            let sees = run.trial.associated && index == run.effect;
+            assert_eq!(effect.association & bit != 0, sees);
+        }
+        let inputs = Inputs::of(&set.settings, words, run.effect);
+        assert_eq!(inputs.seen.active != 0, run.trial.active);
+        let slot = &set.state.slots[run.effect];
+        assert_eq!(slot.phase, run.standing.phase);
+        assert_eq!(slot.first_out != 0, slot.phase != Normal);
+    }
+}
+
+#[test]
+fn twos_of_runs_try_everything() {
+    let runs = bad_runs();
+    let tried: BTreeSet<(Trial, Standing)> =
+        runs.iter().map(|run| (run.trial, run.standing)).collect();
+    assert_eq!(tried.len(), BAD_RUNS);
+    let states: BTreeSet<(Phase, bool)> = standings()
+        .iter()
+        .map(|standing| (standing.phase, standing.delay == 0))
+        .collect();
+    assert_eq!(states.len(), 2 * PHASES.len() - 1);
+    assert!(!states.contains(&(Delayed, true)));
+    let mut causes = BTreeMap::new();
+    let mut effects = BTreeMap::new();
+    let mut met = BTreeSet::new();
+    for run in &runs {
+        let key = deciding(&run.trial);
+        causes
+            .entry(key)
+            .or_insert(BTreeSet::new())
+            .insert(run.cause);
+        effects
+            .entry(key)
+            .or_insert(BTreeSet::new())
+            .insert(run.effect);
+        met.insert((run.cause, run.effect));
+    }
+    assert_eq!(causes.len(), 16);
+    assert!(causes
+        .values()
+        .chain(effects.values())
+        .all(|seen| seen.len() == 16));
+    assert_eq!(met.len(), 16 * 16);
+}
+
+/// The rows before the one with the Bad bit lead each effect that is tried to its state.
+#[test]
+fn twos_of_files_differ_in_one_bad_bit_after_every_state() {
+    let files = bad_files();
+    let trials: Vec<Trial> = files.iter().map(|file| file.trial).collect();
+    masked_first(&trials, MASKED_FILES, BAD_FILES);
+    let mut causes = BTreeMap::new();
+    for file in &files {
+        let bit = 1 << file.cause;
+        let [clear, mut set] = file.files().map(|bytes| read(&bytes).expect("accepted"));
+        let place = set.rows.len() - 2;
+        assert_eq!(set.rows[place].words.bad, bit);
+        assert_eq!(
+            set.rows[place].words.mask,
+            if file.trial.masked { bit } else { 0 }
+        );
+        set.rows[place].words.bad = 0;
+        assert_eq!(clear, set);
+        let mut state = State::default();
+        for row in &clear.rows[..place] {
+            state = run_row(&clear.settings, &state, row).state;
+        }
+        let tried = file.tried();
+        assert_eq!(tried.len(), standings().len());
+        for (index, standing) in tried {
+            let slot = &state.slots[index];
+            assert_eq!(slot.phase, standing.phase);
+            assert_eq!(slot.first_out != 0, slot.phase != Normal);
+            assert_eq!(clear.settings.slots[index].delay, standing.delay);
+            let sees = clear.settings.slots[index].association & bit != 0;
+            assert_eq!(sees, file.trial.associated);
+        }
+        causes
+            .entry(deciding(&file.trial))
+            .or_insert(BTreeSet::new())
+            .insert(file.cause);
+    }
+    assert_eq!(causes.len(), 16);
+    assert!(causes.values().all(|seen| seen.len() == 16));
+}
+
+/// For each two of a stream, whether its answers differ.
+fn differing(kind: Kind) -> Vec<bool> {
+    let bytes = bad_stream(kind).expect("a kind with Bad cases");
+    let mut stream = Stream::new(&bytes);
+    let mut differing = Vec::new();
+    while !stream.at_end() {
+        let [clear, set] = [0, 1].map(|_| answer_next(kind, &mut stream).expect("a whole case"));
+        differing.push(clear != set);
+    }
+    differing
+}
+
+/// Whether the Bad cause is seen, and the force that counts.
+fn seen_and_forced(trial: &Trial) -> (bool, Force) {
+    let has = |option| trial.options & option != 0;
+    let seen = has(TRIP_IF_BAD) && !trial.masked && trial.associated;
+    let counts = trial.permit == 1 || has(PERMIT_NOT_REQUIRED);
+    (seen, if counts { trial.force } else { Force::None })
+}
+
+/// Worked out from document 02, L3. Where nothing else is active, a Bad cause that is seen tells by
+/// the state after, by the latent word or, under a force trip, by the exercised scans, which a scan
+/// does not report. Where something is active the effect trips by that too: then the first-out tells
+/// in Normal, and the trip itself in Delayed.
+#[test]
+fn answers_to_twos_of_runs_differ_where_the_bad_cause_is_seen() {
+    for kind in [Kind::Scan, Kind::Held] {
+        for (run, differs) in bad_runs().iter().zip(differing(kind)) {
+            let (seen, forced) = seen_and_forced(&run.trial);
+            let before = run.standing.phase;
+            let alone = !run.trial.active && (forced != Force::Trip || kind == Kind::Held);
+            let told = match forced {
+                Force::None => alone || matches!(before, Normal | Delayed),
+                Force::Trip => alone || before == Normal,
+                Force::Normal => alone,
+            };
+            assert_eq!(differs, seen && told, "{kind:?} {run:?}");
+        }
+    }
+}
+
+/// A file has effects in all states, so without a force some effect always tells. A listing has the
+/// first-outs of a force trip, which a season has not; both have the exercised scans.
+#[test]
+fn answers_to_twos_of_files_differ_where_the_bad_cause_is_seen() {
+    for kind in [Kind::Replay, Kind::Season] {
+        for (file, differs) in bad_files().iter().zip(differing(kind)) {
+            let (seen, forced) = seen_and_forced(&file.trial);
+            let told = match forced {
+                Force::None => true,
+                Force::Trip => kind == Kind::Replay || !file.trial.active,
+                Force::Normal => !file.trial.active,
+            };
+            assert_eq!(differs, seen && told, "{kind:?} {file:?}");
+        }
+    }
+}
+
+#[test]
+fn writing_has_no_bad_cases() {
+    assert_eq!(bad_stream(Kind::Writing), None);
 }
