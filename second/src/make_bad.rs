@@ -207,21 +207,30 @@ pub struct BadRun {
     pub effect: usize,
 }
 
-/// Each trial of each standing. Causes and effects take turns so that each cause meets each effect.
+/// The indices of the Bad cause and of the first effect that is tried: they take turns so that each
+/// cause meets each effect.
+fn cause_and_effect(turn: usize) -> (usize, usize) {
+    (turn % SLOTS, (turn + turn / SLOTS) % SLOTS)
+}
+
+/// Each trial with each of some other things.
+fn each_trial_with<T: Copy>(others: &[T]) -> impl Iterator<Item = (Trial, T)> + '_ {
+    let with_each = |trial| others.iter().map(move |other| (trial, *other));
+    trials().into_iter().flat_map(with_each)
+}
+
+/// Each trial of each standing.
 pub fn bad_runs() -> Vec<BadRun> {
-    let mut runs = Vec::new();
-    for trial in trials() {
-        for standing in standings() {
-            let turn = runs.len();
-            runs.push(BadRun {
-                trial,
-                standing,
-                cause: turn % SLOTS,
-                effect: (turn + turn / SLOTS) % SLOTS,
-            });
+    let run = |(turn, (trial, standing))| {
+        let (cause, effect) = cause_and_effect(turn);
+        BadRun {
+            trial,
+            standing,
+            cause,
+            effect,
         }
-    }
-    runs
+    };
+    each_trial_with(&standings()).enumerate().map(run).collect()
 }
 
 /// An effect that stands so, with a first-out where the state allows one.
@@ -273,21 +282,18 @@ pub struct BadFile {
     pub first: usize,
 }
 
-/// Each trial with each hold. Causes and effects take turns as in the runs.
+/// Each trial with each hold.
 pub fn bad_files() -> Vec<BadFile> {
-    let mut files = Vec::new();
-    for trial in trials() {
-        for hold in FILE_HOLDS {
-            let turn = files.len();
-            files.push(BadFile {
-                trial,
-                hold,
-                cause: turn % SLOTS,
-                first: (turn + turn / SLOTS) % SLOTS,
-            });
+    let file = |(turn, (trial, hold))| {
+        let (cause, first) = cause_and_effect(turn);
+        BadFile {
+            trial,
+            hold,
+            cause,
+            first,
         }
-    }
-    files
+    };
+    each_trial_with(&FILE_HOLDS).enumerate().map(file).collect()
 }
 
 impl BadFile {
