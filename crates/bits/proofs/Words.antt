@@ -190,7 +190,7 @@ less-word f g n h =
     ∙ ap₂ _&&_ (bit-wordOf f n i k) (bit-not (wordOf g n) i small (omega arith) ∙ ap not (bit-wordOf g n i k))
     ∙ sym (bit-wordOf (λ j. f j && not (g j)) n i k))
 
--- a number has fewer than so many bits
+-- a number is below 2 to its own power, so it has that many bits at most
 few-bits : (a : ℕ) → a < 2 ^ a
 few-bits zero = omega arith
 few-bits (suc a) = omega (arith, few-bits a)

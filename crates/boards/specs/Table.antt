@@ -33,7 +33,7 @@ watchedBy associations causes i = bitAnd (getD associations i 0) causes
 abbrev pub watches : (associations : List ℕ) (causes : ℕ) → ℕ → Bool
 watches associations causes i = ltb 0 (watchedBy associations causes i)
 
--- the causes that a first-out takes, if its effect watches them
+-- the causes that are tripped or Bad: those that a first-out takes, if its effect watches them
 abbrev pub blamed : Seen → ℕ
 blamed seen = bitOr (seen .tripped) (seen .bad)
 

@@ -23,7 +23,7 @@ use Rattle.rules.specs.Rules.{noSlot, noSignals, asks, same, isOn, isLatent, is
 use Rattle.effects.specs.Scan.{effectWord, latentWord, anyExercised}
 use Rattle.planes.specs.declared.Asked.{Asked}
 use Rattle.planes.specs.Planes.{planesOf, askedOf}
-use Rattle.boards.specs.Table.{watchedBy, tableOf}
+use Rattle.boards.specs.Table.{watchedBy, blamed, tableOf}
 use Rattle.boards.specs.Board.{signalsBy, signalsIn}
 use Rattle.boards.proofs.Quiet.{anyTo}
 use Rattle.settings.specs.declared.Settings.{Settings}
@@ -161,7 +161,7 @@ not-none (suc w) = ap not (ne-eqb (suc w) 0 (λ e. absurd (omega (arith, e)))) �
 -- some effect is exercised if and only if a cause is seen that one of them watches
 module _ (st : Settings) (w : Words) where
   abbrev causes : ℕ
-  causes = bitOr (seenOf (st .options) w .tripped) (seenOf (st .options) w .bad)
+  causes = blamed (seenOf (st .options) w)
 
   sees-one : (i : ℕ) → ltb 0 (bitAnd (associationAt st i) causes) ≡ isExercised (signalsOf st w i)
   unfolding signalsOf
@@ -171,7 +171,7 @@ module _ (st : Settings) (w : Words) where
       ap (ltb 0) (and-or a (v .tripped) (v .bad)) ∙ some-or (bitAnd a (v .tripped)) (bitAnd a (v .bad))
 
   abbrev watched : ℕ
-  watched = bitOr (watchedOf (planOf st) w .tripped) (watchedOf (planOf st) w .bad)
+  watched = blamed (watchedOf (planOf st) w)
 
   watched-of-all : watched ≡ bitAnd causes (planOf st .watched)
   unfolding planOf
