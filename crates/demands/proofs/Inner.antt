@@ -96,8 +96,8 @@ use Rattle.text.proofs.put_last.Reads as text·put-last
 use Rattle.text.proofs.put_refusal.Reads as text·put-refusal
 use Rattle.text.proofs.put_number.Reads as text·put-number
 use Rattle.text.proofs.put_total.Reads as text·put-total
-use Rattle.reasons.proofs.explain.Reads as reasons·explain
-use Rattle.sentences.proofs.put_reason.Reads as sentences·put-reason
+use Rattle.findings.proofs.explain.Reads as findings·explain
+use Rattle.sentences.proofs.put_finding.Reads as sentences·put-finding
 use Rattle.reports.proofs.put_heading.Reads as reports·put-heading
 use Rattle.reports.proofs.put_check.Reads as reports·put-check
 use Rattle.reports.proofs.put_explained.Reads as reports·put-explained
@@ -448,13 +448,13 @@ text-put-number κs = by-equations (text·put-number.Learnt κs) (λ e. now (e .
 pub text-put-total : (κs : Lfts 2) → Unique (text·put-total.Learnt κs) (λ e. now (e .0))
 text-put-total κs = by-equations (text·put-total.Learnt κs) (λ e. now (e .0)) _ _ (λ a r e h. h)
 
--- ## Why a file is refused (`reasons`, `sentences`)
+-- ## Why a file is refused (`findings`, `sentences`)
 
-pub reasons-explain : (κs : Lfts 1) → Unique (reasons·explain.Learnt κs) none
-reasons-explain κs = by-equation (reasons·explain.Learnt κs) _ (λ a r e h. h)
+pub findings-explain : (κs : Lfts 1) → Unique (findings·explain.Learnt κs) none
+findings-explain κs = by-equation (findings·explain.Learnt κs) _ (λ a r e h. h)
 
-pub sentences-put-reason : (κs : Lfts 1) → Unique (sentences·put-reason.Learnt κs) (λ e. now (e .0))
-sentences-put-reason κs = by-equations (sentences·put-reason.Learnt κs) (λ e. now (e .0)) _ _ (λ a r e h. h .0)
+pub sentences-put-finding : (κs : Lfts 1) → Unique (sentences·put-finding.Learnt κs) (λ e. now (e .0))
+sentences-put-finding κs = by-equations (sentences·put-finding.Learnt κs) (λ e. now (e .0)) _ _ (λ a r e h. h .0)
 
 -- ## Lines about a recording with its name (`reports`, `summaries`)
 

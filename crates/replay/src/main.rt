@@ -101,7 +101,7 @@ fn summarize(name: &[u8], s: &[u8], out: &mut [u8]) -> u8
 fn explain(name: &[u8], s: &[u8], out: &mut [u8]) -> u8
     requires { ⌜ (length (now name) ≤ mostName) × Printing (now out) ⌝ }
 {
-    let explained = reasons::explain(s);
+    let explained = findings::explain(s);
     let size = reports::put_explained(out, name, explained);
     write_line(out, size, explained.number)
 }

@@ -10,8 +10,8 @@ use Rattle.bits.proofs.Decimal.{length-decimal, length-of-64-bits}
 use Rattle.text.specs.Pieces.{total}
 use Rattle.text.proofs.Puts.{Put}
 use Rattle.text.proofs.Room.{refusal-at-most}
-use Rattle.reasons.specs.declared.Reason.{Reason}
-use Rattle.reasons.specs.declared.Explained.{Explained}
+use Rattle.findings.specs.declared.Finding.{Finding}
+use Rattle.findings.specs.declared.Explained.{Explained}
 use Rattle.settings.proofs.Refusals.{granted-none, granted-refused}
 use Rattle.sentences.specs.Sentences.{sentence}
 use Rattle.reports.specs.Reports.{heading, acceptedLine, refusedLine, refusedAt, refusedWhy, explainedLine, mostName, mostReport}
@@ -41,15 +41,15 @@ pub short-place : (p : ℕ) → p < 2 ^ 64 → length (total (ascii "at") p 58) 
 unfolding total
 short-place p h = simp length-append (omega (arith, length-of-64-bits p h))
 
-pub why-pieces : (name : List ℕ) (n p : ℕ) (reason : Reason) → refusedWhy name n p reason ≡ name ++ refusedAt n p ++ sentence reason ++ ascii "\n"
+pub why-pieces : (name : List ℕ) (n p : ℕ) (finding : Finding) → refusedWhy name n p finding ≡ name ++ refusedAt n p ++ sentence finding ++ ascii "\n"
 unfolding refusedWhy refusedAt total
-why-pieces name n p reason = sym (simp append-assoc)
+why-pieces name n p finding = sym (simp append-assoc)
 
 module _ (name : List ℕ) (e : Explained) where
   pub explained-accepted : e .number ≡ 0 → explainedLine name e ≡ acceptedLine name (e .rows)
   unfolding explainedLine
-  explained-accepted h = granted-none (acceptedLine name (e .rows)) (λ (n : ℕ). refusedWhy name n (e .place) (e .reason)) (e .number) h
+  explained-accepted h = granted-none (acceptedLine name (e .rows)) (λ (n : ℕ). refusedWhy name n (e .place) (e .finding)) (e .number) h
 
-  pub explained-refused : (e .number ≡ 0 → ⊥) → explainedLine name e ≡ refusedWhy name (e .number) (e .place) (e .reason)
+  pub explained-refused : (e .number ≡ 0 → ⊥) → explainedLine name e ≡ refusedWhy name (e .number) (e .place) (e .finding)
   unfolding explainedLine
-  explained-refused h = granted-refused (acceptedLine name (e .rows)) (λ (n : ℕ). refusedWhy name n (e .place) (e .reason)) (e .number) h
+  explained-refused h = granted-refused (acceptedLine name (e .rows)) (λ (n : ℕ). refusedWhy name n (e .place) (e .finding)) (e .number) h

@@ -8,8 +8,8 @@ use Rattle.bits.specs.Decimal.{ascii, decimal}
 use Rattle.text.specs.Pieces.{total}
 use Rattle.text.specs.Text.{refusalLine}
 use Rattle.settings.specs.Refusals.{granted}
-use Rattle.reasons.specs.declared.Reason.{Reason}
-use Rattle.reasons.specs.declared.Explained.{Explained}
+use Rattle.findings.specs.declared.Finding.{Finding}
+use Rattle.findings.specs.declared.Explained.{Explained}
 use Rattle.sentences.specs.Sentences.{sentence}
 use Rattle.recording.specs.Encode.{mostLength}
 use Rattle.recording.specs.declared.Answer.{Answer}
@@ -32,12 +32,12 @@ checkLine name (Refused number place) = refusedLine name number place
 
 -- ## A refusal in words
 
-unfoldable pub refusedWhy : (name : List ℕ) (number place : ℕ) → Reason → List ℕ
-refusedWhy name number place reason =
-    name ++ ascii ": refused " ++ decimal number ++ ascii " at " ++ decimal place ++ ascii ": " ++ sentence reason ++ ascii "\n"
+unfoldable pub refusedWhy : (name : List ℕ) (number place : ℕ) → Finding → List ℕ
+refusedWhy name number place finding =
+    name ++ ascii ": refused " ++ decimal number ++ ascii " at " ++ decimal place ++ ascii ": " ++ sentence finding ++ ascii "\n"
 
 unfoldable pub explainedLine : (name : List ℕ) → Explained → List ℕ
-explainedLine name e = granted (e .number) (acceptedLine name (e .rows)) (λ number. refusedWhy name number (e .place) (e .reason))
+explainedLine name e = granted (e .number) (acceptedLine name (e .rows)) (λ number. refusedWhy name number (e .place) (e .finding))
 
 -- ## Room
 

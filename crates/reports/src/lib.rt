@@ -1,14 +1,14 @@
 // Lines about a recording with its name, at the front of a lent buffer: what the reader answered, why a replay is refused in words, and the
 // heading above a listing. Each function answers the length of its line, and all else stays. docs/FORMAT.md, "A line for each file". It
-// rests on `text` and `sentences` for parts of lines and on `recording` and `reasons` for the answers. How lines are put may change
+// rests on `text` and `sentences` for parts of lines and on `recording` and `findings` for the answers. How lines are put may change
 // without moving a contract; the text is specs/Reports.
 ghost use mathlib.Core.Path.{_≡_};
 ghost use Prim.Native.Nat.{_+_, _≤_};
 ghost use lib.ListN.{length};
 ghost use lib.Seq.{sets};
 ghost use Rattle.reports.specs.Reports.{heading, acceptedLine, refusedLine, checkLine, refusedAt, refusedWhy, explainedLine, mostRefusedAt, Roomy};
-use reasons::Explained;
-use reasons::Reason;
+use findings::Explained;
+use findings::Finding;
 use recording::Answer;
 
 // ---- the heading, and a check
@@ -74,14 +74,14 @@ fn put_refused_at(out: &mut [u8], at: usize, number: u8, place: usize) -> usize
     bits::put_text(out, end, b" ")
 }
 
-fn put_why(out: &mut [u8], name: &[u8], number: u8, place: usize, reason: Reason) -> usize
+fn put_why(out: &mut [u8], name: &[u8], number: u8, place: usize, finding: Finding) -> usize
     requires { ⌜ Roomy (now name) (now out) ⌝ }
-    ensures { λ r. ⌜ (r ≡ length (refusedWhy (now (name .entry)) number place reason)) × (now (out .exit) ≡ sets (now (out .entry)) 0 (refusedWhy (now (name .entry)) number place reason)) ⌝ }
+    ensures { λ r. ⌜ (r ≡ length (refusedWhy (now (name .entry)) number place finding)) × (now (out .exit) ≡ sets (now (out .entry)) 0 (refusedWhy (now (name .entry)) number place finding)) ⌝ }
     ensures { λ r. ⌜ r ≤ length (now (out .exit)) ⌝ }
 {
     let refused = bits::put_text(out, 0, name);
     let words = put_refused_at(out, refused, number, place);
-    let end = sentences::put_reason(out, words, reason);
+    let end = sentences::put_finding(out, words, finding);
     bits::put_text(out, end, b"\n")
 }
 
@@ -94,6 +94,6 @@ pub fn put_explained(out: &mut [u8], name: &[u8], e: Explained) -> usize
     if e.number == 0 {
         return put_accepted(out, name, e.rows);
     }
-    let reason = e.reason;
-    put_why(out, name, e.number, e.place, reason)
+    let finding = e.finding;
+    put_why(out, name, e.number, e.place, finding)
 }

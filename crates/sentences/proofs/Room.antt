@@ -9,10 +9,10 @@ use Rattle.bits.specs.Decimal.{ascii, decimal}
 use Rattle.bits.proofs.Decimal.{length-decimal}
 use Rattle.layout.specs.declared.Kind.{Kind}
 use Rattle.layout.specs.declared.Kind.the-variants.{Block, Effects, Rows}
-use Rattle.reasons.specs.declared.RowWord.{RowWord}
-use Rattle.reasons.specs.declared.RowWord.the-variants.{Values, Bad, Mask, RequireReset, ResetPermit, StartPermit, Reset, ForcePermit, ForceTrip, ForceNormal}
-use Rattle.reasons.specs.declared.Fault.{Fault}
-use Rattle.reasons.specs.declared.Fault.the-variants.{CauseCount, Options, Period, NoCause, AbsentCause, Delay, Hold, Word, BothForces, SeveralForced, LastScan}
+use Rattle.findings.specs.declared.RowWord.{RowWord}
+use Rattle.findings.specs.declared.RowWord.the-variants.{Values, Bad, Mask, RequireReset, ResetPermit, StartPermit, Reset, ForcePermit, ForceTrip, ForceNormal}
+use Rattle.findings.specs.declared.Fault.{Fault}
+use Rattle.findings.specs.declared.Fault.the-variants.{CauseCount, Options, Period, NoCause, AbsentCause, Delay, Hold, Word, BothForces, SeveralForced, LastScan}
 use Rattle.sentences.specs.Sentences.{mostWords, numbered, wordText, faultText, countEnds, entryEnds, countWrong, entryName, entryWrong}
 
 pub length-numbered : (text : List ℕ) (n : ℕ) → length (numbered text n) ≡ length text + length (decimal n)

@@ -1,15 +1,15 @@
--- A reason in words, as bytes, with no line end. The words are ours; the limits that they name are document 01's, "Settings, row, state".
+-- A finding in words, as bytes, with no line end. The words are ours; the limits that they name are document 01's, "Settings, row, state".
 use Prim.Native.Nat.{ℕ, _+_}
 use mathlib.Core.List.{List, [], _++_}
 use Rattle.bits.specs.Decimal.{ascii, decimal}
 use Rattle.layout.specs.declared.Kind.{Kind}
 use Rattle.layout.specs.declared.Kind.the-variants.{Block, Effects, Rows}
-use Rattle.reasons.specs.declared.RowWord.{RowWord}
-use Rattle.reasons.specs.declared.RowWord.the-variants.{Values, Bad, Mask, RequireReset, ResetPermit, StartPermit, Reset, ForcePermit, ForceTrip, ForceNormal}
-use Rattle.reasons.specs.declared.Fault.{Fault}
-use Rattle.reasons.specs.declared.Fault.the-variants.{CauseCount, Options, Period, NoCause, AbsentCause, Delay, Hold, Word, BothForces, SeveralForced, LastScan}
-use Rattle.reasons.specs.declared.Reason.{Reason}
-use Rattle.reasons.specs.declared.Reason.the-variants.{Nothing, CountEnds, EntryEnds, CountWrong, EntryWrong, Spare}
+use Rattle.findings.specs.declared.RowWord.{RowWord}
+use Rattle.findings.specs.declared.RowWord.the-variants.{Values, Bad, Mask, RequireReset, ResetPermit, StartPermit, Reset, ForcePermit, ForceTrip, ForceNormal}
+use Rattle.findings.specs.declared.Fault.{Fault}
+use Rattle.findings.specs.declared.Fault.the-variants.{CauseCount, Options, Period, NoCause, AbsentCause, Delay, Hold, Word, BothForces, SeveralForced, LastScan}
+use Rattle.findings.specs.declared.Finding.{Finding}
+use Rattle.findings.specs.declared.Finding.the-variants.{Nothing, CountEnds, EntryEnds, CountWrong, EntryWrong, Spare}
 
 -- the most bytes of a sentence: `effect ` and a number of 16 bits, a colon and a space, and the longest fault
 abbrev pub mostWords : ℕ
@@ -73,7 +73,7 @@ entryWrong kind entry fault = entryName kind entry ++ (ascii ": " ++ faultText f
 
 -- ## The whole
 
-unfoldable pub sentence : Reason → List ℕ
+unfoldable pub sentence : Finding → List ℕ
 sentence Nothing = []
 sentence (CountEnds kind) = countEnds kind
 sentence (EntryEnds kind entry) = entryEnds kind entry

@@ -1,5 +1,5 @@
-// A reason in words, written at a place of a lent buffer: each function answers the place after what it wrote, and all else stays.
-// It rests on `reasons` for what is wrong and on `bits` for numbers and text. How a sentence is put may change without moving a contract;
+// A finding in words, written at a place of a lent buffer: each function answers the place after what it wrote, and all else stays.
+// It rests on `findings` for what is wrong and on `bits` for numbers and text. How a sentence is put may change without moving a contract;
 // the words are specs/Sentences.
 ghost use mathlib.Core.Path.{_≡_};
 ghost use Prim.Native.Nat.{_+_, _≤_};
@@ -7,9 +7,9 @@ ghost use lib.ListN.{length};
 ghost use lib.Seq.{sets};
 ghost use Rattle.sentences.specs.Sentences.{numbered, wordText, faultText, countEnds, entryEnds, countWrong, entryName, entryWrong, sentence, mostWords};
 use layout::Kind;
-use reasons::Fault;
-use reasons::Reason;
-use reasons::RowWord;
+use findings::Fault;
+use findings::Finding;
+use findings::RowWord;
 
 // A text and the number behind it.
 fn put_numbered(out: &mut [u8], at: usize, text: &[u8], n: u16) -> usize
@@ -141,22 +141,22 @@ fn put_wrong(out: &mut [u8], at: usize, section: Kind, entry: u16, fault: Fault)
     put_fault(out, next, fault)
 }
 
-// The words of a reason, with no line end; the place after them. Where nothing is wrong there are none.
-pub fn put_reason(out: &mut [u8], at: usize, reason: Reason) -> usize
+// The words of a finding, with no line end; the place after them. Where nothing is wrong there are none.
+pub fn put_finding(out: &mut [u8], at: usize, finding: Finding) -> usize
     requires { ⌜ at + mostWords ≤ length (now out) ⌝ }
-    ensures { λ r. ⌜ (r ≡ at + length (sentence reason)) × (now (out .exit) ≡ sets (now (out .entry)) at (sentence reason)) ⌝ }
+    ensures { λ r. ⌜ (r ≡ at + length (sentence finding)) × (now (out .exit) ≡ sets (now (out .entry)) at (sentence finding)) ⌝ }
     ensures { λ r. ⌜ r ≤ at + mostWords ⌝ }
 {
-    match reason {
-        Reason::Nothing => at,
-        Reason::CountEnds { section } => put_count_end(out, at, section),
-        Reason::EntryEnds { section, entry } => put_entry_end(out, at, section, entry),
-        Reason::CountWrong { section } => put_count(out, at, section),
-        Reason::EntryWrong {
+    match finding {
+        Finding::Nothing => at,
+        Finding::CountEnds { section } => put_count_end(out, at, section),
+        Finding::EntryEnds { section, entry } => put_entry_end(out, at, section, entry),
+        Finding::CountWrong { section } => put_count(out, at, section),
+        Finding::EntryWrong {
             section,
             entry,
             fault,
         } => put_wrong(out, at, section, entry, fault),
-        Reason::Spare => bits::put_text(out, at, b"bytes follow the last row"),
+        Finding::Spare => bits::put_text(out, at, b"bytes follow the last row"),
     }
 }

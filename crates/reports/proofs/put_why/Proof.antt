@@ -22,13 +22,13 @@ returns c =
     let out = now (a .out) in
     let name = now (a .name) in
     let refused = refusedAt (a .number) (a .place) in
-    let words = sentence (a .reason) in
+    let words = sentence (a .finding) in
     let named = put-then out _ _ 0 _ _ name refused (first .put-text .ensures) (second .put-refused-at .ensures .0) in
-    let worded = put-then out _ _ 0 _ _ (name ++ refused) words named (third .put-reason .ensures .0) in
+    let worded = put-then out _ _ 0 _ _ (name ++ refused) words named (third .put-finding .ensures .0) in
     let line = put-then out _ _ 0 _ _ (name ++ refused ++ words) (ascii "\n") worded (fourth .put-text2 .ensures) in
-    front-within out _ _ (refusedWhy name (a .number) (a .place) (a .reason)) (rw (why-pieces name (a .number) (a .place) (a .reason)) line)
+    front-within out _ _ (refusedWhy name (a .number) (a .place) (a .finding)) (rw (why-pieces name (a .number) (a .place) (a .finding)) line)
     (omega
-    (arith, fourth .put-text2 .ensures .0, third .put-reason .ensures .1, second .put-refused-at .ensures .1, first .put-text .ensures .0, start .pre .0, start .pre .1))
+    (arith, fourth .put-text2 .ensures .0, third .put-finding .ensures .1, second .put-refused-at .ensures .1, first .put-text .ensures .0, start .pre .0, start .pre .1))
 
 pub put-why-spec : {M : Type 1} → statement M
 put-why-spec =

@@ -1,0 +1,3 @@
+pub mod Spots
+pub mod Faults
+pub mod Findings
