@@ -17,16 +17,21 @@ import time
 ROOT = pathlib.Path(__file__).resolve().parent.parent
 SECOND = ROOT / "second" / "target" / "release" / "second"
 COUNT = 10_000  # of fresh recordings in one call
-REPLAYS = 10  # one in so many is of the stream of replays, whose recordings are longer
+REPLAYS = 10  # one in so many is of a stream of replays, whose recordings are longer
 PAIRS = 992  # of forces: 120 pairs of effects in four ways and 16 effects twice, each by two options
 # Cases of Bad causes, in twos that differ in one Bad bit alone. The twos of masked causes come first.
-BAD_CASES = {"scan": 3520, "held": 3520, "recording": 640, "replay": 640, "season": 640}
-BAD_MASKED = {"scan": 880, "held": 880, "recording": 160, "replay": 160, "season": 160}  # of the twos
+BAD_CASES = {"scan": 3520, "held": 3520, "recording": 640, "replay": 640, "season": 640, "reason": 3520, "why": 640}
+BAD_MASKED = {"scan": 880, "held": 880, "recording": 160, "replay": 160, "season": 160, "reason": 880, "why": 160}  # of the twos
 TIME_LIMIT = 60  # seconds for one run
 PAUSE = 0.3  # seconds between two pieces of a recording
 LONGEST_NAME = 255  # bytes of a file's name
 UNREADABLE = b"/proc/self/mem"  # it can be opened, and reading it from 0 gives an input/output error
 LENGTH_BYTES = 4  # of a file in a stream of cases
+MOST_EFFECTS = 16
+MOST_ROWS = 2048
+LARGEST = 49_258  # bytes of the largest recording
+MOST_HOLD = 1_000_000
+LAST_HOLDS = 1000  # the longest holds that lead to the last scan
 
 # Document 01, "One session, whole".
 SESSION = bytes.fromhex(
@@ -77,6 +82,24 @@ def recording(effects, delay, rows):
         words = (value, 0, 0, 0, every, every, 0, 0, 0, 0)
         parts.append(struct.pack(">I10H", hold, *words))
     return b"".join(parts)
+
+
+def largest():
+    """The largest recording, quiet throughout."""
+    return recording(MOST_EFFECTS, 0, [(1, 1)] * MOST_ROWS)
+
+
+def long_listing():
+    """The recording with the longest listing: 49,152 changes, 1.5 MB without reasons, more than any pipe holds."""
+    return recording(MOST_EFFECTS, 150, [(3, 1), (3, 0)] * (MOST_ROWS // 2))
+
+
+def past_the_last_scan(effects=1):
+    """Quiet rows of the longest hold, of which the last is refused by 9."""
+    return recording(effects, 0, [(MOST_HOLD, 1)] * (LAST_HOLDS + 1))
+
+
+PAST_THE_LAST_SCAN = b"refused 9 at 24016\n"  # the last row's place, of one effect
 
 
 # ---- Runs ----
@@ -149,6 +172,15 @@ def problems(run, out, status, said=b""):
     return found
 
 
+def last_line(text):
+    return text.split(b"\n")[-2]
+
+
+def is_refused(text):
+    """Whether a text is a refusal, or ends with one."""
+    return last_line(text).startswith(b"refused ")
+
+
 # ---- Files ----
 
 
@@ -207,6 +239,44 @@ def put_pipe(command, name, data):
     threading.Thread(target=write_in_two_pieces, args=(path, data), daemon=True).start()
 
 
+# ---- Output that takes no more ----
+
+
+def unwritten(command, run, number, said=b""):
+    """Problems of a run whose output took no more; `said` is what it has said of files before."""
+    return problems(run, b"", 2, said + command.message(b"standard output", number))
+
+
+def to_full_device(command, words, said=b""):
+    with opened("/dev/full", os.O_WRONLY) as full:
+        return unwritten(command, command.call(words, stdout=full), errno.ENOSPC, said)
+
+
+def to_closed_output(command, words):
+    run = command.call(words, stdout=None, before=lambda: os.close(1))
+    return problems(run, b"", 2, b"%s: standard output is closed\n" % command.name().encode())
+
+
+def ignore_the_signal():
+    signal.signal(signal.SIGPIPE, signal.SIG_IGN)
+
+
+def without_reader(command, words, **more):
+    """A run whose output's reader has gone before."""
+    reading, writing = os.pipe()
+    os.close(reading)
+    run = command.call(words, stdout=writing, **more)
+    os.close(writing)
+    return run
+
+
+def after_the_signal(command, run):
+    """Problems of a run whose reader has gone: the program may die of the signal, as others do, and then says nothing."""
+    if run.status == -signal.SIGPIPE:
+        return problems(run, b"", run.status)
+    return unwritten(command, run, errno.EPIPE)
+
+
 # ---- The second program, and fresh recordings ----
 
 
@@ -232,6 +302,15 @@ def made(kind, seed, count):
     return list(files_of(second(["make", kind, str(seed), str(count)])[0]))
 
 
+def second_texts(kind, files, count):
+    """The second program's answers of a kind to recordings: so many texts for each, which have an empty line after them."""
+    stream = b"".join(len(file).to_bytes(LENGTH_BYTES, "big") + file for file in files)
+    texts = [text + b"\n" for text in second(["answer", kind], given=stream)[0].split(b"\n\n")[:-1]]
+    if len(texts) != count * len(files):
+        raise Failure(f"{len(texts)} texts were made, not {count} for each of {len(files)} recordings")
+    return [texts[start : start + count] for start in range(0, len(texts), count)]
+
+
 def put_numbered(command, files, count):
     """The files, so many, in the folder; their names and bytes."""
     if len(files) != count:
@@ -242,10 +321,10 @@ def put_numbered(command, files, count):
     return named
 
 
-def put_fresh(command, seed, count):
-    """So many fresh recordings in the folder, about half of them damaged."""
+def put_fresh(command, seed, count, kind="replay"):
+    """So many fresh recordings in the folder, about half of them damaged; one in ten is of the kind's stream."""
     replays = count // REPLAYS
-    files = made("recording", seed, count - replays) + made("replay", seed, replays)
+    files = made("recording", seed, count - replays) + made(kind, seed, replays)
     return put_numbered(command, files, count)
 
 

@@ -278,7 +278,7 @@ impl Inputs {
         }
     }
 
-    fn is_active(&self) -> bool {
+    pub fn is_active(&self) -> bool {
         self.seen.active != 0
     }
 
@@ -572,7 +572,7 @@ fn refused(number: u8, state: &State) -> Answer {
 }
 
 /// Everything that is checked before running: 2, 3, 8, 4, 5, 6, 9.
-fn check(settings: &Settings, state: &State, row: &Row) -> Result<(), u8> {
+pub fn check(settings: &Settings, state: &State, row: &Row) -> Result<(), u8> {
     settings.check()?;
     state.check(settings)?;
     row.check(settings)?;

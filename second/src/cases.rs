@@ -1,10 +1,12 @@
 //! The case streams, and the answers to them. All numbers are big-endian.
 
 use crate::block::{held, scan, Answer, Phase, Row, Slot, State, Words};
+use crate::reasons::reason_after;
 use crate::recording::{read, row_of, write_opening, write_row, Recording, Refusal, ROW_BYTES};
-use crate::replay::{replay, Listing};
+use crate::replay::{replay, replay_with_reasons, Listing};
 use crate::season::{add, Report, REPORT_BYTES};
 use crate::settings::{Effect, Settings, SLOTS};
+use crate::why::now_text;
 
 /// The largest room of a scan or held case.
 pub const MAX_RUN_ROOM: u16 = 400;
@@ -22,6 +24,8 @@ pub enum Kind {
     Writing,
     Replay,
     Season,
+    Reason,
+    Why,
 }
 
 impl Kind {
@@ -33,6 +37,8 @@ impl Kind {
             "writing" => Some(Kind::Writing),
             "replay" => Some(Kind::Replay),
             "season" => Some(Kind::Season),
+            "reason" => Some(Kind::Reason),
+            "why" => Some(Kind::Why),
             _ => None,
         }
     }
@@ -45,6 +51,27 @@ pub struct RunCase {
     pub state: State,
     pub row: Row,
     pub room: u16,
+}
+
+/// A reason case: a scan, and the number of the effect that is asked for.
+#[derive(Clone, Copy, Debug, Default, PartialEq, Eq)]
+pub struct ReasonCase {
+    pub settings: Settings,
+    pub state: State,
+    pub words: Words,
+    pub effect: u8,
+}
+
+impl ReasonCase {
+    /// The scan of a run case; its hold and its room are left out.
+    pub fn of(run: &RunCase, effect: u8) -> ReasonCase {
+        ReasonCase {
+            settings: run.settings,
+            state: run.state,
+            words: run.row.words,
+            effect,
+        }
+    }
 }
 
 /// A writing case.
@@ -100,6 +127,13 @@ pub fn put_run_case(kind: Kind, case: &RunCase, out: &mut Vec<u8>) {
     }
     put_words(&case.row.words, out);
     out.extend_from_slice(&case.room.to_be_bytes());
+}
+
+pub fn put_reason_case(case: &ReasonCase, out: &mut Vec<u8>) {
+    put_settings(&case.settings, out);
+    put_state(&case.state, out);
+    put_words(&case.words, out);
+    out.push(case.effect);
 }
 
 pub fn put_file(file: &[u8], out: &mut Vec<u8>) {
@@ -230,6 +264,15 @@ impl<'a> Stream<'a> {
         })
     }
 
+    pub fn reason_case(&mut self) -> Result<ReasonCase, String> {
+        Ok(ReasonCase {
+            settings: self.settings()?,
+            state: self.state()?,
+            words: self.words()?,
+            effect: self.number8()?,
+        })
+    }
+
     /// A length, which is at most `most`, and so many bytes.
     fn with_length(&mut self, most: usize) -> Result<&'a [u8], String> {
         let length = self.number32()? as usize;
@@ -314,6 +357,16 @@ pub fn answer_run(kind: Kind, case: &RunCase) -> String {
         out.extend_from_slice(&answer.exercised.to_be_bytes());
     }
     format!("{} {}\n", hex(&out), hex(&buffer))
+}
+
+/// The refusal number and place, and the bytes of the reason unless there is a refusal.
+pub fn answer_reason(case: &ReasonCase) -> String {
+    let result = reason_after(&case.settings, &case.state, &case.words, case.effect);
+    let place: u32 = 0;
+    let mut out = vec![result.err().unwrap_or(ACCEPTED.number)];
+    out.extend_from_slice(&place.to_be_bytes());
+    let bytes = result.map_or(String::new(), |reason| hex(&reason.to_bytes()));
+    format!("{} {bytes}\n", hex(&out))
 }
 
 /// The first line of a recording's answer.
@@ -428,6 +481,13 @@ pub fn answer_replay(file: &[u8]) -> String {
     replay(file).text + "\n"
 }
 
+/// A recording's listing with reasons, an empty line, the text of its end, and an empty line.
+pub fn answer_why(file: &[u8]) -> String {
+    let listing = replay_with_reasons(file);
+    let now = now_text(&listing);
+    format!("{}\n{now}\n", listing.text)
+}
+
 /// The refusal number, the place in 8 bytes, the effect count of a recording that was added or 0,
 /// and the report after the call.
 pub fn answer_season(case: &SeasonCase) -> String {
@@ -451,5 +511,7 @@ pub fn answer_next(kind: Kind, stream: &mut Stream) -> Result<String, String> {
         Kind::Writing => answer_writing(&stream.writing_case()?),
         Kind::Replay => answer_replay(stream.file()?),
         Kind::Season => answer_season(&stream.season_case()?),
+        Kind::Reason => answer_reason(&stream.reason_case()?),
+        Kind::Why => answer_why(stream.file()?),
     })
 }

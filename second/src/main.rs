@@ -1,5 +1,5 @@
-//! `second answer|make|pairs|bad|show KIND ...`, `second replay`, `second show FILE` and
-//! `second check|explain|summary|season NAME...`: see `USAGE`.
+//! `second answer|make|pairs|bad|show KIND ...`, `second replay|why|now|reasons`, `second show FILE`
+//! and `second check|explain|summary|season NAME...`: see `USAGE`.
 
 use second::answers::{refusal_line, Question};
 use second::cases::{answer_next, Kind, Stream};
@@ -7,10 +7,11 @@ use second::make::{filled_stream, stream_of};
 use second::make_bad::bad_stream;
 use second::make_filled::FILLED_BUFFERS;
 use second::make_pairs::pairs_stream;
-use second::replay::{replay, ENOUGH_BYTES};
+use second::replay::{replay, replay_with_reasons, Columns, Listing, ENOUGH_BYTES};
 use second::season::Season;
 use second::show::show_next;
 use second::show_file::show_recording;
+use second::why::{now_text, reason_lines};
 use std::ffi::{OsStr, OsString};
 use std::fs::File;
 use std::io::{self, BufWriter, Read, Write};
@@ -20,15 +21,19 @@ use std::str::FromStr;
 
 const USAGE: &str = "usage:
   second replay < recording > listing
-  second answer scan|held|recording|writing|replay|season < cases > answers
-  second make scan|held|recording|writing|replay|season SEED COUNT > cases
-  second pairs scan|held|recording|writing|replay|season > a case of every pair of forces
-  second bad scan|held|recording|replay|season > cases in twos that differ in one Bad bit
-  second fill BUFFER SEED COUNT > replay cases
-  second show scan|held|recording|writing|replay|season < cases
+  second why < recording > listing with reasons
+  second now < recording > all effects after the last scan, with reasons
+  second reasons < recording > the bytes of the records' reasons, and of those after the last scan
+  second answer KIND < cases > answers
+  second make KIND SEED COUNT > cases
+  second pairs KIND > a case of every pair of forces
+  second bad KIND > cases in twos that differ in one Bad bit; writing has none
+  second fill BUFFER SEED COUNT [why] > replay cases, or why cases
+  second show KIND < cases
   second show FILE > a recording in words; - is standard input, ./scan a file of that name
   second check|explain|summary [NAME...] > a line for each file; - or no NAME is standard input
   second season [NAME...] > the totals of all files; NAME as above
+KIND is scan, held, recording, writing, replay, season, reason or why
 exit status: 0; 1 if a recording that is replayed, shown or asked for is refused; 2 on bad usage,
 a bad stream, or failing input or output";
 
@@ -116,25 +121,39 @@ fn make_bad(kind: &str, out: &mut impl Write) -> Result<(), String> {
     written(out.write_all(&stream))
 }
 
-/// Replay cases for a printing buffer of so many bytes.
-fn fill(buffer: &str, seed: &str, count: &str, out: &mut impl Write) -> Result<(), String> {
+/// Replay or why cases for a printing buffer of so many bytes.
+fn fill(
+    columns: Columns,
+    buffer: &str,
+    seed: &str,
+    count: &str,
+    out: &mut impl Write,
+) -> Result<(), String> {
     let bytes = number("buffer", buffer)?;
     if !FILLED_BUFFERS.contains(&bytes) {
         return Err(format!("no buffer of {bytes} bytes can be filled"));
     }
     let (seed, count) = (number("seed", seed)?, number("count", count)?);
-    written(out.write_all(&filled_stream(bytes, seed, count)))
+    written(out.write_all(&filled_stream(columns, bytes, seed, count)))
 }
 
 fn kind_of(name: &str) -> Result<Kind, String> {
     Kind::named(name).ok_or_else(|| format!("no such kind: {name}\n{USAGE}"))
 }
 
-/// Replays standard input.
-fn replay_input(out: &mut impl Write) -> Result<u8, String> {
-    let listing = replay(&input_up_to(ENOUGH_BYTES)?);
-    written(out.write_all(listing.text.as_bytes()))?;
+/// Tells a text of the replay of standard input.
+fn tell_input(
+    replayed: fn(&[u8]) -> Listing,
+    told: fn(&Listing) -> String,
+    out: &mut impl Write,
+) -> Result<u8, String> {
+    let listing = replayed(&input_up_to(ENOUGH_BYTES)?);
+    written(out.write_all(told(&listing).as_bytes()))?;
     Ok(status_of(listing.refusal.is_some()))
+}
+
+fn listing_text(listing: &Listing) -> String {
+    listing.text.clone()
 }
 
 /// Shows a recording.
@@ -226,13 +245,19 @@ fn work(given: &[OsString], out: &mut impl Write) -> Result<u8, String> {
     let words: Vec<&str> = words.iter().map(|word| word.as_ref()).collect();
     let mut status = DONE;
     match words[..] {
-        ["replay"] => status = replay_input(out)?,
+        ["replay"] => status = tell_input(replay, listing_text, out)?,
+        ["why"] => status = tell_input(replay_with_reasons, listing_text, out)?,
+        ["now"] => status = tell_input(replay, now_text, out)?,
+        ["reasons"] => status = tell_input(replay, reason_lines, out)?,
         ["answer", kind] => answer(kind_of(kind)?, out)?,
         ["show", _] => status = show_kind_or_file(&given[1], out)?,
         ["make", kind, seed, count] => make(kind_of(kind)?, seed, count, out)?,
         ["pairs", kind] => make_pairs(kind_of(kind)?, out)?,
         ["bad", kind] => make_bad(kind, out)?,
-        ["fill", buffer, seed, count] => fill(buffer, seed, count, out)?,
+        ["fill", buffer, seed, count] => fill(Columns::Plain, buffer, seed, count, out)?,
+        ["fill", buffer, seed, count, "why"] => {
+            fill(Columns::WithReason, buffer, seed, count, out)?
+        }
         ["season", ..] => status = season(&given[1..], out)?,
         [question, ..] => status = ask(question_of(question)?, &given[1..], out)?,
         [] => return Err(USAGE.to_string()),

@@ -1,12 +1,17 @@
 //! Making case streams: named cases first, then random ones. The same seed and count
 //! always give the same stream.
 
-use crate::cases::{put_file, put_run_case, put_season_case, put_writing_case, Kind};
+use crate::cases::{
+    put_file, put_reason_case, put_run_case, put_season_case, put_writing_case, Kind,
+};
 use crate::make_files::{file_cases, writing_cases};
-use crate::make_filled::{filled_file, random_ending};
+use crate::make_filled::random_filled_file;
+use crate::make_reasons::reason_cases;
 use crate::make_replays::replay_cases;
 use crate::make_runs::run_cases;
 use crate::make_season::season_cases;
+use crate::make_whys::why_cases;
+use crate::replay::Columns;
 
 /// A case with its name and, if it was made on purpose, the refusals planted in it.
 #[derive(Clone, Debug)]
@@ -79,9 +84,19 @@ pub fn stream_of(kind: Kind, seed: u64, count: usize) -> Vec<u8> {
                 put_file(&named.case, &mut out);
             }
         }
+        Kind::Why => {
+            for named in why_cases(seed, count) {
+                put_file(&named.case, &mut out);
+            }
+        }
         Kind::Season => {
             for named in season_cases(seed, count) {
                 put_season_case(&named.case, &mut out);
+            }
+        }
+        Kind::Reason => {
+            for named in reason_cases(seed, count) {
+                put_reason_case(&named.case, &mut out);
             }
         }
         Kind::Writing => {
@@ -93,14 +108,13 @@ pub fn stream_of(kind: Kind, seed: u64, count: usize) -> Vec<u8> {
     out
 }
 
-/// `count` replay cases whose listings end about the end of the first, the second or the
+/// `count` replay or why cases whose listings end about the end of the first, the second or the
 /// third buffer of so many bytes.
-pub fn filled_stream(buffer: usize, seed: u64, count: usize) -> Vec<u8> {
+pub fn filled_stream(columns: Columns, buffer: usize, seed: u64, count: usize) -> Vec<u8> {
     let mut random = Random::new(seed);
     let mut out = Vec::new();
     for _ in 0..count {
-        let ending = random_ending(&mut random, buffer);
-        put_file(&filled_file(&mut random, buffer, &ending), &mut out);
+        put_file(&random_filled_file(&mut random, columns, buffer), &mut out);
     }
     out
 }

@@ -4,7 +4,8 @@
 
 use crate::block::{Phase, Row, Slot, Words, PHASES};
 use crate::cases::{
-    put_file, put_run_case, put_season_case, Kind, RunCase, SeasonCase, MAX_RUN_ROOM,
+    put_file, put_reason_case, put_run_case, put_season_case, Kind, ReasonCase, RunCase,
+    SeasonCase, MAX_RUN_ROOM,
 };
 use crate::make_files::file_of;
 use crate::season::Report;
@@ -14,7 +15,7 @@ use crate::settings::{
 };
 
 /// All 16 causes, or all 16 effects.
-const ALL: u16 = u16::MAX;
+pub const ALL: u16 = u16::MAX;
 const PERIOD: u16 = 100;
 /// A delay that runs out while an effect is led to its state, and one that does not.
 const SHORT_DELAY: u32 = 150;
@@ -138,7 +139,7 @@ impl Causes {
 }
 
 /// Nothing active, with both permits for every effect.
-fn quiet() -> Words {
+pub fn quiet() -> Words {
     Words {
         values: ALL,
         reset_permit: ALL,
@@ -209,7 +210,7 @@ pub struct BadRun {
 
 /// The indices of the Bad cause and of the first effect that is tried: they take turns so that each
 /// cause meets each effect.
-fn cause_and_effect(turn: usize) -> (usize, usize) {
+pub fn cause_and_effect(turn: usize) -> (usize, usize) {
     (turn % SLOTS, (turn + turn / SLOTS) % SLOTS)
 }
 
@@ -268,6 +269,13 @@ impl BadRun {
             case
         })
     }
+
+    /// The scans, asked for the effect that is tried.
+    pub fn reason_cases(&self) -> [ReasonCase; 2] {
+        let effect = self.effect as u8 + 1;
+        self.cases(Kind::Scan)
+            .map(|case| ReasonCase::of(&case, effect))
+    }
 }
 
 // ---- Files: an effect for each standing ----
@@ -308,7 +316,7 @@ impl BadFile {
     }
 
     /// The effects that are tried and stand in one of these states.
-    fn standing_in(&self, phases: &[Phase]) -> u16 {
+    pub fn standing_in(&self, phases: &[Phase]) -> u16 {
         let tried = self.tried().into_iter();
         tried
             .filter(|(_, standing)| phases.contains(&standing.phase))
@@ -316,7 +324,7 @@ impl BadFile {
     }
 
     /// All tried effects are forced, which takes option bit 2.
-    fn settings(&self) -> Settings {
+    pub fn settings(&self) -> Settings {
         let causes = self.causes();
         let mut settings = bystanders(self.trial.options | SEVERAL_FORCED, &causes);
         for (index, standing) in self.tried() {
@@ -331,7 +339,7 @@ impl BadFile {
 
     /// Rows that lead the effects from Tripped to where they stand: all to Normal, all out of it by
     /// the kept cause, and then each to its state.
-    fn leading_rows(&self) -> [Row; 3] {
+    pub fn leading_rows(&self) -> [Row; 3] {
         let causes = self.causes();
         let out_of_normal = Words {
             values: ALL & !causes.kept,
@@ -385,7 +393,12 @@ pub fn bad_stream(kind: Kind) -> Option<Vec<u8>> {
                 put_run_case(kind, &case, &mut out);
             }
         }
-        Kind::Recording | Kind::Replay => {
+        Kind::Reason => {
+            for case in bad_runs().iter().flat_map(BadRun::reason_cases) {
+                put_reason_case(&case, &mut out);
+            }
+        }
+        Kind::Recording | Kind::Replay | Kind::Why => {
             for file in bad_files().iter().flat_map(BadFile::files) {
                 put_file(&file, &mut out);
             }

@@ -3,8 +3,8 @@
 
 use crate::block::{Row, Words};
 use crate::cases::{
-    put_file, put_run_case, put_season_case, put_writing_case, Kind, RunCase, SeasonCase,
-    WritingCase, MAX_RUN_ROOM,
+    put_file, put_reason_case, put_run_case, put_season_case, put_writing_case, Kind, ReasonCase,
+    RunCase, SeasonCase, WritingCase, MAX_RUN_ROOM,
 };
 use crate::make_files::{file_of, plain_writing};
 use crate::make_runs::plain;
@@ -68,6 +68,14 @@ impl Pair {
         case
     }
 
+    /// The scan, asked for one of the two forced effects: the lower or the higher one, by turns.
+    pub fn reason_case(&self) -> ReasonCase {
+        let forced = self.force_trip | self.force_normal;
+        let (low, high) = (forced.trailing_zeros(), forced.ilog2());
+        let index = if (low + high) % 2 == 0 { low } else { high };
+        ReasonCase::of(&self.run_case(Kind::Scan), index as u8 + 1)
+    }
+
     pub fn writing_case(&self) -> WritingCase {
         let mut case = plain_writing(MAX_CAUSES, MAX_EFFECTS);
         case.settings.options = self.options;
@@ -99,7 +107,8 @@ pub fn pairs_stream(kind: Kind) -> Vec<u8> {
     for pair in pairs() {
         match kind {
             Kind::Scan | Kind::Held => put_run_case(kind, &pair.run_case(kind), &mut out),
-            Kind::Recording | Kind::Replay => put_file(&pair.file(), &mut out),
+            Kind::Reason => put_reason_case(&pair.reason_case(), &mut out),
+            Kind::Recording | Kind::Replay | Kind::Why => put_file(&pair.file(), &mut out),
             Kind::Season => put_season_case(&pair.season_case(), &mut out),
             Kind::Writing => put_writing_case(&pair.writing_case(), &mut out),
         }

@@ -7,10 +7,10 @@ use crate::make_files::{
     add, bytes_of_hex, damage_file, file_of, named_files, plain_settings, put32, row_place, Files,
     SESSION,
 };
-use crate::make_filled::{filled_file, filled_files, random_ending, CASES_BUFFER};
+use crate::make_filled::{filled_files, random_filled_file, CASES_BUFFER};
 use crate::make_runs::{random_bad, random_forces, random_hold, random_settings, random_words};
 use crate::recording::{MAX_BYTES, MAX_ROWS};
-use crate::replay::run_row;
+use crate::replay::{run_row, Columns};
 use crate::settings::{existing, Effect, Settings, MAX_DELAY, TRIP_IF_BAD};
 
 /// From this count on the stream has the file with the longest listing.
@@ -37,7 +37,7 @@ fn tripped(settings: &Settings) -> Words {
 }
 
 /// Rows of one hold, by turns quiet and tripped.
-fn turns(settings: &Settings, rows: u16, hold: u32) -> Vec<Row> {
+pub fn turns(settings: &Settings, rows: u16, hold: u32) -> Vec<Row> {
     (0..rows)
         .map(|index| Row {
             hold,
@@ -102,16 +102,22 @@ fn delays_about(period: u32) -> [u32; 16] {
     ]
 }
 
+/// Sixteen effects with those delays.
+pub fn delay_settings(period: u16) -> Settings {
+    let mut settings = plain_settings(16, 16);
+    settings.period = period;
+    for (index, delay) in delays_about(u32::from(period)).into_iter().enumerate() {
+        settings.slots[index].delay = delay;
+    }
+    settings
+}
+
 /// Sixteen delays that start together and end inside the tripped row, at its end, or in the
 /// quiet row after it.
 fn delay_files(files: &mut Files) {
     for period in [1, 7, 100, 1_000] {
         for hold in [1, 2, 3, 4, 10, 11, 12, MAX_HOLD] {
-            let mut settings = plain_settings(16, 16);
-            settings.period = period;
-            for (index, delay) in delays_about(u32::from(period)).into_iter().enumerate() {
-                settings.slots[index].delay = delay;
-            }
+            let settings = delay_settings(period);
             let mut rows = turns(&settings, 5, 1);
             rows[1].hold = hold;
             rows[2].hold = 3;
@@ -310,7 +316,7 @@ fn named_replays(with_large: bool) -> Files {
     let mut files = Vec::new();
     small_files(&mut files);
     long_files(&mut files);
-    filled_files(&mut files);
+    filled_files(Columns::Plain, &mut files);
     if with_large {
         large_files(&mut files);
     }
@@ -452,10 +458,10 @@ fn random_size(random: &mut Random) -> (u32, bool) {
     }
 }
 
-fn random_replay(random: &mut Random) -> Vec<u8> {
+/// A random recording, now and then one whose listing ends about the end of a buffer.
+fn random_replay(random: &mut Random, columns: Columns) -> Vec<u8> {
     if random.once_in(12) {
-        let ending = random_ending(random, CASES_BUFFER);
-        return filled_file(random, CASES_BUFFER, &ending);
+        return random_filled_file(random, columns, CASES_BUFFER);
     }
     random_recording(random)
 }
@@ -476,12 +482,12 @@ pub fn random_recording(random: &mut Random) -> Vec<u8> {
 }
 
 /// `count` recordings: the named ones first, then random ones, one in eight damaged.
-pub fn replay_cases(seed: u64, count: usize) -> Files {
+pub fn with_random_files(named: Files, columns: Columns, seed: u64, count: usize) -> Files {
     let mut random = Random::new(seed);
-    let mut files = named_replays(count >= LARGE_FROM);
+    let mut files = named;
     files.truncate(count);
     while files.len() < count {
-        let mut file = random_replay(&mut random);
+        let mut file = random_replay(&mut random, columns);
         if random.once_in(8) {
             damage_file(&mut random, &mut file);
         }
@@ -492,4 +498,10 @@ pub fn replay_cases(seed: u64, count: usize) -> Files {
         });
     }
     files
+}
+
+/// `count` recordings to be listed without reasons.
+pub fn replay_cases(seed: u64, count: usize) -> Files {
+    let named = named_replays(count >= LARGE_FROM);
+    with_random_files(named, Columns::Plain, seed, count)
 }

@@ -114,7 +114,7 @@ pub fn plain(causes: u8, effects: u8) -> RunCase {
 }
 
 /// The same with every effect in one state; the delay is 500 where Delayed is named.
-fn all_in(phase: Phase, causes: u8, effects: u8) -> RunCase {
+pub fn all_in(phase: Phase, causes: u8, effects: u8) -> RunCase {
     let mut case = plain(causes, effects);
     for index in 0..usize::from(effects) {
         if phase == Phase::Delayed {
@@ -126,7 +126,7 @@ fn all_in(phase: Phase, causes: u8, effects: u8) -> RunCase {
 }
 
 /// Twelve effects: each state twice, without and with a delay.
-fn all_states() -> RunCase {
+pub fn all_states() -> RunCase {
     let mut case = plain(2, 12);
     for index in 0..12 {
         let phase = PHASES[index % 6];
@@ -146,7 +146,7 @@ fn all_states() -> RunCase {
 }
 
 /// The whole word if `set`, else 0.
-fn word_if(set: bool, word: u16) -> u16 {
+pub fn word_if(set: bool, word: u16) -> u16 {
     if set {
         word
     } else {
@@ -696,7 +696,7 @@ fn rooms(list: &mut List) {
 // ---- Pairs of faults ----
 
 /// Plants one refusal. Refusal 10 is planted by the room.
-fn plant(number: u8, variant: usize, case: &mut RunCase) {
+pub fn plant(number: u8, variant: usize, case: &mut RunCase) {
     match number {
         2 => match variant {
             0 => case.settings.options |= 8,
@@ -1184,7 +1184,7 @@ fn random_room(random: &mut Random) -> Room {
     }
 }
 
-fn random_case(kind: Kind, random: &mut Random) -> RunCase {
+pub fn random_case(kind: Kind, random: &mut Random) -> RunCase {
     let settings = random_settings(random);
     let mut case = RunCase {
         settings,

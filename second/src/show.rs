@@ -1,11 +1,15 @@
 //! Cases and answers for a person to read.
 
 use crate::block::{Answer, Row, State, RECORD_BYTES};
-use crate::cases::{answer_writing, call_run, hex, Kind, RunCase, SeasonCase, Stream, WritingCase};
+use crate::cases::{
+    answer_writing, call_run, hex, Kind, ReasonCase, RunCase, SeasonCase, Stream, WritingCase,
+};
+use crate::reasons::reason_after;
 use crate::recording::{number16, number32, read};
-use crate::replay::replay;
+use crate::replay::{replay, replay_with_reasons, Listing};
 use crate::season::{add, Report, EFFECT_NUMBERS, EXERCISED};
 use crate::settings::Settings;
+use crate::why::now_text;
 
 fn show_settings(settings: &Settings) -> String {
     let mut text = format!(
@@ -107,6 +111,22 @@ fn show_run(kind: Kind, case: &RunCase) -> String {
         + &show_answer(case, &answer, &buffer)
 }
 
+/// The scan, the effect that is asked for, and the reason or the refusal.
+fn show_reason(case: &ReasonCase) -> String {
+    let row = Row {
+        hold: 1,
+        words: case.words,
+    };
+    let reason = match reason_after(&case.settings, &case.state, &case.words, case.effect) {
+        Ok(reason) => format!("reason: {}", reason.words()),
+        Err(number) => format!("refused {number} at 0"),
+    };
+    show_settings(&case.settings)
+        + &show_state("before", &case.settings, &case.state)
+        + &show_row(&row)
+        + &format!("  effect {}\n  {reason}\n", case.effect)
+}
+
 /// At most this many bytes and rows of a file are shown.
 const SHOWN_BYTES: usize = 600;
 const SHOWN_ROWS: usize = 20;
@@ -144,18 +164,28 @@ fn show_recording(file: &[u8]) -> String {
     show_file(file) + &format!("  replay: {replayed}\n")
 }
 
-/// The file, and the listing that it gives.
-fn show_replay(file: &[u8]) -> String {
-    let listing = replay(file);
-    let lines: Vec<&str> = listing.text.lines().collect();
-    let mut text = show_file(file) + "  listing:\n";
+/// The lines of a text, below its title.
+fn show_lines(title: &str, text: &str) -> String {
+    let lines: Vec<&str> = text.lines().collect();
+    let mut shown = format!("  {title}:\n");
     for line in lines.iter().take(SHOWN_LINES) {
-        text += &format!("    {line}\n");
+        shown += &format!("    {line}\n");
     }
     if lines.len() > SHOWN_LINES {
-        text += &format!("    ... ({} lines)\n", lines.len());
+        shown += &format!("    ... ({} lines)\n", lines.len());
     }
-    text
+    shown
+}
+
+/// The file, and the listing that it gives.
+fn show_replay(file: &[u8], listing: &Listing) -> String {
+    show_file(file) + &show_lines("listing", &listing.text)
+}
+
+/// The file, its listing with reasons, and its effects after the last scan.
+fn show_why(file: &[u8]) -> String {
+    let listing = replay_with_reasons(file);
+    show_replay(file, &listing) + &show_lines("now", &now_text(&listing))
 }
 
 fn show_writing(case: &WritingCase) -> String {
@@ -198,7 +228,12 @@ pub fn show_next(kind: Kind, stream: &mut Stream) -> Result<String, String> {
         Kind::Scan | Kind::Held => show_run(kind, &stream.run_case(kind)?),
         Kind::Recording => show_recording(stream.file()?),
         Kind::Writing => show_writing(&stream.writing_case()?),
-        Kind::Replay => show_replay(stream.file()?),
+        Kind::Replay => {
+            let file = stream.file()?;
+            show_replay(file, &replay(file))
+        }
         Kind::Season => show_season(&stream.season_case()?),
+        Kind::Reason => show_reason(&stream.reason_case()?),
+        Kind::Why => show_why(stream.file()?),
     })
 }

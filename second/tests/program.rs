@@ -145,22 +145,98 @@ fn replay_lines() {
     assert_eq!(output.stdout, listing.as_bytes());
 }
 
+/// One effect in Normal that is active; an effect that is absent; and no word that fits.
+#[test]
+fn reason_lines() {
+    let active = format!("{} {} 01", settings_and_state(), zeros(20));
+    assert_eq!(
+        answer("reason", &active),
+        line("00 00000000 | 03 00 0001 00000000")
+    );
+    let absent = format!("{} {} 02", settings_and_state(), zeros(20));
+    assert_eq!(answer("reason", &absent), "0300000000 \n");
+    let wrong = format!("{} 0002 {} 01", settings_and_state(), zeros(18));
+    let both = active + &wrong;
+    assert_eq!(
+        answer("reason", &both),
+        line("00 00000000 | 03 00 0001 00000000") + "0400000000 \n"
+    );
+}
+
+const SESSION_WITH_REASONS: &str = "seq scan effect from to first reason\n\
+    0 1 1 tripped normal 0 cleared\n\
+    1 1 2 tripped normal 0 cleared\n\
+    2 4 1 normal tripped 1 active 1\n\
+    3 4 2 normal delayed 1 active 1\n\
+    4 7 2 delayed tripped 1 delay ended\n\
+    rows 2 scans 8 live 3 exercised 5\n";
+const SESSION_NOW: &str = "effect state first reason\n\
+    1 tripped 1 active 1\n\
+    2 tripped 1 active 1\n";
+
+#[test]
+fn why_lines() {
+    let cases = format!("00000046 {SESSION} 00000000");
+    let refused = "refused 1 at 0\n";
+    let expected = format!("{SESSION_WITH_REASONS}\n{SESSION_NOW}\n{refused}\n{refused}\n");
+    assert_eq!(answer("why", &cases), expected);
+}
+
+#[test]
+fn reasons_of_a_recording() {
+    let digits = "0700000000000000 0700000000000000 0300000100000000 0300000100000000
+        0500000000000000";
+    let bytes = line(digits) + &line("0300000100000000 0300000100000000");
+    for (word, expected) in [
+        ("why", SESSION_WITH_REASONS),
+        ("now", SESSION_NOW),
+        ("reasons", &bytes),
+    ] {
+        let output = run(&[word], &bytes_of_hex(SESSION));
+        assert_eq!(output.status.code(), Some(0));
+        assert!(output.stderr.is_empty());
+        assert_eq!(output.stdout, expected.as_bytes());
+    }
+}
+
 #[test]
 fn a_refused_replay_ends_with_status_1() {
-    let output = run(&["replay"], &[]);
-    assert_eq!(output.status.code(), Some(1));
-    assert_eq!(output.stdout, b"refused 1 at 0\n");
-    assert!(output.stderr.is_empty());
+    for word in ["replay", "why", "now", "reasons"] {
+        let output = run(&[word], &[]);
+        assert_eq!(output.status.code(), Some(1));
+        assert_eq!(output.stdout, b"refused 1 at 0\n");
+        assert!(output.stderr.is_empty());
+    }
+}
+
+/// 1,001 rows of 1,000,000 scans: the listing has the earlier lines, the rest the refusal alone.
+#[test]
+fn nine_leaves_the_earlier_lines_of_a_listing_alone() {
+    let file = too_many_scans();
+    let refused = "refused 9 at 24016\n";
+    let lines = "seq scan effect from to first reason\n\
+        0 1 1 tripped wait-start 0 waiting start permit\n";
+    for (word, expected) in [
+        ("why", format!("{lines}{refused}")),
+        ("now", refused.to_string()),
+        ("reasons", refused.to_string()),
+    ] {
+        let output = run(&[word], &file);
+        assert_eq!(output.status.code(), Some(1));
+        assert_eq!(output.stdout, expected.as_bytes());
+    }
 }
 
 /// The largest recording and a byte more decide; the rest is not read.
 #[test]
 fn endless_input_is_answered() {
-    let zero = File::open("/dev/zero").expect("the device of zeros");
-    let output = program(&["replay"]).stdin(zero).output();
-    let output = output.expect("the program ends");
-    assert_eq!(output.status.code(), Some(1));
-    assert_eq!(output.stdout, b"refused 2 at 0\n");
+    for word in ["replay", "why", "now", "reasons"] {
+        let zero = File::open("/dev/zero").expect("the device of zeros");
+        let output = program(&[word]).stdin(zero).output();
+        let output = output.expect("the program ends");
+        assert_eq!(output.status.code(), Some(1));
+        assert_eq!(output.stdout, b"refused 2 at 0\n");
+    }
 }
 
 // ---- A recording in words ----
@@ -278,15 +354,20 @@ fn show_refused_settings() {
     assert_eq!(status, Some(1));
 }
 
-/// 1,001 rows of 1,000,000 scans can be read, and not replayed.
-#[test]
-fn show_too_many_scans() {
+/// 1,001 rows of 1,000,000 scans, one effect.
+fn too_many_scans() -> Vec<u8> {
     let mut file = bytes_of_hex("0001 0100 0064 0001 0001 00000000 03e9");
     for _ in 0..1_001 {
         file.extend(bytes_of_hex("000f4240 0001"));
         file.extend([0; 18]);
     }
-    let (text, status) = shown(&file);
+    file
+}
+
+/// They can be read, and not replayed.
+#[test]
+fn show_too_many_scans() {
+    let (text, status) = shown(&too_many_scans());
     assert!(text.contains("\n1001 rows, 1001000000 scans;"));
     assert!(text.ends_with(
         "\nrow 1001 at 24016: hold 1000000 scans\n  cause values  0001  normal 1\n\
@@ -312,10 +393,33 @@ fn show_endless_input() {
 /// The name of a kind is that kind, and no file.
 #[test]
 fn show_cases_of_a_kind() {
-    let made = run(&["make", "replay", "1", "2"], &[]).stdout;
-    let output = run(&["show", "replay"], &made);
-    assert_eq!(output.status.code(), Some(0));
-    assert!(output.stdout.starts_with(b"case 1\n  file: "));
+    for (kind, first) in [
+        ("replay", "case 1\n  file: "),
+        ("why", "case 1\n  file: "),
+        ("reason", "case 1\n  settings: "),
+    ] {
+        let made = run(&["make", kind, "1", "2"], &[]).stdout;
+        let output = run(&["show", kind], &made);
+        assert_eq!(output.status.code(), Some(0));
+        assert!(output.stdout.starts_with(first.as_bytes()));
+    }
+}
+
+#[test]
+fn show_reasons() {
+    let absent = format!("{} {} 02", settings_and_state(), zeros(20));
+    let active = format!("{} {} 01", settings_and_state(), zeros(20));
+    let output = run(&["show", "reason"], &bytes_of_hex(&(active + &absent)));
+    let text = String::from_utf8(output.stdout).expect("text");
+    assert!(text.contains("\n  effect 1\n  reason: active 1\ncase 2\n"));
+    assert!(text.ends_with("\n  effect 2\n  refused 3 at 0\n"));
+    let output = run(
+        &["show", "why"],
+        &bytes_of_hex(&format!("00000046 {SESSION}")),
+    );
+    let text = String::from_utf8(output.stdout).expect("text");
+    assert!(text.contains("\n    4 7 2 delayed tripped 1 delay ended\n"));
+    assert!(text.ends_with("\n    2 tripped 1 active 1\n"));
 }
 
 #[test]
@@ -356,6 +460,10 @@ fn bad_usage_fails() {
         &["fill", "4096", "1"],
         &["fill", "4095", "1", "1"],
         &["fill", "65537", "1", "1"],
+        &["fill", "4096", "1", "1", "replay"],
+        &["why", "reason"],
+        &["now", "now"],
+        &["reasons", "1"],
         &["help", "scan"],
         &["replay", "scan"],
     ] {
@@ -367,7 +475,16 @@ fn bad_usage_fails() {
 
 #[test]
 fn truncated_streams_fail() {
-    for kind in ["scan", "held", "recording", "writing", "replay", "season"] {
+    for kind in [
+        "scan",
+        "held",
+        "recording",
+        "writing",
+        "replay",
+        "season",
+        "reason",
+        "why",
+    ] {
         let made = run(&["make", kind, "1", "3"], &[]).stdout;
         assert_eq!(run(&["answer", kind], &made).status.code(), Some(0));
         let cut = &made[..made.len() - 1];
@@ -388,10 +505,15 @@ fn streams_outside_the_format_fail() {
         zeros(241 - 101 - 6 - 1)
     );
     fails(&run(&["answer", "scan"], &bytes_of_hex(&state_code)));
+    fails(&run(
+        &["answer", "reason"],
+        &bytes_of_hex(&state_code)[..240],
+    ));
     let mut file = 49_263_u32.to_be_bytes().to_vec();
     file.resize(4 + 49_263, 0);
     fails(&run(&["answer", "recording"], &file));
     fails(&run(&["answer", "replay"], &file));
+    fails(&run(&["answer", "why"], &file));
     // A season case holds a whole report, and no file above the largest.
     for length in [0, 903, 904 + 49_263] {
         let mut case = (length as u32).to_be_bytes().to_vec();
@@ -418,7 +540,7 @@ fn season_line() {
 #[test]
 fn failing_input_and_output_are_not_taken_for_data() {
     let folder = File::open(env!("CARGO_MANIFEST_DIR")).expect("a folder");
-    for words in [&["answer", "scan"][..], &["replay"]] {
+    for words in [&["answer", "scan"][..], &["replay"], &["why"], &["now"]] {
         let folder = folder.try_clone().expect("a folder");
         let output = program(words).stdin(folder).output();
         let output = output.expect("the program ends");
@@ -440,13 +562,17 @@ fn seeds_repeat_and_differ() {
         ("writing", "600"),
         ("replay", "300"),
         ("season", "300"),
+        ("reason", "600"),
+        ("why", "450"),
     ] {
         let made = |seed| run(&["make", kind, seed, count], &[]).stdout;
         let one = made("1");
         assert_eq!(one, made("1"));
         assert_ne!(one, made("2"));
     }
-    let filled = |seed| run(&["fill", "65536", seed, "6"], &[]).stdout;
-    assert_eq!(filled("1"), filled("1"));
-    assert_ne!(filled("1"), filled("2"));
+    for more in [&[][..], &["why"]] {
+        let filled = |seed| run(&[&["fill", "65536", seed, "6"], more].concat(), &[]).stdout;
+        assert_eq!(filled("1"), filled("1"));
+        assert_ne!(filled("1"), filled("2"));
+    }
 }

@@ -1,15 +1,17 @@
 //! The replay of whole recordings: document 01's session, the refusals, the end of the scan
-//! numbers, every row against single stepping, and what the made streams reach.
+//! numbers, every row and its reasons against single stepping, and what the made streams reach.
 
-use second::block::{run, Phase, Row, State, Words, RECORD_BYTES};
+use second::block::{run, step, without_reset, Phase, Row, State, Words, RECORD_BYTES};
 use second::cases::{Kind, RunCase};
 use second::make::{Named, Random};
 use second::make_files::{bytes_of_hex, file_of, SESSION};
 use second::make_filled::{filled_file, random_ending};
 use second::make_replays::{replay_cases, LARGE_FROM};
 use second::make_runs::run_cases;
+use second::make_whys::why_cases;
+use second::reasons::{reason_after, Reason};
 use second::recording::read;
-use second::replay::{replay, run_row, Change, Listing, RowRun, Totals, HEADER};
+use second::replay::{listed, replay, run_row, Change, Columns, Listing, Now, RowRun, Totals};
 use second::settings::{Effect, Settings};
 use std::collections::{BTreeMap, BTreeSet};
 use std::sync::OnceLock;
@@ -22,6 +24,11 @@ fn session() -> Vec<u8> {
 fn cases() -> &'static [Named<Vec<u8>>] {
     static CASES: OnceLock<Vec<Named<Vec<u8>>>> = OnceLock::new();
     CASES.get_or_init(|| replay_cases(1, LARGE_FROM))
+}
+
+fn whys() -> &'static [Named<Vec<u8>>] {
+    static CASES: OnceLock<Vec<Named<Vec<u8>>>> = OnceLock::new();
+    CASES.get_or_init(|| why_cases(1, LARGE_FROM))
 }
 
 // ---- "One session, whole" ----
@@ -203,15 +210,44 @@ fn the_reader_refuses_before_any_row_runs() {
 
 // ---- Single stepping ----
 
+/// The reasons of the records in their order, and all effects after the last scan, each reason
+/// asked for its own scan alone.
+fn stepped_reasons(settings: &Settings, state: &State, row: &Row) -> (Vec<Reason>, Vec<Now>) {
+    let mut state = *state;
+    let (mut reasons, mut now) = (Vec::new(), Vec::new());
+    for scan in 1..=row.hold {
+        let words = match scan {
+            1 => row.words,
+            _ => without_reset(&row.words),
+        };
+        let step = step(settings, &state, &words);
+        let reason = |effect| reason_after(settings, &state, &words, effect).expect("accepted");
+        reasons.extend(step.records.iter().map(|record| reason(record[6])));
+        if scan == row.hold {
+            let effects = (1..=settings.effects).zip(step.state.slots);
+            now.extend(effects.map(|(effect, slot)| Now {
+                effect,
+                slot,
+                reason: reason(effect),
+            }));
+        }
+        state = step.state;
+    }
+    (reasons, now)
+}
+
 /// What `run` gives, which steps every scan singly, in the terms of `run_row`.
 fn stepped(settings: &Settings, state: &State, row: &Row) -> RowRun {
     let run = run(settings, state, row);
-    let change = |record: &[u8; RECORD_BYTES]| Change {
+    let (reasons, now) = stepped_reasons(settings, state, row);
+    assert_eq!(reasons.len(), run.records.len());
+    let change = |(record, reason): (&[u8; RECORD_BYTES], Reason)| Change {
         scan: u32::from_be_bytes([record[2], record[3], record[4], record[5]]),
         effect: record[6],
         before: Phase::from_code(record[7]).expect("a state"),
         after: Phase::from_code(record[8]).expect("a state"),
         first_out: u16::from_be_bytes([record[10], record[11]]),
+        reason,
     };
     let sequence = |record: &[u8; RECORD_BYTES]| u16::from_be_bytes([record[0], record[1]]);
     for (index, record) in run.records.iter().enumerate() {
@@ -220,9 +256,10 @@ fn stepped(settings: &Settings, state: &State, row: &Row) -> RowRun {
     }
     RowRun {
         state: run.last.state,
-        changes: run.records.iter().map(change).collect(),
+        changes: run.records.iter().zip(reasons).map(change).collect(),
         live: run.live,
         exercised: run.exercised,
+        now,
     }
 }
 
@@ -231,7 +268,7 @@ fn stepped(settings: &Settings, state: &State, row: &Row) -> RowRun {
 #[test]
 fn rows_of_recordings_equal_their_single_steps() {
     let mut rows = 0;
-    for named in cases() {
+    for named in cases().iter().chain(whys()) {
         let Ok(recording) = read(&named.case) else {
             continue;
         };
@@ -247,7 +284,7 @@ fn rows_of_recordings_equal_their_single_steps() {
             rows += 1;
         }
     }
-    assert!(rows > 15_000, "{rows} rows");
+    assert!(rows > 30_000, "{rows} rows");
 }
 
 /// Held cases that are accepted, given room enough.
@@ -294,19 +331,24 @@ fn long_holds_equal_their_single_steps() {
 
 // ---- What the made streams reach ----
 
-#[test]
-fn planted_recordings_are_replayed() {
-    for (index, named) in cases().iter().enumerate() {
+fn planted_are_replayed(columns: Columns, files: &[Named<Vec<u8>>]) {
+    for (index, named) in files.iter().enumerate() {
         let Some(planted) = &named.planted else {
             continue;
         };
-        let listing = replay(&named.case);
+        let listing = listed(columns, &named.case);
         let number = listing.refusal.map(|refusal| refusal.number);
         let expected = planted.first().copied();
         assert_eq!(number, expected, "file {} {}", index + 1, named.name);
         let alone = number.is_some_and(|number| number != 9);
-        assert_eq!(listing.text.starts_with(HEADER), !alone);
+        assert_eq!(listing.text.starts_with(columns.header()), !alone);
     }
+}
+
+#[test]
+fn planted_recordings_are_replayed() {
+    planted_are_replayed(Columns::Plain, cases());
+    planted_are_replayed(Columns::WithReason, whys());
 }
 
 /// A line for each record between the header and the last line, which has the other totals.
@@ -318,6 +360,7 @@ fn listings_and_totals_agree() {
             text,
             totals,
             refusal,
+            ..
         } = replay(&named.case);
         if refusal.is_some() {
             assert_eq!(totals, Totals::default());
@@ -398,13 +441,11 @@ fn listings_reach_every_change_and_every_refusal() {
 #[test]
 fn recordings_reach_their_sizes() {
     let rows = |file: &[u8]| read(file).map_or(0, |recording| recording.rows.len());
-    let many = |count| -> usize {
-        let files = replay_cases(1, count);
-        let random = files.iter().filter(|named| named.planted.is_none());
-        random.filter(|named| rows(&named.case) >= 1_000).count()
-    };
-    // the stored stream has random recordings of a thousand rows too
-    assert!(many(500) >= 2, "{}", many(500));
+    // the stored streams have random recordings of a thousand rows too
+    for files in [replay_cases(1, 500), why_cases(1, 500)] {
+        let mut random = files.iter().filter(|named| named.planted.is_none());
+        assert!(random.any(|named| rows(&named.case) >= 1_000));
+    }
 }
 
 /// The longest that we can make: an effect changes three times in two rows, over and over,
@@ -471,7 +512,7 @@ fn one_row(phase: Phase, timer: u32, bits: u16, hold: u32) -> ((Phase, u32), u32
 // ---- Listings that end about the end of a buffer ----
 
 /// How a listing goes through a buffer that is written before a piece (a row's lines, the
-/// last line) for which fewer than 1,568 bytes are left.
+/// last line) for which fewer than 2,368 bytes are left.
 struct Printed {
     /// Bytes before the last line.
     length: usize,
@@ -489,11 +530,14 @@ impl Printed {
     }
 }
 
+/// What a piece of a listing counts as: 32 lines of 74 bytes.
+const PIECE: usize = 2_368;
+
 /// `None` for what the reader refuses.
-fn printed(file: &[u8], buffer: usize) -> Option<Printed> {
-    let edge = buffer - 1_568;
+fn printed(columns: Columns, file: &[u8], buffer: usize) -> Option<Printed> {
+    let edge = buffer - PIECE;
     let recording = read(file).ok()?;
-    let text = replay(file).text;
+    let text = listed(columns, file).text;
     let mut lines = text.split_inclusive('\n').map(str::len);
     let mut state = State::default();
     let mut printed = Printed {
@@ -526,14 +570,17 @@ fn printed(file: &[u8], buffer: usize) -> Option<Printed> {
     Some(printed)
 }
 
-/// The stored stream, for the buffer of 4,096 bytes that its program has.
-#[test]
-fn stored_listings_end_about_the_end_of_a_buffer() {
-    let edge = 4_096 - 1_568;
-    let files = replay_cases(1, 500);
+/// A stored stream, for the buffer of 4,096 bytes that its program has. Fills are met in so many steps
+/// of 64 bytes past the edge.
+fn listings_end_about_the_end_of_a_buffer(
+    columns: Columns,
+    files: &[Named<Vec<u8>>],
+    most_steps: usize,
+) {
+    let edge = 4_096 - PIECE;
     let all: Vec<Printed> = files
         .iter()
-        .filter_map(|named| printed(&named.case, 4_096))
+        .filter_map(|named| printed(columns, &named.case, 4_096))
         .collect();
     for writes in 0..3 {
         // the last line fits up to the edge; past it the buffer is written first
@@ -560,7 +607,7 @@ fn stored_listings_end_about_the_end_of_a_buffer() {
         .flat_map(|one| &one.fills)
         .map(|fill| (fill - edge) / 64)
         .collect();
-    assert_eq!(steps, BTreeSet::from_iter(0..19));
+    assert_eq!(steps, BTreeSet::from_iter(0..most_steps));
     let lengths: BTreeSet<usize> = all.iter().map(|one| one.length).collect();
     for length in (edge - 64..4_096 + 64).step_by(48) {
         assert!(lengths.contains(&length), "{length} bytes");
@@ -568,21 +615,41 @@ fn stored_listings_end_about_the_end_of_a_buffer() {
     let nines: BTreeSet<bool> = files
         .iter()
         .filter(|named| named.planted.as_deref() == Some(&[9]))
-        .map(|named| printed(&named.case, 4_096).expect("read").before_last_line > edge)
+        .map(|named| {
+            let one = printed(columns, &named.case, 4_096);
+            one.expect("read").before_last_line > edge
+        })
         .collect();
     assert_eq!(nines, BTreeSet::from([false, true]));
 }
 
-/// The fresh ones, for the buffer of 65,536 bytes of the replay program.
 #[test]
-fn fresh_listings_end_about_the_end_of_a_buffer() {
-    let edge = 65_536 - 1_568;
+fn stored_listings_end_about_the_end_of_a_buffer() {
+    listings_end_about_the_end_of_a_buffer(Columns::Plain, &replay_cases(1, 500), 19);
+    listings_end_about_the_end_of_a_buffer(Columns::WithReason, &why_cases(1, 500), 25);
+}
+
+/// A line counts as 74 bytes, which none passes, even one with the longest word in each column; nor do
+/// the header and the last line.
+#[test]
+fn no_line_of_a_listing_is_longer_than_it_counts() {
+    let longest = "65535 1000000000 16 wait-reset wait-start 65535 delay running 3600000\n";
+    assert!(longest.len() <= 74);
+    for named in cases().iter().chain(whys()) {
+        let text = listed(Columns::WithReason, &named.case).text;
+        assert!(text.lines().all(|line| line.len() < 74));
+    }
+}
+
+/// The fresh ones, for the buffer of 65,536 bytes of the programs.
+fn fresh_ones_end_about_the_end_of_a_buffer(columns: Columns) {
+    let edge = 65_536 - PIECE;
     let mut seen = BTreeSet::new();
     let mut random = Random::new(3);
     for _ in 0..400 {
         let ending = random_ending(&mut random, 65_536);
-        let file = filled_file(&mut random, 65_536, &ending);
-        let one = printed(&file, 65_536).expect("read");
+        let file = filled_file(&mut random, columns, 65_536, &ending);
+        let one = printed(columns, &file, 65_536).expect("read");
         let fill = match ending.many {
             Some(_) => one.before_last_row,
             None => one.before_last_line,
@@ -604,4 +671,10 @@ fn fresh_listings_end_about_the_end_of_a_buffer() {
             assert!(seen.contains(&(writes, many, first)), "{seen:?}");
         }
     }
+}
+
+#[test]
+fn fresh_listings_end_about_the_end_of_a_buffer() {
+    fresh_ones_end_about_the_end_of_a_buffer(Columns::Plain);
+    fresh_ones_end_about_the_end_of_a_buffer(Columns::WithReason);
 }
