@@ -3,3 +3,4 @@ pub mod Lowest
 pub mod Numbers
 pub mod Lists
 pub mod Decimal
+pub mod Puts

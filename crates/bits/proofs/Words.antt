@@ -79,6 +79,11 @@ bit-past w n i h k = rw (div-eq-of-lt (lt-of-lt-of-le h (pow-mono k)))
 pub bit-none : (i : ℕ) → bitOf 0 i ≡ false
 bit-none i = bit-past 0 0 i (omega arith) (omega arith)
 
+-- a bit of a word that counts if b holds, and is 0 otherwise
+pub bit-if : (b : Bool) (w i : ℕ) → bitOf (cond b w 0) i ≡ (b && bitOf w i)
+bit-if true w i = refl
+bit-if false w i = bit-none i
+
 -- ## A word is the word of its bits
 
 -- bits that agree below n give the same word

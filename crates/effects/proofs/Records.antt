@@ -3,10 +3,11 @@ use mathlib.Core.Path.{_≡_, refl, ap, sym, subst, _∙_}
 use mathlib.Core.Bool.{Bool, true, false}
 use mathlib.Core.List.{List, [], _∷_, _++_, flatMap, append-assoc}
 use Prim.Native.Nat.{ℕ, zero, suc, _+_, _*_, _≤_, _<_}
-use native.Mathlib.Nat.{add-zero}
+use native.Mathlib.Nat.{zero-add, add-zero, le-of-suc-le-suc, not-suc-le-zero}
+use native.Mathlib.Numerals.{add-one}
 use native.Mathlib.Omega.{arith}
 use lib.ListN.{length, take, drop, getD, length-append, length-take, take-append-drop}
-use lib.Seq.{sets, sets-eq, take-at, drop-at, drop-drop}
+use lib.Seq.{sets, sets-eq, take-at, drop-at, drop-drop, drop-cons}
 use Rattle.bits.specs.Words.{one}
 use Rattle.bits.specs.Numbers.{numAt}
 use Rattle.bits.proofs.Lists.{flatMap-append, length-flatMap}
@@ -14,8 +15,9 @@ use Rattle.bits.proofs.Numbers.{fields-spelled}
 use Rattle.rules.specs.Rules.{code}
 use Rattle.rules.proofs.States.{code-injective}
 use Rattle.rules.specs.declared.EffectState.{EffectState}
+use Rattle.rules.specs.declared.EffectState.the-variants.{Tripped}
 use Rattle.effects.specs.declared.Event.{Event}
-use Rattle.effects.specs.Records.{recordLength, recordLayout, encode, bytes, StandsAt, StandFrom}
+use Rattle.effects.specs.Records.{recordLength, recordLayout, encode, bytes, StandsAt, StandFrom, Numbered}
 use Rattle.effects.specs.Scan.{only}
 
 pub length-encode : (e : Event) → length (encode e) ≡ recordLength
@@ -124,3 +126,25 @@ stand-nth s at (e ∷ es) h zero d l = rw add-zero (stand-first s at e es h)
 stand-nth s at (e ∷ es) h (suc i) d l =
     let place : at + recordLength * suc i ≡ at + recordLength + recordLength * i = omega arith in
     rw place (stand-nth s (at + recordLength) es (stand-rest s at e es h) i d (omega arith))
+
+-- ## A loop over records
+
+-- no event: what `getD` gives past the end
+abbrev pub noEvent : Event
+noEvent = record { seq = 0; scan = 0; effect = 0; from = Tripped; to = Tripped; «first_out» = 0 }
+
+-- of the events that are left from number i on, the first
+pub left-first : (es : List Event) (i : ℕ) → i < length es → drop i es ≡ getD es i noEvent ∷ drop (i + 1) es
+left-first es i more = rw (add-one, drop-cons es i noEvent)
+
+-- its record stands i records from the front
+pub nth : (records : List ℕ) (es : List Event) (n i : ℕ) → length es ≡ n → StandFrom records 0 es → i < n → StandsAt records (recordLength * i) (getD es i noEvent)
+nth records es n i e h l = rw zero-add at (stand-nth records 0 es h i noEvent (omega (arith, e)))
+
+-- ## Events of effects
+
+-- each of them has its number
+pub numbered-at : (n : ℕ) (es : List Event) (i : ℕ) (d : Event) → Numbered n es → i < length es → (1 ≤ getD es i d .effect) × (getD es i d .effect ≤ n)
+numbered-at n [] i d h l = absurd (not-suc-le-zero l)
+numbered-at n (e ∷ es) zero d h l = (h .0, h .1)
+numbered-at n (e ∷ es) (suc i) d h l = numbered-at n es i d (h .2) (le-of-suc-le-suc l)

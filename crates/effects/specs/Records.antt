@@ -50,3 +50,14 @@ StandsAt s at e = (at + recordLength ≤ length s) × (take recordLength (drop a
 -- the records of events stand from a place on
 abbrev pub StandFrom : List ℕ → (at : ℕ) → List Event → Type 0
 StandFrom s at es = (at + recordLength * length es ≤ length s) × (take (recordLength * length es) (drop at s) ≡ bytes es)
+
+-- ## Events of effects
+
+-- every event is one of the effects 1 to n
+abbrev pub Numbered : ℕ → List Event → Type 0
+Numbered n [] = Unit {0}
+Numbered n (e ∷ es) = (1 ≤ e .effect) × (e .effect ≤ n) × Numbered n es
+
+-- the records of some n events of the effects 1 to 16 stand at the front
+abbrev pub Recorded : List ℕ → (n : ℕ) → Type 0
+Recorded records n = (es : List Event) × (length es ≡ n) × StandFrom records 0 es × Numbered mostEffects es

@@ -8,7 +8,7 @@ use lib.Seq.{sets, length-sets}
 use Rattle.bits.specs.Decimal.{ascii, decimal}
 use Rattle.bits.proofs.Decimal.{length-decimal, length-of-64-bits}
 use Rattle.text.specs.Pieces.{total}
-use Rattle.text.proofs.Puts.{Put}
+use Rattle.bits.proofs.Puts.{Put}
 use Rattle.text.proofs.Room.{refusal-at-most}
 use Rattle.findings.specs.declared.Finding.{Finding}
 use Rattle.findings.specs.declared.Explained.{Explained}

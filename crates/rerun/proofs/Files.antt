@@ -92,6 +92,16 @@ module _ (s : List ℕ) where
       ∙ ap (replayRows s) (sym (take-append-drop i (rowsOf s)))
       ∙ refusal-ends st width (take i (rowsOf s)) (drop i (rowsOf s)) first started h
 
+  -- so where the replay is whole, none of the first rows is refused
+  pub never-refused : number (reading s .answer) ≡ 0 → replay s .number ≡ 0 → (i : ℕ) → firstRows s i .number ≡ 0
+  never-refused a z i = go (firstRows s i .number) refl
+    where
+      go : (n : ℕ) → firstRows s i .number ≡ n → n ≡ 0
+      go zero e = refl
+      go (suc n) e =
+          let h : firstRows s i .number ≡ 0 → ⊥ = λ k. omega (arith, e, k) in
+          absurd (h (sym (ap (λ (o : Outcome). o .number) (ends-at-refusal a i h)) ∙ z))
+
   pub all-the-rows : number (reading s .answer) ≡ 0 → replay s ≡ firstRows s count
   unfolding firstRows
   all-the-rows a =

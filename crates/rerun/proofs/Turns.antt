@@ -112,6 +112,21 @@ module _ {s : List ℕ} {run : Run} {array : List ℕ} (g : Going s run array) w
   abbrev so-far : Replay
   so-far = soFar s run
 
+  -- ## The state so far
+
+  board-is : boardAt (run .mark) array ≡ boardOf (st .count) (startOf (so-far .state))
+  board-is = ap (λ (u : Totals). u .board) (g .totals)
+
+  -- the words of the state show its slots
+  slots-shown : slotsOf (st .count) (tableOf (st .count) (so-far .state .slots)) ≡ so-far .state .slots
+  slots-shown =
+      let x = sound s (g .accepted) (run .rows) in
+      shows st (so-far .state) (x .state) (x .slots) (settings-right s (g .accepted))
+
+  -- the run's words show the state
+  pub state-is : keptState st (run .mark) array ≡ so-far .state
+  state-is = ap (reachedBy (st .count)) board-is ∙ (λ j. record { «scans_done» = so-far .state .«scans_done»; next = so-far .state .next; slots = slots-shown j })
+
   -- ## The end: no row is left
 
   pub ends : run .rows ≡ rowCount answer → replay s ≡ whole so-far
@@ -129,6 +144,10 @@ module _ {s : List ℕ} {run : Run} {array : List ℕ} (g : Going s run array) w
     row-there =
         let there = row-in-the-file s (run .rows) more in
         (omega (arith, g .wide, there .2), rw (place-is g, g .wide) (there .0))
+
+    -- and are read as the next row
+    pub row-read : (row : Row) → row ≡ rowAt (run .width) s (run .place) → row ≡ rowOf s (run .rows)
+    row-read row is = is ∙ rw (place-is g, g .wide) (row-in-the-file s (run .rows) more .1)
 
     number-next : firstRows s (run .rows + 1) .number ≡ numberAt s (run .rows)
     number-next = next-number s (run .rows) more (g .none-refused)
@@ -181,7 +200,7 @@ module _ {s : List ℕ} {run : Run} {array : List ℕ} (g : Going s run array) w
 
     module _ (row : Row) (is : row ≡ rowAt (run .width) s (run .place)) (v : ℕ) (number-is : v ≡ scansNumber (run .mark .«scans_done») (row .hold)) where
       row-is : row ≡ rowOf s (run .rows)
-      row-is = is ∙ rw (place-is g, g .wide) (row-in-the-file s (run .rows) more .1)
+      row-is = row-read row is
 
       same-number : v ≡ numberAt s (run .rows)
       same-number = number-is ∙ (λ j. scansNumber (g .totals j .board .«scans_done») (row-is j .hold))
@@ -204,19 +223,6 @@ module _ {s : List ℕ} {run : Run} {array : List ℕ} (g : Going s run array) w
       module _ (z : v ≡ 0) where
         none : numberAt s (run .rows) ≡ 0
         none = sym same-number ∙ z
-
-        board-is : boardAt (run .mark) array ≡ boardOf (st .count) (startOf (so-far .state))
-        board-is = ap (λ (u : Totals). u .board) (g .totals)
-
-        -- the words of the state show its slots
-        slots-shown : slotsOf (st .count) (tableOf (st .count) (so-far .state .slots)) ≡ so-far .state .slots
-        slots-shown =
-            let x = sound s (g .accepted) (run .rows) in
-            shows st (so-far .state) (x .state) (x .slots) (settings-right s (g .accepted))
-
-        -- the run's words show the state
-        state-is : keptState st (run .mark) array ≡ so-far .state
-        state-is = ap (reachedBy (st .count)) board-is ∙ (λ j. record { «scans_done» = so-far .state .«scans_done»; next = so-far .state .next; slots = slots-shown j })
 
         run-is : keptRun st row (run .mark) array ≡ rowRun s (run .rows)
         unfolding rowRun

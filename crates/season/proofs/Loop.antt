@@ -2,7 +2,7 @@
 use mathlib.Core.Path.{_≡_, refl, ap, subst, sym, _∙_}
 use mathlib.Core.Bool.{true}
 use mathlib.Core.List.{List, [], _++_}
-use Prim.Native.Nat.{ℕ, zero, suc, _+_, _*_, _-_, _≤_}
+use Prim.Native.Nat.{ℕ, _+_, _*_, _-_, _≤_}
 use native.Mathlib.Omega.{arith}
 use lib.ListN.{length, length-map}
 use lib.Seq.{sets, length-sets}
@@ -10,7 +10,7 @@ use Rattle.rules.specs.declared.EffectState.{EffectState}
 use Rattle.rules.specs.declared.EffectState.the-variants.{Tripped}
 use Rattle.rules.specs.Limits.{mostEffects, mostScans}
 use Rattle.effects.specs.declared.Event.{Event}
-use Rattle.effects.specs.Records.{recordLength, bytes, StandFrom}
+use Rattle.effects.specs.Records.{recordLength, bytes, StandFrom, Numbered}
 use Rattle.effects.proofs.Records.{front-bytes}
 use Rattle.block.proofs.RightStates.{right-state-few}
 use Rattle.recording.specs.declared.Answer.the-variants as A
@@ -21,10 +21,10 @@ use Rattle.rerun.specs.declared.Run.{Run}
 use Rattle.rerun.specs.declared.Turn.{Turn}
 use Rattle.rerun.specs.Replay.{Replay, Outcome, whole, started, replay, firstRows}
 use Rattle.rerun.specs.Turn.{Totals, Begun, Begins, roomOf, RowsReady, RowsDone}
-use Rattle.rerun.proofs.Files.{no-rows, eventsBetween, events-behind, ends-at-refusal, sound, most-effects}
+use Rattle.rerun.proofs.Files.{no-rows, never-refused, eventsBetween, events-behind, sound, most-effects}
 use Rattle.rerun.proofs.Filling.{length-between, few-bytes}
 use Rattle.rerun.proofs.Turns.{begins, ends, kept-between, reached, records-more}
-use Rattle.trace.specs.Effect.{own, Numbered, changes, closedBy, trippedBy}
+use Rattle.trace.specs.Effect.{own, changes, closedBy, trippedBy}
 use Rattle.trace.specs.States.{stateAt, statesAt, traceTo}
 use Rattle.trace.proofs.Changes.{stood-from-here, stood-few, tripped-few, trips-by-changes}
 use Rattle.trace.proofs.Rows.{Told, told-first}
@@ -55,16 +55,6 @@ bounded s r t few =
     is i = t .events i ∙ ap (λ (p : EffectState). changes 0 p (statesAt i (traceTo s (r .rows)))) (all-start-tripped i)
 
 -- ## A recording that is replayed whole
-
--- none of its first rows is refused
-never-refused : (s : List ℕ) → Accepted s → replay s .number ≡ 0 → (i : ℕ) → firstRows s i .number ≡ 0
-never-refused s a z i = go (firstRows s i .number) refl
-  where
-    go : (n : ℕ) → firstRows s i .number ≡ n → n ≡ 0
-    go zero e = refl
-    go (suc n) e =
-        let h : firstRows s i .number ≡ 0 → ⊥ = λ k. omega (arith, e, k) in
-        absurd (h (sym (ap (λ (o : Outcome). o .number) (ends-at-refusal s a i h)) ∙ z))
 
 -- before the first row nothing is counted
 pub tallying-begins : {s : List ℕ} {rows at width : ℕ} {r : Begun} → Begins (reading s .settings) rows at width r → reading s .answer ≡ A.Accepted rows at width

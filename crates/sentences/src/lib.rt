@@ -6,10 +6,10 @@ ghost use Prim.Native.Nat.{_+_, _≤_};
 ghost use lib.ListN.{length};
 ghost use lib.Seq.{sets};
 ghost use Rattle.sentences.specs.Sentences.{numbered, wordText, faultText, countEnds, entryEnds, countWrong, entryName, entryWrong, sentence, mostWords};
-use layout::Kind;
 use findings::Fault;
 use findings::Finding;
 use findings::RowWord;
+use layout::Kind;
 
 // A text and the number behind it.
 fn put_numbered(out: &mut [u8], at: usize, text: &[u8], n: u16) -> usize

@@ -8,7 +8,7 @@ use lib.ListN.{length, length-append}
 use lib.Seq.{sets}
 use Rattle.bits.specs.Decimal.{ascii, decimal}
 use Rattle.bits.proofs.Decimal.{length-of-64-bits}
-use Rattle.text.proofs.Puts.{Put}
+use Rattle.bits.proofs.Puts.{Put}
 use Rattle.rerun.specs.declared.Replayed.{Replayed}
 use Rattle.summaries.specs.Summaries.{isQuoted, quoted, field, three, numbers, summaryLine, mostNumber}
 

@@ -15,7 +15,8 @@ use Rattle.rules.specs.Limits.{mostEffects, mostScans}
 use Rattle.rules.specs.Rules.{code, mostCode, same}
 use Rattle.rules.proofs.States.{same-eq}
 use Rattle.effects.specs.declared.Event.{Event}
-use Rattle.trace.specs.Effect.{Change, changeOf, onlyIf, own, Numbered, Stretch, standing, stretch, closedBy, trippedBy}
+use Rattle.effects.specs.Records.{Numbered}
+use Rattle.trace.specs.Effect.{Change, changeOf, onlyIf, own, Stretch, standing, stretch, closedBy, trippedBy}
 use Rattle.trace.proofs.Changes.{own-append, stretch-append, closed-append, tripped-append}
 use Rattle.tally.specs.Tally.{Count, none, sumCount, stretchCells, exercisedSum, stateSum, tripSum, sinceOf, codeIn, slotOf, countEvent, counted, Countable, AllCountable}
 

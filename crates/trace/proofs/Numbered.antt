@@ -11,6 +11,7 @@ use Rattle.rules.specs.Signals.{Signals}
 use Rattle.rules.specs.declared.Slot.{Slot}
 use Rattle.rules.specs.Rules.{moved}
 use Rattle.effects.specs.declared.Event.{Event}
+use Rattle.effects.specs.Records.{Numbered}
 use Rattle.effects.specs.Scan.{eventsFrom, only, event, wrapped}
 use Rattle.settings.specs.declared.Settings.{Settings}
 use Rattle.settings.specs.declared.Words.{Words}
@@ -24,7 +25,7 @@ use Rattle.recording.specs.Reader.{reading}
 use Rattle.recording.specs.Accepted.{Accepted}
 use Rattle.rerun.specs.Replay.{replay, firstRows, rowRun}
 use Rattle.rerun.proofs.Files.{by-rows, all-the-rows}
-use Rattle.trace.specs.Effect.{Change, onlyIf, changeOf, own, Numbered}
+use Rattle.trace.specs.Effect.{Change, onlyIf, changeOf, own}
 
 pub numbered-append : (n : ℕ) (es fs : List Event) → Numbered n es → Numbered n fs → Numbered n (es ++ fs)
 numbered-append n [] fs h k = k
@@ -71,7 +72,7 @@ module _ (s : List ℕ) where
   abbrev n : ℕ
   n = reading s .settings .count
 
-  numbered-row : (i : ℕ) → Numbered n (rowRun s i .events)
+  pub numbered-row : (i : ℕ) → Numbered n (rowRun s i .events)
   unfolding rowRun
   numbered-row i = numbered-run (reading s .settings) _ _
 

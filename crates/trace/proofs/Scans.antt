@@ -74,7 +74,7 @@ granted-zero a x zero e = refl
 granted-zero a x (suc k) e = absurd (omega (arith, e))
 
 module _ (st : Settings) where
-  accepted-single : (w : Words) (x : State) → single st w x .number ≡ 0 → single st w x ≡ grantedScan st w x
+  pub accepted-single : (w : Words) (x : State) → single st w x .number ≡ 0 → single st w x ≡ grantedScan st w x
   unfolding scanOf
   accepted-single w x = granted-zero (grantedScan st w x) x (scanNumber st w x (12 * length (events st w x)))
 

@@ -13,7 +13,7 @@ use lib.Pow.{pow-pos}
 use Rattle.bits.specs.Lists.{tabulate}
 use Rattle.bits.specs.Words.{bitOf, wordOf}
 use Rattle.bits.proofs.Lists.{length-tabulate, tabulate-ext, getD-tabulate}
-use Rattle.bits.proofs.Words.{bit-wordOf, bit-none, wordOf-ext, word-bits, and-word, or-word, and-or, some-or}
+use Rattle.bits.proofs.Words.{bit-wordOf, bit-if, wordOf-ext, word-bits, and-word, or-word, and-or, some-or}
 use Rattle.rules.specs.declared.EffectState.{EffectState}
 use Rattle.rules.specs.declared.EffectState.the-variants.{Tripped, WaitReset, Ready, WaitStart, Normal, Delayed}
 use Rattle.rules.specs.declared.Seen.{Seen}
@@ -35,11 +35,6 @@ use Rattle.settings.proofs.Right.{count-few, association-lt, inside}
 use Rattle.plans.specs.Plans.{associationAt, delayAt, associationsOf, delaysOf, unionTo, planOf}
 use Rattle.wiring.specs.Wiring.{watchedOf, askedBy}
 use Rattle.wiring.proofs.Watched.{in-union, and-watched, some-watched}
-
--- a bit of a word that counts if b holds, and is 0 otherwise
-bit-if : (b : Bool) (w i : ℕ) → bitOf (cond b w 0) i ≡ (b && bitOf w i)
-bit-if true w i = refl
-bit-if false w i = bit-none i
 
 signals-path : {a a′ b b′ : ℕ} {t t′ m m′ q p s r : Bool} {d d′ e : ℕ} → a ≡ a′ → b ≡ b′ → t ≡ t′ → m ≡ m′ → d ≡ d′
     → _≡_ {A = Signals} (record { active = a; bad = b; trip = t; normal = m; require = q; permit = p; start = s; reset = r; delay = d; period = e })

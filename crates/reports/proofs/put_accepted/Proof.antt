@@ -3,7 +3,7 @@ use mathlib.Core.List.{_++_}
 use Rattle.bits.specs.Decimal.{ascii, decimal}
 use Rattle.bits.proofs.Decimal.{length-decimal}
 use Rattle.reports.specs.Reports.{acceptedLine}
-use Rattle.text.proofs.Puts.{put-then}
+use Rattle.bits.proofs.Puts.{put-then}
 use Rattle.reports.proofs.Front.{front, accepted-at-most}
 use native.Mathlib.Omega.{arith}
 use denote.Ref.{now}

@@ -2,7 +2,7 @@
 use mathlib.Core.List.{_++_}
 use Rattle.bits.specs.Decimal.{ascii}
 use Rattle.reports.specs.Reports.{heading}
-use Rattle.text.proofs.Puts.{put-then}
+use Rattle.bits.proofs.Puts.{put-then}
 use Rattle.reports.proofs.Front.{front, heading-at-most}
 use native.Mathlib.Omega.{arith}
 use denote.Ref.{now}

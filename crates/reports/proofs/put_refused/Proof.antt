@@ -3,7 +3,7 @@ use mathlib.Core.List.{_++_}
 use Rattle.bits.specs.Decimal.{ascii}
 use Rattle.text.specs.Text.{refusalLine}
 use Rattle.reports.specs.Reports.{refusedLine}
-use Rattle.text.proofs.Puts.{put-then}
+use Rattle.bits.proofs.Puts.{put-then}
 use Rattle.reports.proofs.Front.{front, refused-at-most}
 use native.Mathlib.Omega.{arith}
 use denote.Ref.{now}

@@ -5,7 +5,7 @@ use denote.Ref.{now}
 use borrow.Author.Needs.{needs}
 use Rattle.bits.specs.Decimal.{ascii}
 use Rattle.text.specs.Pieces.{total}
-use Rattle.text.proofs.Puts.{put-then}
+use Rattle.bits.proofs.Puts.{put-then}
 use Rattle.reports.specs.Reports.{refusedAt}
 use Rattle.reports.proofs.Front.{short-number, short-place}
 use Rattle.reports.proofs.put_refused_at.Statement.{statement}

@@ -4,7 +4,7 @@ use native.Mathlib.Omega.{arith}
 use denote.Ref.{now}
 use borrow.Author.Needs.{needs}
 use Rattle.bits.specs.Decimal.{ascii}
-use Rattle.text.proofs.Puts.{put-then}
+use Rattle.bits.proofs.Puts.{put-then}
 use Rattle.sentences.specs.Sentences.{sentence}
 use Rattle.reports.specs.Reports.{refusedAt, refusedWhy}
 use Rattle.reports.proofs.Front.{front-within, why-pieces}

@@ -7,7 +7,7 @@ use lib.ListN.{length}
 use borrow.Author.Needs.{needs}
 use Rattle.bits.specs.Decimal.{ascii}
 use Rattle.text.specs.Pieces.{total}
-use Rattle.text.proofs.Puts.{put-then}
+use Rattle.bits.proofs.Puts.{put-then}
 use Rattle.season_table.specs.Pieces.{mostClosing}
 use Rattle.season_table.proofs.Texts.{closing-pieces, closing-at-most}
 use Rattle.season_table.proofs.put_closing.Statement.{statement}

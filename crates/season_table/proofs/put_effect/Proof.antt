@@ -7,7 +7,7 @@ use lib.ListN.{length}
 use borrow.Author.Needs.{needs}
 use Rattle.bits.specs.Decimal.{ascii, decimal}
 use Rattle.bits.proofs.Decimal.{length-decimal}
-use Rattle.text.proofs.Puts.{put-then}
+use Rattle.bits.proofs.Puts.{put-then}
 use Rattle.tally.specs.Tally.{sumsOfEffect}
 use Rattle.season_table.specs.Pieces.{sumsText}
 use Rattle.season_table.proofs.Texts.{line-pieces}

@@ -6,7 +6,7 @@ use denote.Ref.{now}
 use lib.ListN.{length}
 use lib.Seq.{length-sets}
 use borrow.Author.Needs.{needs}
-use Rattle.text.proofs.Puts.{Put, put-then}
+use Rattle.bits.proofs.Puts.{Put, put-then}
 use Rattle.season_table.specs.Lines.{effectLine, effectLines}
 use Rattle.season_table.specs.Pieces.{mostEffectLine}
 use Rattle.season_table.proofs.Texts.{one-line-more}

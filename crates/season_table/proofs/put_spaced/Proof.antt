@@ -4,7 +4,7 @@ use denote.Ref.{now}
 use borrow.Author.Needs.{needs}
 use Rattle.bits.specs.Decimal.{ascii, decimal}
 use Rattle.bits.proofs.Decimal.{length-of-64-bits}
-use Rattle.text.proofs.Puts.{put-then}
+use Rattle.bits.proofs.Puts.{put-then}
 use Rattle.season_table.proofs.put_spaced.Statement.{statement}
 use Rattle.season_table.proofs.put_spaced.Tie as tie
 

@@ -6,7 +6,7 @@ use denote.Ref.{now}
 use lib.ListN.{length, getD}
 use lib.Seq.{length-sets}
 use borrow.Author.Needs.{needs}
-use Rattle.text.proofs.Puts.{Put, put-then}
+use Rattle.bits.proofs.Puts.{Put, put-then}
 use Rattle.tally.specs.Tally.{sumsOfEffect, stateSum}
 use Rattle.season_table.specs.Pieces.{spaced, sumsText, mostSpaced}
 use Rattle.season_table.proofs.Texts.{one-sum-more}

@@ -5,7 +5,7 @@ use native.Mathlib.Omega.{arith}
 use denote.Ref.{now}
 use lib.ListN.{getD}
 use borrow.Author.Needs.{needs}
-use Rattle.text.proofs.Puts.{put-then}
+use Rattle.bits.proofs.Puts.{put-then}
 use Rattle.tally.specs.Tally.{exercisedSum}
 use Rattle.season_table.specs.Lines.{tableHeader, effectLines, closingLine, tableText}
 use Rattle.season_table.proofs.put_table.Statement.{statement}

@@ -2,7 +2,7 @@
 use native.Mathlib.Omega.{arith}
 use denote.Ref.{now}
 use Rattle.bits.specs.Decimal.{decimal}
-use Rattle.text.proofs.Puts.{put-then}
+use Rattle.bits.proofs.Puts.{put-then}
 use Rattle.sentences.specs.Sentences.{numbered}
 use Rattle.sentences.proofs.Room.{length-numbered}
 use borrow.Author.Needs.{needs}

@@ -3,7 +3,7 @@ use mathlib.Core.List.{_++_}
 use native.Mathlib.Omega.{arith}
 use denote.Ref.{now}
 use Rattle.bits.specs.Decimal.{ascii}
-use Rattle.text.proofs.Puts.{put-then}
+use Rattle.bits.proofs.Puts.{put-then}
 use Rattle.sentences.specs.Sentences.{faultText, entryName, entryWrong}
 use Rattle.sentences.proofs.Room.{length-wrong}
 use borrow.Author.Needs.{needs}

@@ -4,7 +4,7 @@ use native.Mathlib.Omega.{arith}
 use denote.Ref.{now}
 use borrow.Author.Needs.{needs}
 use Rattle.bits.specs.Decimal.{ascii, decimal}
-use Rattle.text.proofs.Puts.{put-then}
+use Rattle.bits.proofs.Puts.{put-then}
 use Rattle.summaries.specs.Summaries.{three, numbers}
 use Rattle.summaries.proofs.put_numbers.Statement.{statement}
 use Rattle.summaries.proofs.put_numbers.Tie as tie

@@ -4,7 +4,7 @@ use native.Mathlib.Nat.{zero-add}
 use native.Mathlib.Omega.{arith}
 use denote.Ref.{now}
 use borrow.Author.Needs.{needs}
-use Rattle.text.proofs.Puts.{put-then}
+use Rattle.bits.proofs.Puts.{put-then}
 use Rattle.summaries.specs.Summaries.{quote, doubled, quoted}
 use Rattle.summaries.proofs.put_quoted.Statement.{statement}
 use Rattle.summaries.proofs.put_quoted.Tie as tie

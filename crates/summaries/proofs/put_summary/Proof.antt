@@ -4,7 +4,7 @@ use native.Mathlib.Omega.{arith}
 use denote.Ref.{now}
 use borrow.Author.Needs.{needs}
 use Rattle.bits.specs.Decimal.{ascii}
-use Rattle.text.proofs.Puts.{put-then}
+use Rattle.bits.proofs.Puts.{put-then}
 use Rattle.summaries.specs.Summaries.{field, numbers, summaryLine}
 use Rattle.reports.proofs.Front.{front-within}
 use Rattle.summaries.proofs.Fields.{at-front, summary-pieces}

@@ -6,7 +6,7 @@ use denote.Ref.{now}
 use lib.ListN.{length, length-append}
 use borrow.Author.Needs.{needs}
 use Rattle.bits.specs.Decimal.{ascii, decimal}
-use Rattle.text.proofs.Puts.{put-then}
+use Rattle.bits.proofs.Puts.{put-then}
 use Rattle.summaries.specs.Summaries.{three}
 use Rattle.summaries.proofs.Fields.{number-at-most}
 use Rattle.summaries.proofs.put_three.Statement.{statement}

@@ -8,9 +8,9 @@ use denote.Ref.{now}
 use lib.ListN.{length, drop, getD}
 use Rattle.effects.specs.declared.Event.{Event}
 use Rattle.effects.specs.Records.{recordLength, StandFrom}
-use Rattle.effects.proofs.Records.{one-event}
+use Rattle.effects.proofs.Records.{noEvent, nth, one-event}
 use Rattle.tally.specs.Tally.{countOf, counted, AllCountable}
-use Rattle.tally.proofs.Counting.{noEvent, left-counted, left-countable, none-left, nth}
+use Rattle.tally.proofs.Counting.{left-counted, left-countable, none-left}
 use Rattle.tally.proofs.count_events.Statement.{statement}
 use Rattle.tally.proofs.count_events.Tie as tie
 
