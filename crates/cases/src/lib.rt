@@ -158,7 +158,8 @@ fn put_state(out: &mut [u8], at: usize, x: State)
     put_slots(out, at + 6, slots);
 }
 
-fn put_refusal(out: &mut [u8], number: u8, place: usize)
+// Puts the 5 bytes of a refusal number and its place at the front of `out`.
+pub fn put_refusal(out: &mut [u8], number: u8, place: usize)
     requires { ⌜ 5 ≤ length (now out) ⌝ }
     ensures { λ _. ⌜ now (out .exit) ≡ sets (now (out .entry)) 0 (pack (1 ∷ 4 ∷ []) (number ∷ place % 4294967296 ∷ [])) ⌝ }
 {
