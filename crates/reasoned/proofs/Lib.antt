@@ -1,0 +1,4 @@
+pub mod Told
+pub mod Last
+pub mod Rows
+pub mod Theorems
