@@ -1,3 +1,4 @@
 pub mod Placing
+pub mod Records
 pub mod Loop
 pub mod Theorems

@@ -1,6 +1,6 @@
 -- What a caller's loop over the rows knows after each of them: it goes on, ends after the last row, or stops at a refusal.
 use mathlib.Core.Path.{_≡_, refl, sym, ap, _∙_}
-use mathlib.Core.Bool.{true, false}
+use mathlib.Core.Bool.{Bool, true, false}
 use mathlib.Core.List.{List, []}
 use Prim.Native.Nat.{ℕ, _+_, _≤_, _<_}
 use native.Mathlib.Omega.{arith}
@@ -10,14 +10,13 @@ use Rattle.settings.proofs.Refusals.{granted-refused}
 use Rattle.recording.specs.Answers.{rowCount}
 use Rattle.recording.specs.Reader.{reading}
 use Rattle.rerun.specs.declared.Run.{Run}
-use Rattle.rerun.specs.Replay.{Outcome, firstRows, rowRun}
+use Rattle.rerun.specs.Replay.{Outcome, firstRows}
 use Rattle.rerun.specs.Turn.{Going, rowInto, RowDone}
 use Rattle.rerun.proofs.Turns as turns
 use Rattle.listing.specs.declared.Printed.{Printed}
 use Rattle.text.specs.Room.{mostPiece}
-use Rattle.text.specs.Text.{lines}
-use Rattle.listing.specs.Printed.{hasRoom, rowLines, PrintedRow, Last}
-use Rattle.text.proofs.Puts.{Put}
+use Rattle.listing.specs.Printed.{hasRoom, linesOfRow, rowLines, PrintedRow, Last}
+use Rattle.bits.proofs.Puts.{Put}
 
 module _ {s : List ℕ} {run : Run} {array : List ℕ} (g : Going s run array) where
   -- where no row is left, the loop ends
@@ -30,7 +29,7 @@ module _ {s : List ℕ} {run : Run} {array : List ℕ} (g : Going s run array) w
         answer-is = turns.ends-answered g 0 e;
       }
 
-  module _ {at : ℕ} {out : List ℕ} {r : Printed} {array′ out′ : List ℕ} (p : PrintedRow s run at out r array′ out′) where
+  module _ {at : ℕ} {out : List ℕ} {r : Printed} {array′ out′ : List ℕ} {why : Bool} (p : PrintedRow why s run at out r array′ out′) where
     -- ## The buffer was full: nothing has changed
 
     module _ (h : r .full ≡ true) where
@@ -53,7 +52,7 @@ module _ {s : List ℕ} {run : Run} {array : List ℕ} (g : Going s run array) w
       room = not-false (hasRoom (length out) at) (sym (p .full-is) ∙ h)
 
       -- the lines of the row were put
-      pub lines-put : Put out out′ at (r .at) (rowLines s (run .rows))
+      pub lines-put : Put out out′ at (r .at) (rowLines why s (run .rows))
       lines-put = (rw room at (p .at-is), rw room at (p .text))
 
       pub put-within : r .at ≤ length out
@@ -80,8 +79,8 @@ module _ {s : List ℕ} {run : Run} {array : List ℕ} (g : Going s run array) w
           pub unchanged : r .turn .run .rows ≡ run .rows
           unchanged = turns.unchanged g more done refused
 
-          pub no-lines : rowLines s (run .rows) ≡ []
-          no-lines = granted-refused (lines (rowRun s (run .rows) .events)) (λ n. []) (firstRows s (run .rows + 1) .number) (λ z. refused (done .number-is ∙ z))
+          pub no-lines : rowLines why s (run .rows) ≡ []
+          no-lines = granted-refused (linesOfRow why s (run .rows)) (λ n. []) (firstRows s (run .rows + 1) .number) (λ z. refused (done .number-is ∙ z))
 
           -- a refused row is the last
           pub stops : Last s (r .turn)

@@ -1,7 +1,7 @@
 -- A piece at a place of a lent buffer: what is answered where the buffer is full, and where it is not.
 use mathlib.Core.Path.{_≡_, refl, sym, _∙_}
 use mathlib.Core.Bool.{Bool, true, false, not}
-use mathlib.Core.List.{List, [], flatMap}
+use mathlib.Core.List.{List}
 use Prim.Native.Nat.{ℕ, zero, suc, _+_, _-_, _*_, _≤_, _<_}
 use native.Mathlib.Omega.{arith}
 use borrow.Author.Tests.{not-true, not-false, leb-true, leb-false, le-leb, lt-leb}
@@ -20,7 +20,7 @@ use Rattle.listing.specs.declared.Piece.{Piece}
 use Rattle.text.specs.Room.{mostPiece}
 use Rattle.text.specs.Text.{lines}
 use Rattle.listing.specs.Printed.{hasRoom, placed, written, rowLines, PrintedRow}
-use Rattle.text.proofs.Puts.{Put}
+use Rattle.bits.proofs.Puts.{Put}
 
 -- ## The test
 
@@ -51,17 +51,17 @@ module _ (out : List ℕ) (at : ℕ) (b : Bool) (is : b ≡ hasRoom (length out)
 
   -- ## A row
 
-  module _ {s : List ℕ} {run : Run} where
+  module _ {s : List ℕ} {run : Run} {why : Bool} where
     -- where the buffer is full, the row is not run
     pub full-row : {array : List ℕ} → Going s run array → not b ≡ true
-        → PrintedRow s run at out (record { full = true; at = at; turn = record { number = 0; records = 0; run = run } }) array out
+        → PrintedRow why s run at out (record { full = true; at = at; turn = record { number = 0; records = 0; run = run } }) array out
     full-row g h =
         let e = sym is ∙ not-true b h in
         record { full-is = rw e; at-is = rw e; within = λ l. l; text = rw e; number-is = rw e; records-are = rw e; going = g; rows-are = rw e }
 
     -- where there is room, the row is run, and results in u
     pub whole-row : {space space′ array′ out′ : List ℕ} {u : Turn} {r : ℕ} → RowDone s run space u array′ space′ → not b ≡ false
-        → Put out out′ at r (rowLines s (run .rows)) → r ≤ length out → PrintedRow s run at out (record { full = false; at = r; turn = u }) array′ out′
+        → Put out out′ at r (rowLines why s (run .rows)) → r ≤ length out → PrintedRow why s run at out (record { full = false; at = r; turn = u }) array′ out′
     whole-row d h p l =
         let e = sym is ∙ not-false b h in
         record {
@@ -74,18 +74,3 @@ module _ (out : List ℕ) (at : ℕ) (b : Bool) (is : b ≡ hasRoom (length out)
           going = d .going;
           rows-are = rw e (d .rows-are);
         }
-
--- ## The records that a row leaves in the space that it was lent
-
--- the records are those of some events, and the row has their lines
-left-in : (n : ℕ) (es : List Event) (space : List ℕ) → recordLength * granted n (length es) (λ k. 0) ≤ length space
-    → (us : List Event) × (length us ≡ granted n (length es) (λ k. 0)) × StandFrom (granted n (sets space 0 (bytes es)) (λ k. space)) 0 us × (lines us ≡ granted n (lines es) (λ k. []))
-unfolding flatMap
-left-in zero es space h = (es, refl, (omega (arith, length-sets space 0 (bytes es)), front-bytes es space h), refl)
-left-in (suc k) es space h = ([], refl, (omega arith, refl), refl)
-
-pub recorded-by : {s : List ℕ} {run : Run} {space : List ℕ} {u : Turn} {array′ space′ : List ℕ} → RowDone s run space u array′ space′
-    → u .records ≤ mostRecords → mostRowBytes ≤ length space → (us : List Event) × (length us ≡ u .records) × StandFrom space′ 0 us × (lines us ≡ rowLines s (run .rows))
-recorded-by {s} {run} {space} d few room =
-    rw (d .records-are, d .laid)
-    (left-in (firstRows s (run .rows + 1) .number) (rowRun s (run .rows) .events) space (omega (arith, d .records-are)))

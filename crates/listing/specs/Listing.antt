@@ -14,10 +14,9 @@ unfoldable pub closing : Replayed → List ℕ
 closing r =
     granted (r .number) (lastLine (r .rows) (r .scans) (r .live) (r .exercised)) (λ n. refusalLine n (r .place))
 
--- a refused file has only the line of its refusal; any other has the header, the lines of its records, and the closing
-abbrev pub listed : Answer → Outcome → List ℕ
-listed a o =
-    granted (number a) (header ++ lines (o .replay .events) ++ closing (answered o)) (λ n. refusalLine n (place a))
+-- a refused file has only the line of its refusal; any other has a header, the lines of its records, and the closing
+abbrev pub listedAs : (header lines : List ℕ) → Answer → Outcome → List ℕ
+listedAs header lines a o = granted (number a) (header ++ lines ++ closing (answered o)) (λ n. refusalLine n (place a))
 
 unfoldable pub listing : List ℕ → List ℕ
-listing s = listed (reading s .answer) (replay s)
+listing s = listedAs header (lines (replay s .replay .events)) (reading s .answer) (replay s)

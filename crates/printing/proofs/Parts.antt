@@ -19,8 +19,8 @@ use Rattle.rerun.proofs.Files.{refused-replay}
 use Rattle.text.specs.Room.{mostPiece}
 use Rattle.listing.specs.declared.Piece.{Piece}
 use Rattle.listing.specs.declared.Printed.{Printed}
-use Rattle.listing.specs.Listing.{closing, listing}
-use Rattle.listing.specs.Printed.{opening, written, placed}
+use Rattle.listing.specs.Listing.{closing}
+use Rattle.listing.specs.Printed.{listingOf, opening, written, placed}
 use Rattle.listing.proofs.Theorems.{pieces-are-the-listing}
 use Rattle.printing.specs.declared.sending.Sent.{Sent}
 use Rattle.printing.specs.declared.Ending.{Ending}
@@ -45,22 +45,22 @@ piece-put out text at room {r} {out′} e f within =
     rw (place, rw fits at f) (front-grows out text at (omega (arith, place, within)))
 
 -- the opening at the front
-pub opening-put : (s out : List ℕ) (a : Answer) → mostPiece ≤ length out → {r : Piece} {out′ : List ℕ}
-    → r ≡ written (length out) 0 (opening a) → out′ ≡ placed out 0 (opening a) → r .at ≤ length out → reading s .answer ≡ a → take (r .at) out′ ≡ opening (reading s .answer)
-opening-put s out a room e f within is = piece-put out (opening a) 0 (omega (arith, room)) e f within ∙ ap opening (sym is)
+pub opening-put : (why : Bool) (s out : List ℕ) (a : Answer) → mostPiece ≤ length out → {r : Piece} {out′ : List ℕ}
+    → r ≡ written (length out) 0 (opening why a) → out′ ≡ placed out 0 (opening why a) → r .at ≤ length out → reading s .answer ≡ a → take (r .at) out′ ≡ opening why (reading s .answer)
+opening-put why s out a room e f within is = piece-put out (opening why a) 0 (omega (arith, room)) e f within ∙ ap (opening why) (sym is)
 
 -- ## What waits
 
 -- nothing has gone
-pub starts : {s : List ℕ} {sent : Sent} {text front : List ℕ} → (sent .good ≡ true) × (sent .gone ≡ 0) → text ≡ front → Waiting s sent text front
-starts {s} n e = record { written = n .0; within = omega (arith, n .1); joined = rw (n .1) e }
+pub starts : {why : Bool} {s : List ℕ} {sent : Sent} {text front : List ℕ} → (sent .good ≡ true) × (sent .gone ≡ 0) → text ≡ front → Waiting why s sent text front
+starts {s = s} n e = record { written = n .0; within = omega (arith, n .1); joined = rw (n .1) e }
 
-module _ {s : List ℕ} {sent : Sent} {text front : List ℕ} (w : Waiting s sent text front) where
+module _ {why : Bool} {s : List ℕ} {sent : Sent} {text front : List ℕ} (w : Waiting why s sent text front) where
   abbrev given : List ℕ
-  given = take (sent .gone) (listing s)
+  given = take (sent .gone) (listingOf why s)
 
   -- one piece more
-  pub grows : {text′ front′ : List ℕ} (piece : List ℕ) → text′ ≡ text ++ piece → front ++ piece ≡ front′ → Waiting s sent text′ front′
+  pub grows : {text′ front′ : List ℕ} (piece : List ℕ) → text′ ≡ text ++ piece → front ++ piece ≡ front′ → Waiting why s sent text′ front′
   grows piece e f =
       record {
         written = w .written;
@@ -69,18 +69,18 @@ module _ {s : List ℕ} {sent : Sent} {text front : List ℕ} (w : Waiting s sen
       }
 
   long : length given ≡ sent .gone
-  long = length-take-le (sent .gone) (listing s) (w .within)
+  long = length-take-le (sent .gone) (listingOf why s) (w .within)
 
   ends-at : sent .gone + length text ≡ length front
   ends-at = omega (arith, long, length-append given text, ap length (w .joined))
 
   -- ## It is the next part
 
-  module _ (rest : List ℕ) (whole : front ++ rest ≡ listing s) where
-    split : listing s ≡ given ++ (text ++ rest)
+  module _ (rest : List ℕ) (whole : front ++ rest ≡ listingOf why s) where
+    split : listingOf why s ≡ given ++ (text ++ rest)
     split = sym whole ∙ ap (λ (l : List ℕ). l ++ rest) (sym (w .joined)) ∙ append-assoc given text rest
 
-    pub next : NextPart s (sent .gone) text
+    pub next : NextPart why s (sent .gone) text
     next =
         record {
           within = omega (arith, ends-at, length-append front rest, ap length whole);
@@ -90,25 +90,25 @@ module _ {s : List ℕ} {sent : Sent} {text front : List ℕ} (w : Waiting s sen
         }
 
     -- and once it is written, nothing waits
-    pub goes : {r : Sent} → r .good ≡ true → r .gone ≡ sent .gone + length text → Waiting s r [] front
+    pub goes : {r : Sent} → r .good ≡ true → r .gone ≡ sent .gone + length text → Waiting why s r [] front
     goes {r} good e =
         record {
           written = good;
           within = omega (arith, e, next .within);
-          joined = append-nil (take (r .gone) (listing s)) ∙ ap (take (r .gone)) (sym whole) ∙ take-at front rest (r .gone) (sym ends-at ∙ sym e);
+          joined = append-nil (take (r .gone) (listingOf why s)) ∙ ap (take (r .gone)) (sym whole) ∙ take-at front rest (r .gone) (sym ends-at ∙ sym e);
         }
 
 -- a buffer that was filled
-pub filled : {s : List ℕ} {sent : Sent} {run : Run} {at : ℕ} {out : List ℕ} {r : Printed} {array′ out′ : List ℕ} → Waiting s sent (take at out) (soFar s (run .rows))
-    → Filled s run at out r array′ out′ → Waiting s sent (take (r .at) out′) (soFar s (r .turn .run .rows))
-filled {s} {sent} w f = record { written = w .written; within = w .within; joined = f .text (take (sent .gone) (listing s)) (w .joined) }
+pub filled : {why : Bool} {s : List ℕ} {sent : Sent} {run : Run} {at : ℕ} {out : List ℕ} {r : Printed} {array′ out′ : List ℕ} → Waiting why s sent (take at out) (soFar why s (run .rows))
+    → Filled why s run at out r array′ out′ → Waiting why s sent (take (r .at) out′) (soFar why s (r .turn .run .rows))
+filled {why} {s} {sent} w f = record { written = w .written; within = w .within; joined = f .text (take (sent .gone) (listingOf why s)) (w .joined) }
 
 -- ## How it ends
 
 -- with the closing it is the listing
-pub closed : {s : List ℕ} {sent : Sent} {turn : Turn} {text : List ℕ} → Closes s sent turn text → (end : Replayed) → end ≡ answerOf turn
-    → soFar s (turn .run .rows) ++ closing end ≡ listing s
-closed {s} {turn = turn} c end e = rw e (pieces-are-the-listing s (c .accepted) turn (c .last))
+pub closed : {why : Bool} {s : List ℕ} {sent : Sent} {turn : Turn} {text : List ℕ} → Closes why s sent turn text → (end : Replayed) → end ≡ answerOf turn
+    → soFar why s (turn .run .rows) ++ closing end ≡ listingOf why s
+closed {why} {s} {turn = turn} c end e = rw e (pieces-are-the-listing why s (c .accepted) turn (c .last))
 
 -- a refused file has the reader's refusal number
 pub number-of-refused : (s : List ℕ) (n p : ℕ) → reading s .answer ≡ Refused n p → replay s .number ≡ n
@@ -118,13 +118,13 @@ module _ (sent : Sent) (number : ℕ) (r : Ending) (is : (r .status ≡ status (
   same : r .status ≡ status (r .sent .good) number
   same = is .0 ∙ ap (λ (x : Sent). status (x .good) number) (sym (is .1))
 
-  module _ {s : List ℕ} where
+  module _ {why : Bool} {s : List ℕ} where
     -- a write failed
-    pub failed : (b : Bool) → b ≡ sent .good → not b ≡ true → Told s r
+    pub failed : (b : Bool) → b ≡ sent .good → not b ≡ true → Told why s r
     failed b e h =
         let f : r .sent .good ≡ false = ap (λ (x : Sent). x .good) (is .1) ∙ sym e ∙ not-true b h in
         record { by-number = same ∙ rw f; all-gone = λ g. absurd (true≢false (sym g ∙ f)) }
 
     -- the rest was handed over
-    pub told : {before : Sent} {text : List ℕ} → Waiting s before text (listing s) → sent .gone ≡ before .gone + length text → replay s .number ≡ number → Told s r
+    pub told : {before : Sent} {text : List ℕ} → Waiting why s before text (listingOf why s) → sent .gone ≡ before .gone + length text → replay s .number ≡ number → Told why s r
     told w e n = record { by-number = same ∙ ap (status (r .sent .good)) (sym n); all-gone = λ g. ap (λ (x : Sent). x .gone) (is .1) ∙ e ∙ ends-at w }

@@ -1,14 +1,13 @@
 -- A buffer whose text waits to be written. No entry point's contract cites this page.
 use Prim.Native.Nat.{ℕ, _^_, _≤_}
 use mathlib.Core.Path.{_≡_}
-use mathlib.Core.Bool.{true}
+use mathlib.Core.Bool.{Bool, true}
 use mathlib.Core.List.{List, _++_}
 use lib.ListN.{length, take}
 use Rattle.recording.specs.Accepted.{Accepted}
 use Rattle.rerun.specs.declared.Turn.{Turn}
 use Rattle.text.specs.Room.{mostPiece}
-use Rattle.listing.specs.Listing.{listing}
-use Rattle.listing.specs.Printed.{Last}
+use Rattle.listing.specs.Printed.{listingOf, Last}
 use Rattle.printing.specs.declared.sending.Sent.{Sent}
 use Rattle.printing.specs.Filled.{soFar}
 
@@ -22,14 +21,14 @@ pub record Buffer (n : ℕ) : Type 0 where
   pub small : n ≤ mostBuffer
 
 -- what has gone, all of it written, and the text that waits, joined, are this front of the listing
-pub record Waiting (s : List ℕ) (sent : Sent) (text front : List ℕ) : Type 0 where
+pub record Waiting (why : Bool) (s : List ℕ) (sent : Sent) (text front : List ℕ) : Type 0 where
   pub written : sent .good ≡ true
-  pub within : sent .gone ≤ length (listing s)
-  pub joined : take (sent .gone) (listing s) ++ text ≡ front
+  pub within : sent .gone ≤ length (listingOf why s)
+  pub joined : take (sent .gone) (listingOf why s) ++ text ≡ front
 
 -- nothing is left of the listing but the closing of a replay that ended so
-pub record Closes (s : List ℕ) (sent : Sent) (turn : Turn) (text : List ℕ) : Type 0 where
-  pub waits : Waiting s sent text (soFar s (turn .run .rows))
+pub record Closes (why : Bool) (s : List ℕ) (sent : Sent) (turn : Turn) (text : List ℕ) : Type 0 where
+  pub waits : Waiting why s sent text (soFar why s (turn .run .rows))
   pub accepted : Accepted s
   pub last : Last s turn
 

@@ -29,9 +29,9 @@ pub fn written(sent: Sent) -> bool
     sent.good
 }
 
-// Writes the next part of the listing of `s` to standard output. After a write that failed there is no next part.
-pub fn flush(s: &[u8], sent: Sent, part: &[u8]) -> Sent
-    requires { ⌜ (sent .good ≡ true) × NextPart (now s) (sent .gone) (now part) ⌝ }
+// Writes the next part of the listing of `s`, with reasons or without, to standard output. After a write that failed there is no next part.
+pub fn flush(s: &[u8], why: bool, sent: Sent, part: &[u8]) -> Sent
+    requires { ⌜ (sent .good ≡ true) × NextPart why (now s) (sent .gone) (now part) ⌝ }
     requires { ⌜ sent .gone + length (now part) < 2 ^ 64 ⌝ }
     ensures { λ r. ⌜ r .gone ≡ sent .gone + length (now (part .entry)) ⌝ }
 {

@@ -1,17 +1,16 @@
 // Replays recordings by name and prints their listings, or one line for each, on standard output. Document 01, "One session, whole";
 // docs/FORMAT.md, "A line for each file". docs/DECISIONS.md says what happens where input or output fails, and how the program tells how
 // it ended. The first argument says what is asked, and the others are names; without an argument it replays standard input and tells
-// nothing. It rests on `printing` for a listing, on `reports` and `summaries` for a line and on `inputs` for names, messages and statuses. All but what
-// it prints, and the digit that it tells, may change.
+// nothing. It rests on `listings` for a listing, on `reports` and `summaries` for a line and on `inputs` for names, messages and statuses. All
+// but what it prints, and the digit that it tells, may change.
 ghost use mathlib.Core.Path.{_≡_};
 ghost use Prim.Native.Nat.{_+_, _≤_};
 ghost use lib.ListN.{length};
 ghost use Rattle.reports.specs.Reports.{mostName, InputRoom};
-ghost use Rattle.replay.specs.Buffers.{Printing};
+ghost use Rattle.listings.specs.Buffers.{Printing};
 use inputs::ASKED;
 use inputs::DONE;
 use inputs::FIRST_NAME;
-use inputs::REFUSED;
 use inputs::UNREAD;
 use inputs::UNWRITTEN;
 use recording::Answer;
@@ -32,42 +31,15 @@ const ONE_NAME: usize = 3;
 
 // ---- one recording
 
-fn status_of(number: u8) -> u8 {
-    if number == 0 {
-        return DONE;
-    }
-    REFUSED
-}
-
-// Writes a line that stands at the front of the buffer, and answers how a recording of this refusal number ended.
-fn write_line(out: &[u8], size: usize, number: u8) -> u8
-    requires { ⌜ size ≤ length (now out) ⌝ }
-{
-    let status = inputs::write(&PROGRAM, &out[0..size]);
-    inputs::graver(status, status_of(number))
-}
-
-fn list(s: &[u8], out: &mut [u8]) -> u8
-    requires { ⌜ Printing (now out) ⌝ }
-{
-    let ending = printing::print(s, out);
-    let status = ending.status;
-    if status == 2 {
-        return inputs::say_unwritten(&PROGRAM);
-    }
-    status
-}
-
 // A listing under a heading with its name. Without the heading nobody could tell whose listing it is, so it then is not written.
 fn list_named(name: &[u8], s: &[u8], out: &mut [u8]) -> u8
     requires { ⌜ (length (now name) ≤ mostName) × Printing (now out) ⌝ }
 {
-    let size = reports::put_heading(out, name);
-    let status = write_line(out, size, 0);
+    let status = listings::head(&PROGRAM, name, out);
     if status != DONE {
         return status;
     }
-    list(s, out)
+    listings::list(&PROGRAM, s, false, out)
 }
 
 fn number_of(answer: Answer) -> u8 {
@@ -87,7 +59,7 @@ fn check(name: &[u8], s: &[u8], out: &mut [u8]) -> u8
     let reading = recording::read(s);
     let answer = reading.answer;
     let size = reports::put_check(out, name, answer);
-    write_line(out, size, number_of(answer))
+    listings::write_front(&PROGRAM, out, size, number_of(answer))
 }
 
 fn summarize(name: &[u8], s: &[u8], out: &mut [u8]) -> u8
@@ -95,7 +67,7 @@ fn summarize(name: &[u8], s: &[u8], out: &mut [u8]) -> u8
 {
     let replayed = rerun::replay(s);
     let size = summaries::put_summary(out, name, replayed);
-    write_line(out, size, replayed.number)
+    listings::write_front(&PROGRAM, out, size, replayed.number)
 }
 
 fn explain(name: &[u8], s: &[u8], out: &mut [u8]) -> u8
@@ -103,7 +75,7 @@ fn explain(name: &[u8], s: &[u8], out: &mut [u8]) -> u8
 {
     let explained = findings::explain(s);
     let size = reports::put_explained(out, name, explained);
-    write_line(out, size, explained.number)
+    listings::write_front(&PROGRAM, out, size, explained.number)
 }
 
 // Answers what is asked of a recording. If several are named, a listing has its name above it.
@@ -115,7 +87,7 @@ fn answer(asked: Asked, several: bool, name: &[u8], s: &[u8], out: &mut [u8]) ->
             if several {
                 list_named(name, s, out)
             } else {
-                list(s, out)
+                listings::list(&PROGRAM, s, false, out)
             }
         }
         Asked::Check => check(name, s, out),
@@ -199,7 +171,7 @@ fn begin(asked: Asked, out: &mut [u8]) -> u8
         Asked::Check => DONE,
         Asked::Summary => {
             let size = summaries::put_summary_header(out);
-            write_line(out, size, 0)
+            listings::write_front(&PROGRAM, out, size, 0)
         }
         Asked::Explanation => DONE,
     }

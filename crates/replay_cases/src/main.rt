@@ -5,7 +5,7 @@
 // thousand bytes need several buffers: a stream has some that end about the end of one, two and three buffers.
 fn answer(s: &[u8]) -> bool {
     let mut out = [0u8; 4096];
-    let ending = printing::print(s, &mut out);
+    let ending = printing::print(s, false, &mut out);
     if ending.status == 2 {
         return false;
     }

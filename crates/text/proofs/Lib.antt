@@ -1,3 +1,2 @@
 pub mod Lines
-pub mod Puts
 pub mod Room

@@ -1,23 +1,73 @@
 -- Laws of lines: the pieces of a line, and the lines that are left in a loop.
-use mathlib.Core.Path.{_≡_, sym, ap, _∙_}
+use mathlib.Core.Path.{_≡_, refl, sym, ap, _∙_}
+use mathlib.Core.Bool.{Bool, true, false}
 use mathlib.Core.List.{List, [], _∷_, _++_, flatMap, append-assoc}
 use Prim.Native.Nat.{ℕ, _+_, _<_, _≤_}
 use native.Mathlib.Numerals.{add-one}
+use native.Mathlib.Omega.{arith}
 use lib.ListN.{length, drop, getD, length-append, drop-of-length-le}
 use lib.Seq.{drop-cons}
 use Rattle.bits.specs.Decimal.{ascii, decimal}
 use Rattle.effects.specs.declared.Event.{Event}
-use Rattle.text.specs.Text.{name, line, lines, lastLine, refusalLine}
-use Rattle.text.specs.Pieces.{when, change, total}
+use Rattle.reasons.specs.Reasons.{reasonIn}
+use Rattle.wording.specs.Text.{wordsOf}
+use Rattle.text.specs.declared.Column.{Column}
+use Rattle.text.specs.Text.{name, headerWith, lineWith, lastLine, refusalLine}
+use Rattle.text.specs.Pieces.{when, change, further, columnLine, total}
 
--- ## The line of a record, in its two halves
+-- ## The header, in two pieces
 
-pub halves : (e : Event) → line e ≡ when e ++ change e
-unfolding line when change
+abbrev pub columns : List ℕ
+columns = ascii "seq scan effect from to first"
+
+pub header-told : headerWith (ascii "reason" ∷ []) ≡ columns ++ ascii " reason\n"
+unfolding headerWith
+header-told = refl
+
+pub header-plain : headerWith [] ≡ columns ++ ascii "\n"
+unfolding headerWith
+header-plain = refl
+
+-- ## The line of a record, in its halves
+
+halves : (e : Event) → lineWith e [] ≡ when e ++ change e 10
+unfolding lineWith when change
 halves e = sym (simp append-assoc)
 
-pub length-halves : (e : Event) → length (line e) ≡ length (when e) + length (change e)
-length-halves e = ap length (halves e) ∙ length-append (when e) (change e)
+halves-and-end : (e : Event) (field : List ℕ) → lineWith e (field ∷ []) ≡ when e ++ (change e 32 ++ (field ++ ascii "\n"))
+unfolding lineWith when change
+halves-and-end e field = sym (simp append-assoc)
+
+module _ (c : Column) (associations : List ℕ) (e : Event) where
+  -- without a reason
+  pub plain : c .why ≡ false → columnLine c associations e ≡ when e ++ change e 10
+  unfolding further
+  plain h = rw h (halves e)
+
+  pub length-plain : c .why ≡ false → length (columnLine c associations e) ≡ length (when e) + length (change e 10)
+  length-plain h = ap length (plain h) ∙ length-append (when e) (change e 10)
+
+  -- with its reason
+  abbrev pub end : List ℕ
+  end = wordsOf (reasonIn (c .sight) associations e) ++ ascii "\n"
+
+  pub told : c .why ≡ true → columnLine c associations e ≡ when e ++ (change e 32 ++ end)
+  unfolding further
+  told h = rw h (halves-and-end e (wordsOf (reasonIn (c .sight) associations e)))
+
+  pub length-told : c .why ≡ true → length (columnLine c associations e) ≡ length (when e) + (length (change e 32) + length end)
+  length-told h =
+      ap length (told h)
+      ∙ length-append (when e) (change e 32 ++ end)
+      ∙ ap (λ (n : ℕ). length (when e) + n) (length-append (change e 32) end)
+
+-- in any case its first half stands at the front
+pub length-when-first : (c : Column) (associations : List ℕ) (e : Event) → length (when e) ≤ length (columnLine c associations e)
+length-when-first c associations e = go (c .why) refl
+  where
+    go : (b : Bool) → c .why ≡ b → length (when e) ≤ length (columnLine c associations e)
+    go true h = omega (arith, length-told c associations e h)
+    go false h = omega (arith, length-plain c associations e h)
 
 -- ## The fields of each half, and of a word with its number
 
@@ -29,10 +79,10 @@ module _ (e : Event) where
       length-append (decimal (e .seq) ++ ascii " ") (decimal (e .scan) ++ ascii " " ++ last)
       ∙ ap (λ (n : ℕ). length (decimal (e .seq) ++ ascii " ") + n) (length-append (decimal (e .scan) ++ ascii " ") last)
 
-  pub length-change : length (change e) ≡ length (name (e .from) ++ ascii " ") + (length (name (e .to) ++ ascii " ") + length (decimal (e .«first_out») ++ ascii "\n"))
+  pub length-change : (end : ℕ) → length (change e end) ≡ length (name (e .from) ++ ascii " ") + (length (name (e .to) ++ ascii " ") + length (decimal (e .«first_out») ++ (end ∷ [])))
   unfolding change
-  length-change =
-      let last = decimal (e .«first_out») ++ ascii "\n" in
+  length-change end =
+      let last = decimal (e .«first_out») ++ (end ∷ []) in
       length-append (name (e .from) ++ ascii " ") (name (e .to) ++ ascii " " ++ last)
       ∙ ap (λ (n : ℕ). length (name (e .from) ++ ascii " ") + n) (length-append (name (e .to) ++ ascii " ") last)
 
@@ -71,17 +121,18 @@ length-refusal n p = ap length (refusal-pieces n p) ∙ length-append (total (as
 
 -- ## A loop over records: the lines that are left from record i on
 
-abbrev pub left : List Event → (i : ℕ) → List ℕ
-left es i = lines (drop i es)
+module _ (line : Event → List ℕ) where
+  abbrev pub left : List Event → (i : ℕ) → List ℕ
+  left es i = flatMap line (drop i es)
 
-module _ (es : List Event) (i : ℕ) (d : Event) (more : i < length es) where
-  pub left-turn : left es i ≡ line (getD es i d) ++ left es (i + 1)
+  module _ (es : List Event) (i : ℕ) (d : Event) (more : i < length es) where
+    pub left-turn : left es i ≡ line (getD es i d) ++ left es (i + 1)
+    unfolding flatMap
+    left-turn = rw (add-one, drop-cons es i d)
+
+    pub left-length : length (left es i) ≡ length (line (getD es i d)) + length (left es (i + 1))
+    left-length = ap length left-turn ∙ length-append (line (getD es i d)) (left es (i + 1))
+
+  pub left-none : (es : List Event) (i : ℕ) → length es ≤ i → left es i ≡ []
   unfolding flatMap
-  left-turn = rw (add-one, drop-cons es i d)
-
-  pub left-length : length (left es i) ≡ length (line (getD es i d)) + length (left es (i + 1))
-  left-length = ap length left-turn ∙ length-append (line (getD es i d)) (left es (i + 1))
-
-pub left-none : (es : List Event) (i : ℕ) → length es ≤ i → left es i ≡ []
-unfolding flatMap
-left-none es i h = rw drop-of-length-le
+  left-none es i h = rw drop-of-length-le

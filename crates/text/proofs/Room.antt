@@ -1,9 +1,10 @@
 -- How many bytes lines have at most.
+use mathlib.Core.Bool.{Bool, true, false, cond}
 use mathlib.Core.List.{List, [], _∷_, flatMap}
-use Prim.Native.Nat.{ℕ, _+_, _*_, _^_, _≤_, _<_}
+use Prim.Native.Nat.{ℕ, _+_, _-_, _*_, _^_, _≤_, _<_}
 use native.Mathlib.Omega.{arith}
 use lib.Dec.{lit≤}
-use lib.ListN.{length, length-append}
+use lib.ListN.{length, getD, length-append}
 use Rattle.bits.specs.Numbers.{Bytes}
 use Rattle.bits.proofs.Decimal.{length-decimal, length-of-32-bits, length-of-64-bits}
 use Rattle.bits.proofs.Numbers.{num-lt}
@@ -12,7 +13,14 @@ use Rattle.rules.specs.declared.EffectState.the-variants.{Tripped, WaitReset, R
 use Rattle.effects.specs.declared.Event.{Event}
 use Rattle.effects.specs.Records.{recordLength, StandsAt, StandFrom}
 use Rattle.effects.proofs.Records.{fields-of, stand-first, stand-rest}
-use Rattle.text.specs.Text.{name, line, lines, lastLine, refusalLine}
+use Rattle.reasons.specs.Given.{Narrow}
+use Rattle.reasons.specs.Reasons.{reasonIn}
+use Rattle.reasons.proofs.Bounds.{narrow-reason}
+use Rattle.wording.specs.Text.{wordsOf, mostWords}
+use Rattle.wording.proofs.Room.{words-at-most}
+use Rattle.text.specs.declared.Column.{Column}
+use Rattle.text.specs.Pieces.{further, columnLine, columnLines}
+use Rattle.text.specs.Text.{name, lineWith, lastLine, refusalLine}
 use Rattle.text.specs.Room.{mostLine, mostPiece}
 
 pub name-at-most : (p : EffectState) → length (name p) ≤ 10
@@ -24,26 +32,63 @@ name-at-most WaitStart = lit≤ tt
 name-at-most Normal = lit≤ tt
 name-at-most Delayed = lit≤ tt
 
-pub line-at-most : (e : Event) → e .seq < 256 ^ 2 → e .scan < 256 ^ 4 → e .effect < 256 ^ 1 → e .«first_out» < 256 ^ 2 → length (line e) ≤ mostLine
-unfolding line
-line-at-most e s c i f =
-    let q = length-decimal 4 (e .seq) (omega arith) in
-    let r = length-of-32-bits (e .scan) (omega arith) in
-    let t = length-decimal 2 (e .effect) (omega arith) in
-    let u = length-decimal 4 (e .«first_out») (omega arith) in
+-- an event whose numbers fit their fields
+record InFields (e : Event) : Type 0 where
+  pub seq : e .seq < 256 ^ 2
+  pub scan : e .scan < 256 ^ 4
+  pub effect : e .effect < 256 ^ 1
+  pub first-out : e .«first_out» < 256 ^ 2
+
+plain-at-most : (e : Event) → InFields e → length (lineWith e []) ≤ mostLine
+unfolding lineWith
+plain-at-most e f =
+    let q = length-decimal 4 (e .seq) (omega (arith, f .seq)) in
+    let r = length-of-32-bits (e .scan) (omega (arith, f .scan)) in
+    let t = length-decimal 2 (e .effect) (omega (arith, f .effect)) in
+    let u = length-decimal 4 (e .«first_out») (omega (arith, f .first-out)) in
     simp length-append (omega (arith, name-at-most (e .from), name-at-most (e .to)))
 
--- the line of a record that stands in a list of bytes has at most `mostLine` bytes
-record-at-most : (s : List ℕ) → Bytes s → (at : ℕ) (e : Event) → StandsAt s at e → length (line e) ≤ mostLine
-record-at-most s b at e h =
-    let f = fields-of s at e h in
-    line-at-most e (rw (f .seq) at (num-lt 2 s at b)) (rw (f .scan) at (num-lt 4 s (at + 2) b)) (rw (f .effect) at (num-lt 1 s (at + 6) b)) (rw (f .first-out) at (num-lt 2 s (at + 10) b))
+told-at-most : (e : Event) (field : List ℕ) → InFields e → length field ≤ mostWords → length (lineWith e (field ∷ [])) ≤ mostLine
+unfolding lineWith
+told-at-most e field f w =
+    let q = length-decimal 4 (e .seq) (omega (arith, f .seq)) in
+    let r = length-of-32-bits (e .scan) (omega (arith, f .scan)) in
+    let t = length-decimal 2 (e .effect) (omega (arith, f .effect)) in
+    let u = length-decimal 4 (e .«first_out») (omega (arith, f .first-out)) in
+    simp length-append (omega (arith, name-at-most (e .from), name-at-most (e .to), w))
 
-pub lines-at-most : (s : List ℕ) → Bytes s → (at : ℕ) (es : List Event) → StandFrom s at es → length (lines es) ≤ mostLine * length es
-unfolding flatMap
-lines-at-most s b at [] h = omega arith
-lines-at-most s b at (e ∷ es) h =
-    omega (arith, length-append (line e) (lines es), record-at-most s b at e (stand-first s at e es h), lines-at-most s b (at + recordLength) es (stand-rest s at e es h))
+module _ (c : Column) (narrow : Narrow (c .sight)) (associations : List ℕ) where
+  -- the words of a record's reason
+  reason-at-most : (e : Event) → length (wordsOf (reasonIn (c .sight) associations e)) ≤ mostWords
+  reason-at-most e =
+      let small = narrow-reason (c .sight) narrow (getD associations (e .effect - 1) 0) (e .effect - 1) (e .from) (e .to) 0 in
+      words-at-most (reasonIn (c .sight) associations e) (small .0) (omega (arith, small .1))
+
+  line-at-most : (e : Event) → InFields e → length (columnLine c associations e) ≤ mostLine
+  unfolding further
+  line-at-most e f = go (c .why)
+    where
+      go : (b : Bool) → length (lineWith e (cond b (wordsOf (reasonIn (c .sight) associations e) ∷ []) [])) ≤ mostLine
+      go true = told-at-most e _ f (reason-at-most e)
+      go false = plain-at-most e f
+
+  -- the line of a record that stands in a list of bytes has at most `mostLine` bytes
+  record-at-most : (s : List ℕ) → Bytes s → (at : ℕ) (e : Event) → StandsAt s at e → length (columnLine c associations e) ≤ mostLine
+  record-at-most s b at e h =
+      let f = fields-of s at e h in
+      line-at-most e
+      (record {
+        seq = rw (f .seq) at (num-lt 2 s at b);
+        scan = rw (f .scan) at (num-lt 4 s (at + 2) b);
+        effect = rw (f .effect) at (num-lt 1 s (at + 6) b);
+        first-out = rw (f .first-out) at (num-lt 2 s (at + 10) b);
+      })
+
+  pub lines-at-most : (s : List ℕ) → Bytes s → (at : ℕ) (es : List Event) → StandFrom s at es → length (columnLines c associations es) ≤ mostLine * length es
+  unfolding flatMap
+  lines-at-most s b at [] h = omega arith
+  lines-at-most s b at (e ∷ es) h =
+      omega (arith, length-append (columnLine c associations e) (columnLines c associations es), record-at-most s b at e (stand-first s at e es h), lines-at-most s b (at + recordLength) es (stand-rest s at e es h))
 
 -- the other lines have at most `mostPiece` bytes
 pub last-at-most : (r s l x : ℕ) → r < 2 ^ 32 → s < 2 ^ 32 → l < 2 ^ 32 → x < 2 ^ 32 → length (lastLine r s l x) ≤ mostPiece

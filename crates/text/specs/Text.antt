@@ -13,9 +13,14 @@ lineOf [] = ascii "\n"
 lineOf (f ∷ []) = f ++ ascii "\n"
 lineOf (f ∷ g ∷ fs) = f ++ ascii " " ++ lineOf (g ∷ fs)
 
--- the first line
-unfoldable pub header : List ℕ
-header = ascii "seq scan effect from to first\n"
+-- the first line: the names of the columns, and of those that stand behind them
+unfoldable pub headerWith : (further : List (List ℕ)) → List ℕ
+headerWith further =
+    lineOf ((ascii "seq" ∷ ascii "scan" ∷ ascii "effect" ∷ ascii "from" ∷ ascii "to" ∷ ascii "first" ∷ []) ++ further)
+
+-- that of document 01
+abbrev pub header : List ℕ
+header = headerWith []
 
 -- the name of a state
 unfoldable pub name : EffectState → List ℕ
@@ -26,11 +31,15 @@ name WaitStart = ascii "wait-start"
 name Normal = ascii "normal"
 name Delayed = ascii "delayed"
 
--- the line of an event record
-unfoldable pub line : Event → List ℕ
-line e =
+-- the line of an event record: its fields, and those that stand behind them
+unfoldable pub lineWith : Event → (further : List (List ℕ)) → List ℕ
+lineWith e further =
     lineOf
-    (decimal (e .seq) ∷ decimal (e .scan) ∷ decimal (e .effect) ∷ name (e .from) ∷ name (e .to) ∷ decimal (e .«first_out») ∷ [])
+    ((decimal (e .seq) ∷ decimal (e .scan) ∷ decimal (e .effect) ∷ name (e .from) ∷ name (e .to) ∷ decimal (e .«first_out») ∷ []) ++ further)
+
+-- that of document 01
+abbrev pub line : Event → List ℕ
+line e = lineWith e []
 
 -- the lines of event records, one after the other
 abbrev pub lines : List Event → List ℕ

@@ -10,7 +10,7 @@ use Rattle.listing.proofs.opening.Tie as tie
 returns : tie.Need-returns
 returns c =
     let a = c .before .before .before .args in
-    let w = full (now (a .out)) (a .at) _ (c .before .has-room .ensures) (opening (a .reading .answer)) (c .if1 .taken) in
+    let w = full (now (a .out)) (a .at) _ (c .before .has-room .ensures) (opening (a .why) (a .reading .answer)) (c .if1 .taken) in
     (w .0, (w .1, (λ h. h)))
 
 put-opening-requires : tie.Need-put-opening-requires
@@ -23,7 +23,7 @@ returns-2 c =
     let k = c .before .before .before .before in
     let a = k .before .before .before .args in
     let p = c .before .before .put-opening .ensures in
-    let w = whole (now (a .out)) (a .at) _ (k .before .has-room .ensures) (opening (a .reading .answer)) (k .if1 .left) _ _ (p .0 .0) (p .0 .1) in
+    let w = whole (now (a .out)) (a .at) _ (k .before .has-room .ensures) (opening (a .why) (a .reading .answer)) (k .if1 .left) _ _ (p .0 .0) (p .0 .1) in
     (w .0, (w .1, (λ h. p .1)))
 
 pub opening-spec : {M : Type 1} → statement M

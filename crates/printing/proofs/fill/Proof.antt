@@ -10,10 +10,10 @@ use Rattle.printing.proofs.fill.Statement.{statement}
 use Rattle.printing.proofs.fill.Tie as tie
 
 abbrev Inv-loop : tie.InvT-loop
-Inv-loop s board₀ out₀ from t₀ at₀ board out t at = Filling s t₀ from out₀ t board at out
+Inv-loop s board₀ out₀ from why t₀ at₀ board out t at = Filling why s t₀ from out₀ t board at out
 
 abbrev μ-loop : tie.MeasureT-loop
-μ-loop s board₀ out₀ from t₀ at₀ board out t at = rowCount (reading s .answer) - t .rows
+μ-loop s board₀ out₀ from why t₀ at₀ board out t at = rowCount (reading s .answer) - t .rows
 
 loop-holds : tie.Need-loop-holds Inv-loop μ-loop
 loop-holds c = let start = c .before .before in begins (start .pre) (start .args .from) (now (start .args .out))

@@ -57,8 +57,8 @@ print-rows-requires c κs =
     let e = opened-of k .opening .ensures in
     let is = begun .begin .ensures in
     let none = ap (λ (u : Totals). u .rows) (is .totals) in
-    let opened = opening-put (now (start-of k .args .s)) (now (start-of k .args .out)) _ (start-of k .pre .roomy) {r = opened-of k .opening .result} (e .0) (e .1 .0) (within k) (same-answer k) in
-    ((begins (rw (same-settings k) at is) (same-answer k ∙ answered .answer .given .1), opened ∙ so-far-at-first (now (start-of k .args .s)) none), (omega (arith, within k), same-buffer k))
+    let opened = opening-put (start-of k .args .why) (now (start-of k .args .s)) (now (start-of k .args .out)) _ (start-of k .pre .roomy) {r = opened-of k .opening .result} (e .0) (e .1 .0) (within k) (same-answer k) in
+    ((begins (rw (same-settings k) at is) (same-answer k ∙ answered .answer .given .1), opened ∙ so-far-at-first (start-of k .args .why) (now (start-of k .args .s)) none), (omega (arith, within k), same-buffer k))
 
 write-rest-requires : tie.Need-write-rest-requires
 write-rest-requires c κs =
@@ -69,8 +69,8 @@ write-rest-requires c κs =
     let s = now (start-of k .args .s) in
     let e = opened-of k .opening .ensures in
     let refused = same-answer k ∙ is .1 in
-    let opened = opening-put s (now (start-of k .args .out)) _ (start-of k .pre .roomy) {r = opened-of k .opening .result} (e .0) (e .1 .0) (within k) (same-answer k) in
-    let all = a-refused-file-is-its-opening s (λ z. refusal-number s _ _ refused (sym (ap number refused) ∙ z)) in
+    let opened = opening-put (start-of k .args .why) s (now (start-of k .args .out)) _ (start-of k .pre .roomy) {r = opened-of k .opening .result} (e .0) (e .1 .0) (within k) (same-answer k) in
+    let all = a-refused-file-is-its-opening (start-of k .args .why) s (λ z. refusal-number s _ _ refused (sym (ap number refused) ∙ z)) in
     ((starts nothing (opened ∙ all), number-of-refused s _ _ refused), (omega (arith, within k), same-buffer k, omega (arith, nothing .1)))
 
 pub print-spec : {M : Type 1} → statement M

@@ -11,10 +11,10 @@ use Rattle.printing.proofs.print_rows.Statement.{statement}
 use Rattle.printing.proofs.print_rows.Tie as tie
 
 abbrev Inv-loop : tie.InvT-loop
-Inv-loop s board₀ out₀ from sent₀ p₀ board out sent p = Poured (length out₀) s sent p board out
+Inv-loop s board₀ out₀ from why sent₀ p₀ board out sent p = Poured why (length out₀) s sent p board out
 
 abbrev μ-loop : tie.MeasureT-loop
-μ-loop s board₀ out₀ from sent₀ p₀ board out sent p = left s p
+μ-loop s board₀ out₀ from why sent₀ p₀ board out sent p = left s p
 
 fill-requires : tie.Need-fill-requires Inv-loop μ-loop
 fill-requires c κs = c .before .before .before .before .before .pre .0 .0

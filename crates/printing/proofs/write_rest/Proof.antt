@@ -5,7 +5,7 @@ use native.Mathlib.Omega.{arith}
 use denote.Ref.{now}
 use lib.Seq.{length-take-le}
 use borrow.Author.Needs.{needs}
-use Rattle.listing.specs.Listing.{listing}
+use Rattle.listing.specs.Printed.{listingOf}
 use Rattle.printing.proofs.Parts.{next, told}
 use Rattle.printing.proofs.write_rest.Statement.{statement}
 use Rattle.printing.proofs.write_rest.Tie as tie
@@ -15,7 +15,7 @@ flush-requires c κs =
     let start = c .before .before .before in
     let a = start .args in
     let w = start .pre .0 .0 in
-    ((w .written, next w [] (append-nil (listing (now (a .s))))), omega (arith, length-take-le (a .at) (now (a .out)) (start .pre .1 .0)))
+    ((w .written, next w [] (append-nil (listingOf (a .why) (now (a .s))))), omega (arith, length-take-le (a .at) (now (a .out)) (start .pre .1 .0)))
 
 returns : tie.Need-returns
 returns c =

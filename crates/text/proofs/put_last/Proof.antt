@@ -9,7 +9,7 @@ use Rattle.bits.specs.Decimal.{ascii}
 use Rattle.text.specs.Room.{mostPiece}
 use Rattle.text.specs.Pieces.{total}
 use Rattle.text.proofs.Lines.{last-pieces, length-last}
-use Rattle.text.proofs.Puts.{put-then}
+use Rattle.bits.proofs.Puts.{put-then}
 use Rattle.text.proofs.Room.{last-at-most}
 use Rattle.text.proofs.put_last.Statement.{statement}
 use Rattle.text.proofs.put_last.Tie as tie

@@ -8,7 +8,7 @@ use Rattle.bits.specs.Decimal.{ascii}
 use Rattle.text.specs.Room.{mostPiece}
 use Rattle.text.specs.Pieces.{total}
 use Rattle.text.proofs.Lines.{refusal-pieces, length-refusal}
-use Rattle.text.proofs.Puts.{put-then}
+use Rattle.bits.proofs.Puts.{put-then}
 use Rattle.text.proofs.Room.{refusal-at-most}
 use Rattle.text.proofs.put_refusal.Statement.{statement}
 use Rattle.text.proofs.put_refusal.Tie as tie

@@ -1,4 +1,4 @@
--- The buffer that the program lends for what is printed.
+-- The buffer that a program lends for what is printed.
 use Prim.Native.Nat.{ℕ, _≤_}
 use mathlib.Core.List.{List}
 use lib.ListN.{length}
