@@ -1,0 +1,2 @@
+pub mod Now
+pub mod Lines
