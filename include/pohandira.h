@@ -1,14 +1,16 @@
 /*
- * Replays recordings of shutdown logic, and adds up season totals over many, for C99 and C++. The functions of the library are proved.
+ * Replays recordings of shutdown logic, tells why each effect is in its state, and adds up season totals over many recordings, for C99 and
+ * C++. The functions of the library are proved.
  * "Document 01" is the owner's requirement; docs/FORMAT.md says all of it: the recording byte by byte, the rules, the event records and the
- * refusals. Season totals are "document 02", L1, and Bad causes L3, which it says too.
+ * refusals. Season totals are "document 02", L1, Bad causes L3, and reasons L4, which it says too.
  * The static library is target/staticlib/libpohandira.a (`rt staticlib pohandira`), for x86-64 Linux.
  *
  * What is asked of the caller, and nothing else: no pointer is null, even where its length is 0; the bytes that a pointer and
  * its length name can be read, or written for an output; and no two of the buffers overlap. Any bytes at all get an answer.
  * Nothing is kept between calls and nothing is allocated, so several threads may call at once, each with outputs of its own.
  *
- * Every number that crosses is 8 bytes, big-endian; an event record is 12 bytes, big-endian. The readers below take both apart.
+ * Every number that crosses is 8 bytes, big-endian; an event record is 12 bytes and a reason 8, big-endian. The readers below take them
+ * apart.
  * Bytes of an output past what a function says that it writes stay as they were.
  */
 #ifndef POHANDIRA_H
@@ -28,7 +30,7 @@ extern "C" {
  * later version is a greater number. It is compared with pohandira_version(), the library's own: records, totals and reports may grow,
  * and then a program that was compiled with another header must not read them.
  */
-#define POHANDIRA_VERSION 3000 /* 0.3.0 */
+#define POHANDIRA_VERSION 4000 /* 0.4.0 */
 
 uint32_t pohandira_version(void);
 
@@ -38,6 +40,8 @@ uint32_t pohandira_version(void);
 #define POHANDIRA_TOTALS_BYTES 56       /* the totals of pohandira_count and pohandira_replay: 7 numbers */
 #define POHANDIRA_RECORD_BYTES 12       /* one event record */
 #define POHANDIRA_ROW_RECORDS_BYTES 384 /* room for the records of one row, always enough: two for each of 16 effects */
+#define POHANDIRA_REASON_BYTES 8        /* the reason of an effect's state */
+#define POHANDIRA_ROW_REASONS_BYTES 256 /* room for the reasons of one row's records, always enough */
 #define POHANDIRA_REPORT_BYTES 904      /* the report of pohandira_season: 113 numbers */
 #define POHANDIRA_MOST_BYTES 49258      /* the largest recording */
 
@@ -152,6 +156,30 @@ uint8_t pohandira_replay(const uint8_t *recording, size_t length, uint8_t *recor
  */
 uint8_t pohandira_season(const uint8_t *recording, size_t length, uint8_t *report, size_t report_room);
 
+/*
+ * Tells why the effect of each event record is in its new state, after the record's own scan (document 02, L4). The result is 0 or the
+ * refusal number: 1 to 7, else 9, else 10 if reasons_room is below POHANDIRA_REASON_BYTES times the records due, which pohandira_count tells.
+ *
+ * On 0 the reasons stand at the start of `reasons`, in the order of the records that pohandira_replay writes. On a refusal no byte of
+ * `reasons` is touched. (Its place is told by pohandira_count.) No record has the kind POHANDIRA_DELAY_RUNNING or POHANDIRA_AT_REST: these
+ * are of effects that stay.
+ *
+ * A room of POHANDIRA_ROW_REASONS_BYTES for each row is always enough, and so is one of 16 bytes for each row and effect. With
+ * that much the rows are run once; with less, even if it is enough, they are run once more before, to count the records.
+ */
+uint8_t pohandira_reasons(const uint8_t *recording, size_t length, uint8_t *reasons, size_t reasons_room);
+
+/*
+ * Tells why each effect is in its state after the last scan of a recording, whether it changed there or stays. The result is 0 or the
+ * refusal number: 1 to 7, else 9, else 10 if reasons_room is below POHANDIRA_REASON_BYTES times the effects of the recording.
+ *
+ * On 0 the reasons stand at the start of `reasons`, from effect 1 to the effect count, which pohandira_effect_count reads. On a refusal no
+ * byte of `reasons` is touched. (Its place is told by pohandira_count.) A room for POHANDIRA_MOST_EFFECTS reasons is always enough.
+ *
+ * The state that a reason explains, and its first-out, are those of the effect's last record; an effect without one is Tripped, with 0.
+ */
+uint8_t pohandira_now(const uint8_t *recording, size_t length, uint8_t *reasons, size_t reasons_room);
+
 /* ---- Readers ---- */
 
 /* An effect's state, in a record and in a report. */
@@ -173,6 +201,64 @@ static inline const char *pohandira_state_name(unsigned code) {
     case POHANDIRA_WAIT_START: return "wait-start";
     case POHANDIRA_NORMAL: return "normal";
     case POHANDIRA_DELAYED: return "delayed";
+    default: return "unknown";
+    }
+}
+
+/* The kind of a reason (docs/FORMAT.md, "Reasons"). */
+enum {
+    POHANDIRA_FORCED_TRIPPED = 0,
+    POHANDIRA_FORCED_NORMAL = 1,
+    POHANDIRA_BAD = 2,           /* with the Bad causes */
+    POHANDIRA_ACTIVE = 3,        /* with the active causes */
+    POHANDIRA_DELAY_RUNNING = 4, /* with the milliseconds left */
+    POHANDIRA_DELAY_ENDED = 5,
+    POHANDIRA_WAITING = 6, /* with the thing that is missing */
+    POHANDIRA_CLEARED = 7, /* an unforced change to Normal */
+    POHANDIRA_AT_REST = 8  /* an unforced Normal that stays */
+};
+
+/* What is missing where an effect waits. */
+enum {
+    POHANDIRA_NOTHING_MISSING = 0, /* it does not wait */
+    POHANDIRA_RESET_PERMIT_MISSING = 1,
+    POHANDIRA_RESET_MISSING = 2,
+    POHANDIRA_START_PERMIT_MISSING = 3
+};
+
+/* Why an effect is in its state after a scan. What a reason does not have is 0, and what it has is not. */
+struct pohandira_reason {
+    uint8_t kind;
+    uint8_t missing;
+    uint16_t causes; /* bit 0 is cause 1 */
+    uint32_t milliseconds;
+};
+
+/* The words of a waiting effect's reason, by what is missing; "unknown" for a thing that is none. */
+static inline const char *pohandira_waiting_text(unsigned missing) {
+    switch (missing) {
+    case POHANDIRA_RESET_PERMIT_MISSING: return "waiting reset permit";
+    case POHANDIRA_RESET_MISSING: return "waiting reset";
+    case POHANDIRA_START_PERMIT_MISSING: return "waiting start permit";
+    default: return "unknown";
+    }
+}
+
+/*
+ * A reason in words, as a listing has it, but for its causes or milliseconds, which stand behind the words in decimal; "unknown" for one
+ * that no function here answers.
+ */
+static inline const char *pohandira_reason_text(struct pohandira_reason reason) {
+    switch (reason.kind) {
+    case POHANDIRA_FORCED_TRIPPED: return "forced tripped";
+    case POHANDIRA_FORCED_NORMAL: return "forced normal";
+    case POHANDIRA_BAD: return "Bad";
+    case POHANDIRA_ACTIVE: return "active";
+    case POHANDIRA_DELAY_RUNNING: return "delay running";
+    case POHANDIRA_DELAY_ENDED: return "delay ended";
+    case POHANDIRA_WAITING: return pohandira_waiting_text(reason.missing);
+    case POHANDIRA_CLEARED: return "cleared";
+    case POHANDIRA_AT_REST: return "at rest";
     default: return "unknown";
     }
 }
@@ -253,6 +339,22 @@ static inline struct pohandira_event pohandira_event_at(const uint8_t *records, 
     event.after = record[8];
     event.first_out = (uint16_t)pohandira_number(record + 10, 2);
     return event;
+}
+
+/* Reason `index` of those that pohandira_reasons or pohandira_now has written, from 0. */
+static inline struct pohandira_reason pohandira_reason_at(const uint8_t *reasons, size_t index) {
+    const uint8_t *bytes = reasons + POHANDIRA_REASON_BYTES * index;
+    struct pohandira_reason reason;
+    reason.kind = bytes[0];
+    reason.missing = bytes[1];
+    reason.causes = (uint16_t)pohandira_number(bytes + 2, 2);
+    reason.milliseconds = (uint32_t)pohandira_number(bytes + 4, 4);
+    return reason;
+}
+
+/* How many effects a recording has. It must be one that no function refuses: other bytes may end before that. */
+static inline size_t pohandira_effect_count(const uint8_t *recording) {
+    return (size_t)pohandira_number(recording + 6, 2);
 }
 
 #ifdef __cplusplus

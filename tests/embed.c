@@ -5,8 +5,9 @@
  *     embed checks            cases whose answers were worked out by hand from document 01
  *     embed list < CASES      the listing of each recording in a stream of cases, as `second answer replay` prints it
  *     embed season < CASES    the report of each case with its recording added, as `second answer season` prints it
+ *     embed reasons < CASES   the reasons of each recording in a stream of cases in bytes, as `second reasons` prints them
  *
- * In the last three, every byte of every lent buffer is compared, and so are the bytes before and after it: what a call doesn't say
+ * In the last four, every byte of every lent buffer is compared, and so are the bytes before and after it: what a call doesn't say
  * that it writes has to stay as it was. Exit status 1 if anything is wrong; it then says what.
  */
 #include "pohandira.h"
@@ -66,6 +67,13 @@ struct file {
     size_t length;
 };
 
+/* A lent buffer that holds a file. */
+static uint8_t *lend_file(struct file file) {
+    uint8_t *given = lend(file.length);
+    memcpy(given, file.bytes, file.length);
+    return given;
+}
+
 /* What a replay has to answer. On a refusal, which has a refusal number and a place alone, all else is 0. */
 struct answer {
     uint64_t totals[7];
@@ -78,9 +86,8 @@ static struct answer refused(uint64_t number, uint64_t place) {
 }
 
 static void check_as(const char *name, struct file file, size_t room, uint64_t number, uint64_t place, uint64_t rows) {
-    uint8_t *given = lend(file.length), *answer = lend(room), expected[POHANDIRA_CHECK_BYTES];
+    uint8_t *given = lend_file(file), *answer = lend(room), expected[POHANDIRA_CHECK_BYTES];
     at_hand = name;
-    memcpy(given, file.bytes, file.length);
     put_number(expected, 8, number), put_number(expected + 8, 8, place), put_number(expected + 16, 8, rows);
     unsigned result = pohandira_check(given, file.length, answer, room);
     if (result != number) fail("the result of the check");
@@ -96,9 +103,8 @@ static int hold_numbers(uint8_t *totals, size_t room, const uint64_t numbers[7])
 }
 
 static void count_as(const char *name, struct file file, size_t room, struct answer answer) {
-    uint8_t *given = lend(file.length), *totals = lend(room);
+    uint8_t *given = lend_file(file), *totals = lend(room);
     at_hand = name;
-    memcpy(given, file.bytes, file.length);
     unsigned result = pohandira_count(given, file.length, totals, room);
     if (result != answer.totals[POHANDIRA_NUMBER]) fail("the result of the count");
     if (!hold_numbers(totals, room, answer.totals)) fail("the totals of the count");
@@ -106,9 +112,8 @@ static void count_as(const char *name, struct file file, size_t room, struct ans
 }
 
 static void replay_as(const char *name, struct file file, size_t records_room, size_t totals_room, struct answer answer) {
-    uint8_t *given = lend(file.length), *records = lend(records_room), *totals = lend(totals_room);
+    uint8_t *given = lend_file(file), *records = lend(records_room), *totals = lend(totals_room);
     at_hand = name;
-    memcpy(given, file.bytes, file.length);
     unsigned result = pohandira_replay(given, file.length, records, records_room, totals, totals_room);
     if (result != answer.totals[POHANDIRA_NUMBER]) fail("the result of the replay");
     if (!holds(records, records_room, answer.records, POHANDIRA_RECORD_BYTES * answer.totals[POHANDIRA_RECORDS]))
@@ -129,11 +134,10 @@ static void put_report(uint8_t bytes[POHANDIRA_REPORT_BYTES], const struct repor
 /* Adds a file to as much of a report as the room takes; on 0 what the file adds has to be added, and else nothing. */
 static void season_as(const char *name, struct file file, const struct report *before, size_t room, unsigned number,
                       const struct report *added) {
-    uint8_t *given = lend(file.length), *lent = lend(room), expected[POHANDIRA_REPORT_BYTES];
+    uint8_t *given = lend_file(file), *lent = lend(room), expected[POHANDIRA_REPORT_BYTES];
     size_t size = room < POHANDIRA_REPORT_BYTES ? room : POHANDIRA_REPORT_BYTES;
     struct report after = *before;
     at_hand = name;
-    memcpy(given, file.bytes, file.length);
     put_report(expected, before), memcpy(lent, expected, size);
     for (size_t k = 0; number == 0 && k < POHANDIRA_REPORT_NUMBERS; k++) after.numbers[k] += added->numbers[k];
     put_report(expected, &after);
@@ -141,6 +145,43 @@ static void season_as(const char *name, struct file file, const struct report *b
     if (result != number) fail("the result of the season totals");
     if (!holds(lent, room, expected, size)) fail("the report");
     if (!holds(given, file.length, file.bytes, file.length)) fail("the season totals changed the recording");
+}
+
+/* pohandira_reasons or pohandira_now. */
+typedef uint8_t telling(const uint8_t *recording, size_t length, uint8_t *reasons, size_t room);
+
+/* What a telling has to write: the reasons' bytes. A refusal has none. */
+struct reasons {
+    const uint8_t *bytes;
+    size_t size;
+};
+
+static const struct reasons none = {NULL, 0};
+
+static void tell_as(const char *name, telling *tell, struct file file, size_t room, unsigned number, struct reasons reasons) {
+    uint8_t *given = lend_file(file), *lent = lend(room);
+    at_hand = name;
+    if (tell(given, file.length, lent, room) != number) fail("the result of the reasons");
+    if (!holds(lent, room, reasons.bytes, reasons.size)) fail("the reasons");
+    if (!holds(given, file.length, file.bytes, file.length)) fail("the reasons changed the recording");
+}
+
+/* Reasons of a file that is accepted: in just enough room, in more and in some other, and not in a byte less or in none. */
+static void tell_in_rooms(const char *name, telling *tell, struct file file, size_t other, struct reasons reasons) {
+    size_t enough[] = {reasons.size, reasons.size + 1, reasons.size + POHANDIRA_REASON_BYTES, reasons.size + other};
+    for (size_t i = 0; i < sizeof enough / sizeof enough[0]; i++) tell_as(name, tell, file, enough[i], 0, reasons);
+    if (!reasons.size) return;
+    tell_as(name, tell, file, reasons.size - 1, POHANDIRA_NO_ROOM, none);
+    tell_as(name, tell, file, 0, POHANDIRA_NO_ROOM, none);
+}
+
+/* A refusal of the recording itself comes before 10, and touches no byte, in room for nothing, for one reason and for those of a row. */
+static void tell_refused(const char *name, struct file file, unsigned number) {
+    static const size_t rooms[] = {0, POHANDIRA_REASON_BYTES, POHANDIRA_ROW_REASONS_BYTES};
+    for (size_t i = 0; i < sizeof rooms / sizeof rooms[0]; i++) {
+        tell_as(name, pohandira_reasons, file, rooms[i], number, none);
+        tell_as(name, pohandira_now, file, rooms[i], number, none);
+    }
 }
 
 /* ---- Cases by hand ---- */
@@ -245,6 +286,96 @@ static void try_season_limits(void) {
     }
 }
 
+/* ---- Reasons by hand ---- */
+
+/* One reason more in bytes. */
+static void put_reason(uint8_t **end, unsigned kind, unsigned missing, unsigned causes, uint32_t milliseconds) {
+    put_number(*end, 1, kind), put_number(*end + 1, 1, missing);
+    put_number(*end + 2, 2, causes), put_number(*end + 4, 4, milliseconds);
+    *end += POHANDIRA_REASON_BYTES;
+}
+
+static void put_plain(uint8_t **end, unsigned kind) { put_reason(end, kind, POHANDIRA_NOTHING_MISSING, 0, 0); }
+static void put_causes(uint8_t **end, unsigned kind, unsigned causes) { put_reason(end, kind, POHANDIRA_NOTHING_MISSING, causes, 0); }
+static void put_waiting(uint8_t **end, unsigned missing) { put_reason(end, POHANDIRA_WAITING, missing, 0, 0); }
+static void put_running(uint8_t **end, uint32_t left) { put_reason(end, POHANDIRA_DELAY_RUNNING, POHANDIRA_NOTHING_MISSING, 0, left); }
+
+static struct reasons reasons_from(const uint8_t *start, const uint8_t *end) { return (struct reasons){start, (size_t)(end - start)}; }
+
+/*
+ * Document 01's session: both effects start, cause 1 takes both out of Normal, and the delay of effect 2 runs out before the last scan.
+ * Rooms about the 16 bytes for each effect and row, with which the records are not counted before, are tried too.
+ */
+static void try_session_reasons(void) {
+    uint8_t bytes[7 * POHANDIRA_REASON_BYTES], *end = bytes, *last; /* of five records and two effects */
+    put_plain(&end, POHANDIRA_CLEARED), put_plain(&end, POHANDIRA_CLEARED);
+    put_causes(&end, POHANDIRA_ACTIVE, 1), put_causes(&end, POHANDIRA_ACTIVE, 1), put_plain(&end, POHANDIRA_DELAY_ENDED);
+    last = end;
+    put_causes(&end, POHANDIRA_ACTIVE, 1), put_causes(&end, POHANDIRA_ACTIVE, 1);
+    struct reasons records = reasons_from(bytes, last), now = reasons_from(last, end);
+    for (size_t room = 63; room <= 65; room++) tell_as("session, reasons", pohandira_reasons, session, room, 0, records);
+    tell_in_rooms("session, reasons", pohandira_reasons, session, 2 * POHANDIRA_ROW_REASONS_BYTES, records);
+    tell_in_rooms("session, reasons after the last scan", pohandira_now, session, POHANDIRA_ROW_REASONS_BYTES, now);
+}
+
+/* The bit of a cause or an effect. */
+#define BIT(number) (1u << ((number) - 1))
+
+static uint8_t *put_row(uint8_t *p, uint64_t hold, const unsigned words[10]) {
+    put_number(p, 4, hold), p += 4;
+    for (size_t i = 0; i < 10; i++, p += 2) put_number(p, 2, words[i]);
+    return p;
+}
+
+/*
+ * Eleven effects, of which the last scan leaves each with a reason of its own. The options permit every force, so that row 1 brings effects
+ * to Normal or keeps them Tripped. In row 2, of two scans, cause 2 is tripped. In row 3 cause 3 is Bad too, and effect 9 may start.
+ */
+static const struct { unsigned causes, delay; } reasoned[] = {
+    {BIT(1), 0}, {BIT(1), 0}, {BIT(2), 0}, {BIT(2), 350}, {BIT(1), 0}, {BIT(1), 0},
+    {BIT(1), 0}, {BIT(1), 0}, {BIT(1), 0}, {BIT(2), 200}, {BIT(3), 0},
+};
+enum { REASONED = sizeof reasoned / sizeof reasoned[0], REASONED_ROWS = 3, REASONED_RECORDS = 18 };
+enum { REASONED_BYTES = 10 + 6 * REASONED + 24 * REASONED_ROWS };
+
+static struct file reasoned_file(uint8_t bytes[REASONED_BYTES]) {
+    enum { CLEAR = BIT(1) | BIT(2) | BIT(3), TRIPPED = BIT(1) | BIT(3) };
+    enum { ALL = BIT(REASONED + 1) - 1, OFF = BIT(6) | BIT(7) | BIT(8) | BIT(9) };
+    /* docs/FORMAT.md, "Row": values, Bad, mask, require reset, reset permit, start permit, reset, force permit, force trip and normal. */
+    static const unsigned rows[REASONED_ROWS][10] = {
+        {CLEAR, 0, 0, 0, 0, 0, 0, 0, OFF, ALL - OFF},
+        {TRIPPED, 0, 0, BIT(6) | BIT(7), BIT(7), 0, 0, 0, BIT(1), BIT(2)},
+        {TRIPPED, BIT(3), 0, BIT(6) | BIT(7), BIT(7), BIT(9), 0, 0, BIT(1), BIT(2)},
+    };
+    uint8_t *p = bytes;
+    put_number(p, 2, 1), p[2] = 3, p[3] = 7, put_number(p + 4, 2, 100), put_number(p + 6, 2, REASONED), p += 8;
+    for (size_t i = 0; i < REASONED; i++, p += 6) put_number(p, 2, reasoned[i].causes), put_number(p + 2, 4, reasoned[i].delay);
+    put_number(p, 2, REASONED_ROWS), p += 2;
+    p = put_row(p, 1, rows[0]), p = put_row(p, 2, rows[1]), put_row(p, 1, rows[2]);
+    return (struct file){bytes, REASONED_BYTES};
+}
+
+static void try_every_reason(void) {
+    uint8_t bytes[REASONED_BYTES], told[(REASONED_RECORDS + REASONED) * POHANDIRA_REASON_BYTES], *end = told, *last;
+    struct file file = reasoned_file(bytes);
+    for (int i = 0; i < 7; i++) put_plain(&end, POHANDIRA_FORCED_NORMAL); /* scan 1: effects 1 to 5, 10 and 11 */
+    put_plain(&end, POHANDIRA_FORCED_TRIPPED);                            /* scan 2: effects 1, 3, 4, 6 to 10 */
+    put_causes(&end, POHANDIRA_ACTIVE, BIT(2)), put_causes(&end, POHANDIRA_ACTIVE, BIT(2));
+    put_waiting(&end, POHANDIRA_RESET_PERMIT_MISSING), put_waiting(&end, POHANDIRA_RESET_MISSING);
+    put_waiting(&end, POHANDIRA_START_PERMIT_MISSING), put_waiting(&end, POHANDIRA_START_PERMIT_MISSING);
+    put_causes(&end, POHANDIRA_ACTIVE, BIT(2));
+    put_plain(&end, POHANDIRA_CLEARED), put_plain(&end, POHANDIRA_DELAY_ENDED); /* scan 4: effects 9, 10 and 11 */
+    put_causes(&end, POHANDIRA_BAD, BIT(3));
+    last = end;
+    put_plain(&end, POHANDIRA_FORCED_TRIPPED), put_plain(&end, POHANDIRA_FORCED_NORMAL); /* after scan 4: effects 1 to 11 */
+    put_causes(&end, POHANDIRA_ACTIVE, BIT(2)), put_running(&end, 150), put_plain(&end, POHANDIRA_AT_REST);
+    put_waiting(&end, POHANDIRA_RESET_PERMIT_MISSING), put_waiting(&end, POHANDIRA_RESET_MISSING);
+    put_waiting(&end, POHANDIRA_START_PERMIT_MISSING), put_plain(&end, POHANDIRA_CLEARED);
+    put_plain(&end, POHANDIRA_DELAY_ENDED), put_causes(&end, POHANDIRA_BAD, BIT(3));
+    tell_in_rooms("every reason", pohandira_reasons, file, POHANDIRA_ROW_REASONS_BYTES * REASONED_ROWS, reasons_from(told, last));
+    tell_in_rooms("every reason after the last scan", pohandira_now, file, POHANDIRA_ROW_REASONS_BYTES, reasons_from(last, end));
+}
+
 /* ---- Refusals by hand ---- */
 
 /* A refusal of the recording itself comes before 10 and 11, and touches no byte of a report. */
@@ -261,6 +392,7 @@ static void season_refused(const char *name, struct file file, unsigned number) 
 static void try_refused(const char *name, struct file file, uint64_t number, uint64_t place) {
     static const size_t rooms[] = {0, 23, 24, 55, 56, 800};
     season_refused(name, file, (unsigned)number);
+    tell_refused(name, file, (unsigned)number);
     for (size_t i = 0; i < 6; i++) {
         check_as(name, file, rooms[i], number, place, 0);
         count_as(name, file, rooms[i], refused(number, place));
@@ -353,8 +485,13 @@ static void try_scans(uint8_t *bytes) {
     struct report added = empty;
     add_effect(&added, 1, 0, 1000000000, 0, 0);
     season_as("all scans, season totals", file, &added, POHANDIRA_REPORT_BYTES, 0, &added);
+    uint8_t told[2 * POHANDIRA_REASON_BYTES], *end = told;
+    put_plain(&end, POHANDIRA_CLEARED), put_plain(&end, POHANDIRA_AT_REST);
+    tell_in_rooms("all scans, reasons", pohandira_reasons, file, 16000, reasons_from(told, told + POHANDIRA_REASON_BYTES));
+    tell_in_rooms("all scans, reasons after the last", pohandira_now, file, 16000, reasons_from(told + POHANDIRA_REASON_BYTES, end));
     file = turns(bytes, 1, 0, 1001, 1000000, 1);
     season_refused("too many scans, season totals", file, 9);
+    tell_refused("too many scans, reasons", file, 9);
     replay_as("too many scans", file, 1001 * 384, 56, refused(9, 24016));
     replay_as("too many scans, no room for records", file, 0, 56, refused(9, 24016));
     replay_as("too many scans, no room for totals", file, 24024, 55, refused(9, 24016));
@@ -370,6 +507,21 @@ static uint8_t *put_event(uint8_t *p, uint64_t sequence, uint64_t scan, uint8_t 
     put_number(p, 2, sequence), put_number(p + 2, 4, scan);
     p[6] = effect, p[7] = before, p[8] = after, p[9] = 0, p[10] = 0, p[11] = first_out;
     return p + POHANDIRA_RECORD_BYTES;
+}
+
+/* The reasons of the largest recording: after its last scan they are those of the last 16 records. */
+static void try_largest_reasons(struct file file) {
+    uint8_t *told = allocated((size_t)1024 * 48 * POHANDIRA_REASON_BYTES), *end = told;
+    for (int turn = 0; turn < 1024; turn++) {
+        for (int e = 1; e <= 16; e++) put_plain(&end, POHANDIRA_CLEARED);
+        for (int e = 1; e <= 16; e++) put_causes(&end, POHANDIRA_ACTIVE, 1);
+        for (int e = 1; e <= 16; e++) put_plain(&end, POHANDIRA_DELAY_ENDED);
+    }
+    tell_in_rooms("largest recording, reasons", pohandira_reasons, file, (size_t)POHANDIRA_MOST_ROWS * POHANDIRA_ROW_REASONS_BYTES,
+                  reasons_from(told, end));
+    tell_in_rooms("largest recording, reasons after the last scan", pohandira_now, file, POHANDIRA_ROW_REASONS_BYTES,
+                  reasons_from(end - 16 * POHANDIRA_REASON_BYTES, end));
+    free(told);
 }
 
 /*
@@ -402,6 +554,7 @@ static void try_largest(uint8_t *bytes) {
     for (unsigned e = 1; e <= 16; e++) add_effect(&added, e, 1024, 3072, 2048, 1024);
     added.numbers[112] = 3072;
     season_as("largest recording, season totals", file, &empty, POHANDIRA_REPORT_BYTES, 0, &added);
+    try_largest_reasons(file);
 }
 
 static void same_text(const char *text, const char *expected) {
@@ -422,6 +575,32 @@ static void try_texts(void) {
     for (unsigned i = 0; i < sizeof states / sizeof states[0]; i++) same_text(pohandira_state_name(i), states[i]);
     same_text(pohandira_refusal_text((uint64_t)1 << 32), "unknown");
     same_text(pohandira_state_name(256), "unknown");
+}
+
+/* Every kind of reason and every missing thing in words, and those that are none. */
+static void try_reason_texts(void) {
+    static const char *const kinds[] = {
+        "forced tripped", "forced normal", "Bad", "active", "delay running", "delay ended", "unknown", "cleared", "at rest", "unknown",
+    };
+    static const char *const waiting[] = {"unknown", "waiting reset permit", "waiting reset", "waiting start permit", "unknown"};
+    struct pohandira_reason reason = {0, POHANDIRA_NOTHING_MISSING, 0, 0};
+    at_hand = "texts of reasons";
+    for (; reason.kind < sizeof kinds / sizeof kinds[0]; reason.kind++) same_text(pohandira_reason_text(reason), kinds[reason.kind]);
+    reason.kind = POHANDIRA_WAITING;
+    for (; reason.missing < sizeof waiting / sizeof waiting[0]; reason.missing++)
+        same_text(pohandira_reason_text(reason), waiting[reason.missing]);
+    same_text(pohandira_waiting_text(256 + POHANDIRA_RESET_MISSING), "unknown");
+}
+
+/* The reader of a reason, the second of two, on bytes of which no two are alike. */
+static void try_reason(void) {
+    static const uint8_t bytes[2 * POHANDIRA_REASON_BYTES] = {1, 2, 3, 4, 5, 6, 7, 8, 0x91, 0xa2, 0xb3, 0xc4, 0xd5, 0xe6, 0xf7, 0x08};
+    struct pohandira_reason reason = pohandira_reason_at(bytes, 1);
+    at_hand = "the reader of a reason";
+    if (reason.kind != 0x91) fail("kind");
+    if (reason.missing != 0xa2) fail("missing");
+    if (reason.causes != 0xb3c4) fail("causes");
+    if (reason.milliseconds != 0xd5e6f708) fail("milliseconds");
 }
 
 /* The reader of all totals, on seven numbers of which no two are alike. */
@@ -462,11 +641,15 @@ static void try_report(void) {
 static int checks(void) {
     uint8_t *bytes = allocated(POHANDIRA_MOST_BYTES);
     try_texts();
+    try_reason_texts();
     try_totals();
     try_report();
+    try_reason();
     try_session();
     try_season();
     try_season_limits();
+    try_session_reasons();
+    try_every_reason();
     try_refusals();
     try_bad();
     try_scans(bytes);
@@ -529,7 +712,7 @@ static void list(uint8_t *bytes, size_t length) {
         return;
     }
     if (number == 9) {
-        size_t count_at = 8 + 6 * (size_t)bytes[7], first_row = count_at + 2;
+        size_t count_at = 8 + 6 * pohandira_effect_count(bytes), first_row = count_at + 2;
         check_as(at_hand, file, 24, 0, 0, pohandira_number(bytes + count_at, 2));
         put_number(bytes + count_at, 2, (place - first_row) / 24);
         replay_and_print((struct file){bytes, (size_t)place}, before);
@@ -540,25 +723,10 @@ static void list(uint8_t *bytes, size_t length) {
     printf("refused %lu at %lu\n", number, place);
 }
 
-/* Cases: a length of 4 bytes and the recording, each listed with an empty line after it. */
-static int list_stream(void) {
-    enum { MOST = 50000 };
-    uint8_t *bytes = allocated(MOST), size[4];
-    static char name[40];
-    unsigned number = 0;
-    while (fread(size, 1, 4, stdin) == 4) {
-        size_t length = (size_t)pohandira_number(size, 4);
-        if (length > MOST || fread(bytes, 1, length, stdin) != length) {
-            fprintf(stderr, "embed: the stream breaks off\n");
-            return 2;
-        }
-        snprintf(name, sizeof name, "recording %u", ++number);
-        at_hand = name;
-        list(bytes, length);
-        printf("\n");
-    }
-    if (ferror(stdin) || fflush(stdout)) return 2;
-    return failures ? 1 : 0;
+/* A listing in a stream of them has an empty line after it. */
+static void list_case(uint8_t *bytes, size_t length) {
+    list(bytes, length);
+    printf("\n");
 }
 
 /* ---- Season totals ---- */
@@ -566,9 +734,6 @@ static int list_stream(void) {
 static void print_hex(const uint8_t *bytes, size_t size) {
     for (size_t i = 0; i < size; i++) printf("%02x", bytes[i]);
 }
-
-/* Where a recording has the low byte of its effect count, whose high byte is 0. */
-enum { EFFECT_COUNT_AT = 7 };
 
 /*
  * Adds a recording to a report and prints the refusal number, the place, which a check tells, the effect count of one that was added, which
@@ -580,28 +745,66 @@ static void add_and_print(const uint8_t start[POHANDIRA_REPORT_BYTES], struct fi
     pohandira_check(file.bytes, file.length, answer, sizeof answer);
     number = pohandira_season(file.bytes, file.length, lent, POHANDIRA_REPORT_BYTES);
     memcpy(report, lent, sizeof report);
-    effects = number ? 0 : file.bytes[EFFECT_COUNT_AT];
+    effects = number ? 0 : (uint8_t)pohandira_effect_count(file.bytes);
     print_hex(&number, 1), print_hex(answer + 8 * POHANDIRA_CHECK_PLACE, 8), print_hex(&effects, 1), print_hex(report, sizeof report);
     printf("\n");
     if (!holds(lent, POHANDIRA_REPORT_BYTES, report, sizeof report)) fail("bytes about the report");
 }
 
-/* Cases: a length of 4 bytes, a report and a recording, each answered by a line. */
-static int add_stream(void) {
+/* A case is a report and a recording. */
+static void add_case(uint8_t *bytes, size_t length) {
+    if (length < POHANDIRA_REPORT_BYTES) {
+        fail("it has no report");
+        return;
+    }
+    add_and_print(bytes, (struct file){bytes + POHANDIRA_REPORT_BYTES, length - POHANDIRA_REPORT_BYTES});
+}
+
+/* ---- Reasons ---- */
+
+/* Tells reasons of a file that is accepted, in just enough room, prints them as a line, and tries them in other rooms. */
+static void tell_and_print(telling *tell, struct file file, size_t size) {
+    uint8_t *lent = lend(size);
+    if (tell(file.bytes, file.length, lent, size)) fail("reasons are refused, and the count is not");
+    print_hex(lent, size);
+    printf("\n");
+    tell_in_rooms(at_hand, tell, file, POHANDIRA_ROW_REASONS_BYTES, (struct reasons){lent, size});
+    if (!holds(lent, size, lent, size)) fail("bytes about the reasons");
+}
+
+/* A case is a recording. Those of its records are told first, and then those after the last scan; the place of a refusal is a count's. */
+static void tell_case(uint8_t *bytes, size_t length) {
+    struct file file = {bytes, length};
+    uint8_t numbers[POHANDIRA_TOTALS_BYTES];
+    uint8_t number = pohandira_count(bytes, length, numbers, sizeof numbers);
+    if (number) {
+        tell_refused(at_hand, file, number);
+        printf("refused %u at %lu\n", number, pohandira_field(numbers, POHANDIRA_PLACE));
+        return;
+    }
+    tell_and_print(pohandira_reasons, file, POHANDIRA_REASON_BYTES * (size_t)pohandira_field(numbers, POHANDIRA_RECORDS));
+    tell_and_print(pohandira_now, file, POHANDIRA_REASON_BYTES * pohandira_effect_count(bytes));
+}
+
+/* ---- Streams of cases ---- */
+
+/* Answers all cases: each has a length of 4 bytes and then so many bytes. */
+static int answer_stream(void (*answer)(uint8_t *bytes, size_t length)) {
     enum { MOST = POHANDIRA_REPORT_BYTES + 50000 };
     uint8_t *bytes = allocated(MOST), size[4];
     static char name[40];
     unsigned number = 0;
     while (fread(size, 1, 4, stdin) == 4) {
         size_t length = (size_t)pohandira_number(size, 4);
-        if (length < POHANDIRA_REPORT_BYTES || length > MOST || fread(bytes, 1, length, stdin) != length) {
+        if (length > MOST || fread(bytes, 1, length, stdin) != length) {
             fprintf(stderr, "embed: the stream breaks off\n");
             return 2;
         }
-        snprintf(name, sizeof name, "season case %u", ++number);
+        snprintf(name, sizeof name, "case %u", ++number);
         at_hand = name;
-        add_and_print(bytes, (struct file){bytes + POHANDIRA_REPORT_BYTES, length - POHANDIRA_REPORT_BYTES});
+        answer(bytes, length);
     }
+    free(bytes);
     if (ferror(stdin) || fflush(stdout)) return 2;
     return failures ? 1 : 0;
 }
@@ -614,8 +817,9 @@ static int version(void) {
 int main(int count, char **words) {
     if (count == 2 && !strcmp(words[1], "version")) return version();
     if (count == 2 && !strcmp(words[1], "checks")) return checks();
-    if (count == 2 && !strcmp(words[1], "list")) return list_stream();
-    if (count == 2 && !strcmp(words[1], "season")) return add_stream();
-    fprintf(stderr, "usage: embed version | embed checks | embed list < CASES | embed season < CASES\n");
+    if (count == 2 && !strcmp(words[1], "list")) return answer_stream(list_case);
+    if (count == 2 && !strcmp(words[1], "season")) return answer_stream(add_case);
+    if (count == 2 && !strcmp(words[1], "reasons")) return answer_stream(tell_case);
+    fprintf(stderr, "usage: embed version | embed checks | embed list|season|reasons < CASES\n");
     return 2;
 }

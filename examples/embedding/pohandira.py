@@ -2,12 +2,13 @@
 """The proved replay from Python, by ctypes; include/pohandira.h says what the functions do.
 
     examples/embedding/pohandira.py LIBRARY < RECORDING
+    examples/embedding/pohandira.py --reasons LIBRARY < RECORDING
     examples/embedding/pohandira.py LIBRARY FILE...
 
-prints the listing of a recording (document 01, "One session, whole"), or the season totals of the recordings in files
-(docs/FORMAT.md, "Season totals"). LIBRARY is a shared object that is made from the static library; README.md says how. The exit status is
-0; 1 if a recording is refused, and standard error then says why; 2 if the library or a recording could not be read, the text could not be
-written, or the library is of another version.
+prints the listing of a recording (document 01, "One session, whole"); the listing with reasons, an empty line, and all effects after the
+last scan (docs/FORMAT.md, "Reasons"); or the season totals of the recordings in files (docs/FORMAT.md, "Season totals"). LIBRARY is a shared
+object that is made from the static library; README.md says how. The exit status is 0; 1 if a recording is refused, and standard error then
+says why; 2 if the library or a recording could not be read, the text could not be written, or the library is of another version.
 """
 
 import ctypes
@@ -16,10 +17,14 @@ import struct
 import sys
 from typing import NamedTuple
 
-VERSION = 3000  # that this file is for, as one number
-CHECK_BYTES, TOTALS_BYTES, RECORD_BYTES = 24, 56, 12
+VERSION = 4000  # that this file is for, as one number
+CHECK_BYTES, TOTALS_BYTES, RECORD_BYTES, REASON_BYTES = 24, 56, 12, 8
 REPORT_NUMBERS, REPORT_BYTES, EFFECT_NUMBERS = 113, 904, 7
+MOST_EFFECTS = 16
+EFFECT_COUNT_AT = 7  # where a recording that is accepted has the low byte of its effect count, whose high byte is 0
 STATES = ("tripped", "wait-reset", "ready", "wait-start", "normal", "delayed")
+KINDS = ("forced tripped", "forced normal", "Bad", "active", "delay running", "delay ended", "waiting", "cleared", "at rest")
+MISSING = ("", "reset permit", "reset", "start permit")
 
 
 REFUSALS = {
@@ -56,6 +61,19 @@ class Event(NamedTuple):
     before: str
     after: str
     first_out: int
+
+
+class Reason(NamedTuple):
+    """Why an effect is in its state after a scan; its kind and what is missing are names. What it does not have is empty or 0."""
+
+    kind: str
+    missing: str
+    causes: int
+    milliseconds: int
+
+    def __str__(self):
+        """The words that a listing has."""
+        return " ".join(str(part) for part in self if part)
 
 
 class Totals(NamedTuple):
@@ -95,6 +113,12 @@ def event(sequence, scan, effect, before, after, first_out):
     return Event(sequence, scan, effect, STATES[before], STATES[after], first_out)
 
 
+def reasons_in(lent, count):
+    """So many reasons, from the start of a lent buffer."""
+    fields = struct.iter_unpack(">BBHI", lent.raw[: REASON_BYTES * count])
+    return [Reason(KINDS[kind], MISSING[missing], causes, left) for kind, missing, causes, left in fields]
+
+
 class Library:
     def __init__(self, path):
         library = ctypes.CDLL(str(pathlib.Path(path).resolve()))
@@ -103,10 +127,10 @@ class Library:
             raise OtherVersion(f"the library is version {library.pohandira_version()}, and this program is for {VERSION}")
         lent = [ctypes.c_char_p, ctypes.c_size_t]
         self._check, self._count, self._replay = library.pohandira_check, library.pohandira_count, library.pohandira_replay
-        self._season = library.pohandira_season
-        self._check.argtypes = self._count.argtypes = self._season.argtypes = lent * 2
-        self._replay.argtypes = lent * 3
-        self._check.restype = self._count.restype = self._replay.restype = self._season.restype = ctypes.c_uint8
+        self._season, self._reasons, self._now = library.pohandira_season, library.pohandira_reasons, library.pohandira_now
+        for function in (self._check, self._count, self._season, self._reasons, self._now):
+            function.argtypes, function.restype = lent * 2, ctypes.c_uint8
+        self._replay.argtypes, self._replay.restype = lent * 3, ctypes.c_uint8
 
     def check(self, recording):
         """How many rows a recording has; nothing is replayed."""
@@ -135,6 +159,25 @@ class Library:
         totals = totals_in(numbers)
         return Replay([event(*fields) for fields in struct.iter_unpack(">HIBBBxH", records.raw[:room])], totals)
 
+    def _told(self, tell, recording, most):
+        """The bytes of a recording's reasons, of which there are at most so many."""
+        room = REASON_BYTES * most
+        lent = ctypes.create_string_buffer(room + 1)  # one byte more than is lent, since no pointer may be null
+        if tell(recording, len(recording), lent, room):
+            self.count(recording)  # raises the refusal, with its place
+        return lent
+
+    def reasons(self, recording):
+        """Why the effect of each event of a replay is in its new state, in the order of the events."""
+        recording = bytes(recording)
+        count = self.count(recording).records
+        return reasons_in(self._told(self._reasons, recording, count), count)
+
+    def now(self, recording):
+        """Why each effect, from 1, is in its state after the last scan."""
+        recording = bytes(recording)
+        lent = self._told(self._now, recording, MOST_EFFECTS)
+        return reasons_in(lent, recording[EFFECT_COUNT_AT])
 
     def season(self, report, recording):
         """Adds a recording to a report. One that is refused adds nothing."""
@@ -146,18 +189,44 @@ class Library:
             self.check(recording)  # raises the refusal, with its place
 
 
-def listing(replay):
-    lines = ["seq scan effect from to first"]
-    lines += [" ".join(map(str, change)) for change in replay.events]
-    totals = replay.totals
-    lines += [f"rows {totals.rows} scans {totals.scans} live {totals.live} exercised {totals.exercised}"]
-    return "\n".join(lines) + "\n"
+def text_of(lines):
+    return "".join(f"{line}\n" for line in lines)
 
 
-def answer(library, recording):
+def line_of(fields):
+    return " ".join(map(str, fields))
+
+
+def last_line(totals):
+    return f"rows {totals.rows} scans {totals.scans} live {totals.live} exercised {totals.exercised}"
+
+
+def listing(library, recording):
+    replay = library.replay(recording)
+    return text_of(["seq scan effect from to first", *map(line_of, replay.events), last_line(replay.totals)])
+
+
+def listing_with_reasons(replay, reasons):
+    lines = [f"{line_of(change)} {reason}" for change, reason in zip(replay.events, reasons)]
+    return text_of(["seq scan effect from to first reason", *lines, last_line(replay.totals)])
+
+
+def effects(events, now):
+    """An effect stands as its last event says, and one without an event as at first: tripped, without a first-out."""
+    last = {change.effect: (change.after, change.first_out) for change in events}
+    lines = [line_of([effect, *last.get(effect, (STATES[0], 0)), reason]) for effect, reason in enumerate(now, 1)]
+    return text_of(["effect state first reason", *lines])
+
+
+def both_with_reasons(library, recording):
+    now, replay, reasons = library.now(recording), library.replay(recording), library.reasons(recording)
+    return f"{listing_with_reasons(replay, reasons)}\n{effects(replay.events, now)}"
+
+
+def answer(text, library, recording):
     """What is printed, and why the recording is refused, or nothing."""
     try:
-        return listing(library.replay(recording)), ""
+        return text(library, recording), ""
     except Refused as refused:
         return f"{refused}\n", refused.text
 
@@ -168,9 +237,9 @@ def table(report, added, refused):
     while effects and not any(effects[-1]):
         effects.pop()
     lines = [" ".join(["effect", *STATES, "trips"])]
-    lines += [" ".join(map(str, [number, *totals])) for number, totals in enumerate(effects, 1)]
+    lines += [line_of([number, *totals]) for number, totals in enumerate(effects, 1)]
     lines += [f"recordings {added} refused {refused} exercised {exercised}"]
-    return "\n".join(lines) + "\n"
+    return text_of(lines)
 
 
 def say(message):
@@ -193,15 +262,15 @@ def write(text):
     return True
 
 
-def replay_input(library):
-    """Prints the listing of standard input; the exit status."""
+def print_input(text, library):
+    """Prints a text of standard input; the exit status."""
     try:
         with open(0, "rb", closefd=False) as given:
-            text, refused = answer(library, given.read())
+            printed, refused = answer(text, library, given.read())
     except OSError as error:
         say_error("standard input", error)
         return 2
-    if not write(text):
+    if not write(printed):
         return 2
     if refused:
         say(f"refused: {refused}")
@@ -233,18 +302,22 @@ def season(library, names):
 
 
 def main():
-    if len(sys.argv) < 2:
-        print("usage: pohandira.py LIBRARY < RECORDING | pohandira.py LIBRARY FILE...", file=sys.stderr)
+    reasons = sys.argv[1:2] == ["--reasons"]
+    path, *names = sys.argv[2 if reasons else 1 :] or [""]
+    if not path or (reasons and names):
+        print("usage: pohandira.py [--reasons] LIBRARY < RECORDING | pohandira.py LIBRARY FILE...", file=sys.stderr)
         return 2
     try:
-        library = Library(sys.argv[1])
+        library = Library(path)
     except OtherVersion as error:
         say(error)
         return 2
     except OSError as error:
-        say_error(sys.argv[1], error)
+        say_error(path, error)
         return 2
-    return season(library, sys.argv[2:]) if sys.argv[2:] else replay_input(library)
+    if names:
+        return season(library, names)
+    return print_input(both_with_reasons if reasons else listing, library)
 
 
 if __name__ == "__main__":

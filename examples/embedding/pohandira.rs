@@ -1,7 +1,8 @@
 //! A safe wrapper of the proved replay; include/pohandira.h says what the functions do.
 //!
 //! All that they ask of a caller is kept here: a slice's pointer is never null, not even an empty one's, and what is borrowed
-//! mutably overlaps nothing. So no input is out of bounds, and `check`, `count`, `replay` and `Report::add` are safe for any bytes.
+//! mutably overlaps nothing. So no input is out of bounds, and `check`, `count`, `replay`, `reasons`, `now` and `Report::add` are safe for
+//! any bytes.
 
 use std::fmt;
 
@@ -18,19 +19,25 @@ extern "C" {
         totals_room: usize,
     ) -> u8;
     fn pohandira_season(recording: *const u8, length: usize, report: *mut u8, report_room: usize) -> u8;
+    fn pohandira_reasons(recording: *const u8, length: usize, reasons: *mut u8, reasons_room: usize) -> u8;
+    fn pohandira_now(recording: *const u8, length: usize, reasons: *mut u8, reasons_room: usize) -> u8;
 }
 
 /// The version that this file is for, as one number. A program stops where `version` answers another: what crosses may have grown.
-pub const VERSION: u32 = 3000;
+pub const VERSION: u32 = 4000;
 
 const CHECK_BYTES: usize = 24;
 const TOTALS_BYTES: usize = 56;
 const RECORD_BYTES: usize = 12;
+const REASON_BYTES: usize = 8;
 const REPORT_BYTES: usize = 904;
+const MOST_EFFECTS: usize = 16;
+/// Where a recording that is accepted has the low byte of its effect count, whose high byte is 0.
+const EFFECT_COUNT_AT: usize = 7;
 
 /// Why a recording is refused (document 01, "Refusal numbers").
 #[derive(Clone, Copy, Debug, PartialEq, Eq)]
-pub enum Reason {
+pub enum Refusal {
     TooShort = 1,
     BlockWrong = 2,
     EffectsWrong = 3,
@@ -42,32 +49,32 @@ pub enum Reason {
     ReportFull = 11,
 }
 
-impl Reason {
+impl Refusal {
     pub fn text(self) -> &'static str {
         match self {
-            Reason::TooShort => "bytes end before a count or an entry does",
-            Reason::BlockWrong => "block section wrong",
-            Reason::EffectsWrong => "effects section wrong",
-            Reason::RowWrong => "row count, hold or a row word wrong",
-            Reason::BothForces => "one effect in both force words",
-            Reason::SeveralForced => "several forced without option bit 2",
-            Reason::SpareBytes => "bytes left over",
-            Reason::TooManyScans => "more than 1,000,000,000 scans",
-            Reason::ReportFull => "a number of a report would pass 64 bits",
+            Refusal::TooShort => "bytes end before a count or an entry does",
+            Refusal::BlockWrong => "block section wrong",
+            Refusal::EffectsWrong => "effects section wrong",
+            Refusal::RowWrong => "row count, hold or a row word wrong",
+            Refusal::BothForces => "one effect in both force words",
+            Refusal::SeveralForced => "several forced without option bit 2",
+            Refusal::SpareBytes => "bytes left over",
+            Refusal::TooManyScans => "more than 1,000,000,000 scans",
+            Refusal::ReportFull => "a number of a report would pass 64 bits",
         }
     }
 }
 
 #[derive(Clone, Copy, Debug, PartialEq, Eq)]
 pub struct Refused {
-    pub reason: Reason,
+    pub refusal: Refusal,
     /// In bytes from the start.
     pub place: u64,
 }
 
 impl fmt::Display for Refused {
     fn fmt(&self, f: &mut fmt::Formatter) -> fmt::Result {
-        write!(f, "refused {} at {}", self.reason as u8, self.place)
+        write!(f, "refused {} at {}", self.refusal as u8, self.place)
     }
 }
 
@@ -107,6 +114,14 @@ pub struct Event {
     pub first_out: u16,
 }
 
+/// A line of a listing, without its end.
+impl fmt::Display for Event {
+    fn fmt(&self, f: &mut fmt::Formatter) -> fmt::Result {
+        let Event { sequence, scan, effect, before, after, first_out } = self;
+        write!(f, "{sequence} {scan} {effect} {before} {after} {first_out}")
+    }
+}
+
 #[derive(Clone, Copy, Debug, PartialEq, Eq)]
 pub struct Totals {
     /// How many events there are.
@@ -117,11 +132,68 @@ pub struct Totals {
     pub exercised: u64,
 }
 
+/// The last line of a listing, without its end.
+impl fmt::Display for Totals {
+    fn fmt(&self, f: &mut fmt::Formatter) -> fmt::Result {
+        let Totals { rows, scans, live, exercised, .. } = self;
+        write!(f, "rows {rows} scans {scans} live {live} exercised {exercised}")
+    }
+}
+
 #[derive(Clone, Debug, PartialEq, Eq)]
 pub struct Replay {
     /// By scan, then by effect.
     pub events: Vec<Event>,
     pub totals: Totals,
+}
+
+/// What a waiting effect is missing.
+#[derive(Clone, Copy, Debug, PartialEq, Eq)]
+pub enum Missing {
+    ResetPermit,
+    Reset,
+    StartPermit,
+}
+
+impl fmt::Display for Missing {
+    fn fmt(&self, f: &mut fmt::Formatter) -> fmt::Result {
+        f.write_str(match self {
+            Missing::ResetPermit => "reset permit",
+            Missing::Reset => "reset",
+            Missing::StartPermit => "start permit",
+        })
+    }
+}
+
+/// Why an effect is in its state after a scan (docs/FORMAT.md, "Reasons"). Of causes, bit 0 is cause 1.
+#[derive(Clone, Copy, Debug, PartialEq, Eq)]
+pub enum Reason {
+    ForcedTripped,
+    ForcedNormal,
+    Bad { causes: u16 },
+    Active { causes: u16 },
+    DelayRunning { milliseconds: u32 },
+    DelayEnded,
+    Waiting(Missing),
+    Cleared,
+    AtRest,
+}
+
+/// The words that a listing has.
+impl fmt::Display for Reason {
+    fn fmt(&self, f: &mut fmt::Formatter) -> fmt::Result {
+        match self {
+            Reason::ForcedTripped => f.write_str("forced tripped"),
+            Reason::ForcedNormal => f.write_str("forced normal"),
+            Reason::Bad { causes } => write!(f, "Bad {causes}"),
+            Reason::Active { causes } => write!(f, "active {causes}"),
+            Reason::DelayRunning { milliseconds } => write!(f, "delay running {milliseconds}"),
+            Reason::DelayEnded => f.write_str("delay ended"),
+            Reason::Waiting(missing) => write!(f, "waiting {missing}"),
+            Reason::Cleared => f.write_str("cleared"),
+            Reason::AtRest => f.write_str("at rest"),
+        }
+    }
 }
 
 /// A big-endian number.
@@ -134,23 +206,23 @@ fn field(numbers: &[u8], index: usize) -> u64 {
 }
 
 /// The library gives no other numbers to callers that lend it enough room.
-fn reason(number: u8) -> Reason {
+fn refusal(number: u8) -> Refusal {
     match number {
-        1 => Reason::TooShort,
-        2 => Reason::BlockWrong,
-        3 => Reason::EffectsWrong,
-        4 => Reason::RowWrong,
-        5 => Reason::BothForces,
-        6 => Reason::SeveralForced,
-        7 => Reason::SpareBytes,
-        9 => Reason::TooManyScans,
-        11 => Reason::ReportFull,
+        1 => Refusal::TooShort,
+        2 => Refusal::BlockWrong,
+        3 => Refusal::EffectsWrong,
+        4 => Refusal::RowWrong,
+        5 => Refusal::BothForces,
+        6 => Refusal::SeveralForced,
+        7 => Refusal::SpareBytes,
+        9 => Refusal::TooManyScans,
+        11 => Refusal::ReportFull,
         _ => panic!("the library refused by {number}"),
     }
 }
 
 fn refused(number: u8, place: u64) -> Refused {
-    Refused { reason: reason(number), place }
+    Refused { refusal: refusal(number), place }
 }
 
 fn state(code: u8) -> State {
@@ -166,6 +238,32 @@ fn event(record: &[u8]) -> Event {
         before: state(record[7]),
         after: state(record[8]),
         first_out: number(&record[10..12]) as u16,
+    }
+}
+
+/// The library gives no other bytes.
+fn missing(code: u8) -> Missing {
+    match code {
+        1 => Missing::ResetPermit,
+        2 => Missing::Reset,
+        3 => Missing::StartPermit,
+        _ => panic!("the library gave the missing thing {code}"),
+    }
+}
+
+fn reason(bytes: &[u8]) -> Reason {
+    let (causes, milliseconds) = (number(&bytes[2..4]) as u16, number(&bytes[4..8]) as u32);
+    match bytes[0] {
+        0 => Reason::ForcedTripped,
+        1 => Reason::ForcedNormal,
+        2 => Reason::Bad { causes },
+        3 => Reason::Active { causes },
+        4 => Reason::DelayRunning { milliseconds },
+        5 => Reason::DelayEnded,
+        6 => Reason::Waiting(missing(bytes[1])),
+        7 => Reason::Cleared,
+        8 => Reason::AtRest,
+        kind => panic!("the library gave a reason of kind {kind}"),
     }
 }
 
@@ -228,26 +326,48 @@ pub fn replay(recording: &[u8]) -> Result<Replay, Refused> {
     Ok(Replay { events, totals })
 }
 
+/// Why the effect of each event of a replay is in its new state, in the order of the events.
+pub fn reasons(recording: &[u8]) -> Result<Vec<Reason>, Refused> {
+    let mut bytes = vec![0; count(recording)?.records as usize * REASON_BYTES];
+    // SAFETY: the head of this file says why.
+    let number = unsafe { pohandira_reasons(recording.as_ptr(), recording.len(), bytes.as_mut_ptr(), bytes.len()) };
+    assert_eq!(number, 0, "the library counts the events, and refuses their reasons");
+    Ok(bytes.chunks(REASON_BYTES).map(reason).collect())
+}
+
+/// Why each effect, from 1, is in its state after the last scan.
+pub fn now(recording: &[u8]) -> Result<Vec<Reason>, Refused> {
+    let mut bytes = [0; MOST_EFFECTS * REASON_BYTES];
+    // SAFETY: the head of this file says why.
+    let number = unsafe { pohandira_now(recording.as_ptr(), recording.len(), bytes.as_mut_ptr(), bytes.len()) };
+    if number != 0 {
+        // A count is refused alike, and tells the place.
+        return Err(count(recording).expect_err("the library refuses reasons, and not a count"));
+    }
+    let effects = usize::from(recording[EFFECT_COUNT_AT]);
+    Ok(bytes.chunks(REASON_BYTES).take(effects).map(reason).collect())
+}
+
 /// Season totals: how long each effect stood in each state, over recordings.
 #[derive(Clone, Debug, PartialEq, Eq)]
 pub struct Report([u8; REPORT_BYTES]);
 
 impl Report {
     /// Every recording has at most so many effects.
-    pub const EFFECTS: usize = 16;
+    pub const EFFECTS: usize = MOST_EFFECTS;
 
     pub fn empty() -> Report {
         Report([0; REPORT_BYTES])
     }
 
     /// Adds a recording, replayed from a fresh state. One that is refused adds nothing; `check` tells the place.
-    pub fn add(&mut self, recording: &[u8]) -> Result<(), Reason> {
+    pub fn add(&mut self, recording: &[u8]) -> Result<(), Refusal> {
         let Report(bytes) = self;
         // SAFETY: the head of this file says why.
         let number = unsafe { pohandira_season(recording.as_ptr(), recording.len(), bytes.as_mut_ptr(), bytes.len()) };
         match number {
             0 => Ok(()),
-            _ => Err(reason(number)),
+            _ => Err(refusal(number)),
         }
     }
 

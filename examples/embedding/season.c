@@ -4,21 +4,9 @@
 
    A recording that is refused adds nothing. The exit status is 0; 1 if one is refused, and standard error then says which and why; 2 if
    one could not be read, the totals could not be written, or the library is not that of the header. */
-#include "pohandira.h"
-#include <errno.h>
-#include <stdio.h>
-#include <string.h>
+#include "program.h"
 
-typedef unsigned long long number; /* what printf takes for 64 bits */
-
-/* One byte more than the largest recording, so that a longer file is refused too. */
-static uint8_t recording[POHANDIRA_MOST_BYTES + 1];
 static uint8_t report[POHANDIRA_REPORT_BYTES]; /* zeros: an empty report */
-
-static int failed(const char *what, const char *why) {
-    fprintf(stderr, "season: %s: %s\n", what, why);
-    return 2;
-}
 
 /* Adds the recording in a file to the report: 0, or the status of what went wrong. */
 static int add_file(const char *name) {
@@ -26,17 +14,17 @@ static int add_file(const char *name) {
     if (!file) {
         return failed(name, strerror(errno));
     }
-    size_t length = fread(recording, 1, sizeof recording, file);
-    int unread = ferror(file) ? errno : 0;
+    size_t length;
+    int unread = read_recording(file, name, &length);
     fclose(file);
     if (unread) {
-        return failed(name, strerror(unread)); /* unreadable is not empty */
+        return unread;
     }
     uint8_t refused = pohandira_season(recording, length, report, sizeof report);
     if (refused) {
-        fprintf(stderr, "season: %s: refused: %s\n", name, pohandira_refusal_text(refused));
+        fprintf(stderr, "%s: %s: refused: %s\n", program, name, pohandira_refusal_text(refused));
     }
-    return refused ? 1 : 0;
+    return refused ? REFUSED : DONE;
 }
 
 /* The last effect that some recording has: after each of its scans the effect stood in a state. */
@@ -51,7 +39,7 @@ static size_t last_effect(const struct pohandira_report *totals) {
     return 0;
 }
 
-static void print_totals(struct pohandira_report totals, int added, int refused) {
+static void print_table(struct pohandira_report totals, int added, int refused) {
     printf("effect");
     for (unsigned state = 0; state < POHANDIRA_STATES; state++) {
         printf(" %s", pohandira_state_name(state));
@@ -68,17 +56,17 @@ static void print_totals(struct pohandira_report totals, int added, int refused)
 }
 
 int main(int count, char **names) {
-    int ended[3] = {0, 0, 0}; /* how many files ended with each status */
-    if (pohandira_version() != POHANDIRA_VERSION) {
-        return failed("the library", "not the version that this program was compiled for");
+    int ended[] = {[DONE] = 0, [REFUSED] = 0, [FAILED] = 0}; /* how many files ended with each status */
+    program = "season";
+    if (compare_versions() != DONE) {
+        return FAILED;
     }
     for (int i = 1; i < count; i++) {
         ended[add_file(names[i])]++;
     }
-    print_totals(pohandira_report_at(report), ended[0], ended[1]);
-    /* printf only fills a buffer: whether all was written shows here. */
-    if (fflush(stdout) != 0 || ferror(stdout) || fclose(stdout) != 0) {
-        return failed("standard output", strerror(errno));
+    print_table(pohandira_report_at(report), ended[DONE], ended[REFUSED]);
+    if (end_output() != DONE) {
+        return FAILED;
     }
-    return ended[2] ? 2 : ended[1] ? 1 : 0;
+    return ended[FAILED] ? FAILED : ended[REFUSED] ? REFUSED : DONE;
 }

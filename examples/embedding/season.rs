@@ -27,8 +27,8 @@ fn say(what: &OsStr, why: impl std::fmt::Display) {
 fn add_file(name: &OsStr, report: &mut pohandira::Report, files: &mut Files) {
     match std::fs::read(name).map(|recording| report.add(&recording)) {
         Ok(Ok(())) => files.added += 1,
-        Ok(Err(reason)) => {
-            say(name, format!("refused: {}", reason.text()));
+        Ok(Err(refusal)) => {
+            say(name, format!("refused: {}", refusal.text()));
             files.refused += 1;
         }
         Err(error) => {

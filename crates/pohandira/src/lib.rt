@@ -1,18 +1,16 @@
-// The library that other languages link, by the C ABI: its version, a check, a count and a whole replay of a recording, and season totals
-// over many. Each of these takes bytes and lent buffers, keeps nothing, and answers any bytes. What crosses is in specs/Crossing, and for
-// season totals in season_bytes/specs/Bytes; include/pohandira.h says it in C. It rests on `rerun` for the replay, on `numbers` for the
-// bytes of what crosses, and on `season_bytes` for the totals. How the room is found out (a bound, or a pass that counts) may change
-// without moving a contract; the numbers that cross, their order and their 8 bytes may not.
+// The library that other languages link, by the C ABI: its version, a check, a count, a whole replay and the reasons of a recording, and
+// season totals over many. Each of these takes bytes and lent buffers, keeps nothing, and answers any bytes. What crosses is in
+// specs/Crossing, for season totals in season_bytes/specs/Bytes and for reasons in why_bytes/specs/Bytes; include/pohandira.h says it in C.
+// It rests on `rerun` for the replay, on `room` for refusal number 10, on `numbers` for the bytes of what crosses, on `season_bytes` for the
+// totals and on `why_bytes` for the reasons. The numbers that cross, their order and their 8 bytes may not change without moving a contract.
 ghost use mathlib.Core.Path.{_≡_};
-ghost use Prim.Native.Nat.{_*_};
 ghost use lib.ListN.{length};
-ghost use Rattle.effects.specs.Records.{recordLength};
-ghost use Rattle.settings.specs.Refusals.{roomNumber};
 ghost use Rattle.rerun.specs.Replay.{replay};
 ghost use Rattle.rerun.specs.Turn.{Going, stopOf};
 ghost use Rattle.pohandira.specs.Crossing.{checkNumber, checkInto, countNumber, countInto, replayNumber, recordsInto, totalsInto};
 ghost use Rattle.pohandira.specs.Version.{version};
 ghost use Rattle.season_bytes.specs.Bytes.{intoNumber, seasonInto};
+ghost use Rattle.why_bytes.specs.Bytes.{reasonsNumber, reasonsInto, nowNumber, nowInto};
 use recording::Answer;
 use rerun::Run;
 use rerun::Stop;
@@ -22,7 +20,7 @@ use rerun::Stop;
 // The parts of the version, which are those of the file VERSION, and what each counts for in the one number.
 const MAJOR: u32 = 0;
 
-const MINOR: u32 = 3;
+const MINOR: u32 = 4;
 
 const PATCH: u32 = 0;
 
@@ -73,29 +71,6 @@ pub extern "C" fn pohandira_count(recording: &[u8], totals: &mut [u8]) -> u8
 
 // ---- a replay
 
-// The most bytes of records that one effect has in a row: two records.
-const MOST_EFFECT_BYTES: usize = effects::RECORD_LENGTH * 2;
-
-// 10 where the records do not fit, else 0. Where the most that so many rows can give do fit, they are not counted; else a first pass
-// over a copy of the array counts them.
-fn records_number(s: &[u8], run: Run, board: &[u32; 64], room: usize) -> u8
-    requires { ⌜ Going (now s) run (now board) × (run .rows ≡ 0) ⌝ }
-    ensures { λ r. ⌜ r ≡ roomNumber (recordLength * length (replay (now (s .entry)) .replay .events)) room ⌝ }
-{
-    let plan = run.plan;
-    if MOST_EFFECT_BYTES * plan.count * (run.row_count as usize) <= room {
-        return 0;
-    }
-    let mut counted = *board;
-    let mut space = [0u8; effects::MOST_ROW_BYTES];
-    let end = rerun::go(s, run, run.row_count, &mut counted, &mut space, false);
-    let last = end.run;
-    if effects::RECORD_LENGTH * (last.records as usize) <= room {
-        return 0;
-    }
-    10
-}
-
 // A file that the reader accepts and none of whose rows ends it.
 fn replay_whole(
     s: &[u8],
@@ -112,7 +87,7 @@ fn replay_whole(
     if totals.len() < numbers::TOTALS_BYTES {
         return 10;
     }
-    let number = records_number(s, run, board, records.len());
+    let number = room::records_number(s, run, board, effects::RECORD_LENGTH, records.len());
     if number != 0 {
         return numbers::refuse(totals, number, 0);
     }
@@ -173,4 +148,26 @@ pub extern "C" fn pohandira_season(recording: &[u8], report: &mut [u8]) -> u8
     ensures { λ _. ⌜ now (report .exit) ≡ seasonInto (now (recording .entry)) (now (report .entry)) ⌝ }
 {
     season_bytes::add(recording, report)
+}
+
+// ---- reasons
+
+// Finds the reason of each event of a recording: answers its refusal number, and on 0 `reasons` begins with 8 bytes for each record of a
+// replay, in their order. On any refusal no byte is touched.
+#[no_mangle]
+pub extern "C" fn pohandira_reasons(recording: &[u8], reasons: &mut [u8]) -> u8
+    ensures { λ r. ⌜ r ≡ reasonsNumber (now (recording .entry)) (length (now (reasons .entry))) ⌝ }
+    ensures { λ _. ⌜ now (reasons .exit) ≡ reasonsInto (now (recording .entry)) (now (reasons .entry)) ⌝ }
+{
+    why_bytes::put_reasons(recording, reasons)
+}
+
+// Finds the reason of each effect's state after the last scan of a recording: answers its refusal number, and on 0 `reasons` begins with 8
+// bytes for each effect, in their order. On any refusal no byte is touched.
+#[no_mangle]
+pub extern "C" fn pohandira_now(recording: &[u8], reasons: &mut [u8]) -> u8
+    ensures { λ r. ⌜ r ≡ nowNumber (now (recording .entry)) (length (now (reasons .entry))) ⌝ }
+    ensures { λ _. ⌜ now (reasons .exit) ≡ nowInto (now (recording .entry)) (now (reasons .entry)) ⌝ }
+{
+    why_bytes::put_now(recording, reasons)
 }
