@@ -53,13 +53,16 @@ use Rattle.numbers.proofs.Stores.{length-numbers, fits, stays}
 use Rattle.pohandira.proofs.Theorems as pohandira
 use Rattle.demands.specs.Order.{InOrder, heldCases, scanCases}
 use Rattle.demands.specs.Library.{CheckInOrder, ReplayInOrder, CountAsReplayed}
-use Rattle.demands.specs.Demands.{Demand1, RightInput, slot, ByTheRules, Demand2, Equals, OneScanMore, Demand3, SeasonTotals}
+use Rattle.demands.specs.Demands.{Demand1, RightInput, slot, ByTheRules, Demand2, Equals, OneScanMore, Demand3, SeasonTotals, ReasonsOfStates}
 use Rattle.demands.proofs.Order as order
 use Rattle.demands.proofs.Order.{granted-in-order, piece-in-order}
 use Rattle.demands.proofs.Back.{same-bytes}
 use Rattle.demands.proofs.Scans.{scan-granted, row-accepted, slot-after, slot-past, latent-bit, latent-inside, one-more, exercised-yes, exercised-no, scan-more}
 use Rattle.demands.proofs.Unique.{answers}
+use Rattle.reasons.proofs.Exactly.{reason-fits}
+use Rattle.reasoned.proofs.Theorems.{the-replay's-events}
 use Rattle.demands.proofs.Season as season
+use Rattle.demands.proofs.Reasons as reasons
 use Rattle.season.proofs.Theorems.{six-totals-are-the-holds}
 use Rattle.worked.proofs.Reported.{the-session-is-added}
 
@@ -261,4 +264,15 @@ season-totals =
       six-add-up = six-totals-are-the-holds;
       the-session = the-session-is-added;
       crosses-in-order = season.season-in-order;
+    }
+
+pub reasons-of-states : ReasonsOfStates
+reasons-of-states =
+    record {
+      exactly-one-fits = reasons.exactly-one;
+      same-reason-leads-alike = reasons.leads-alike;
+      query-refuses-in-order = reasons.refuses-in-order;
+      query-answers-what-fits = reasons.answers-what-fits;
+      what-is-found-fits = reason-fits;
+      events-are-the-replay's = the-replay's-events;
     }

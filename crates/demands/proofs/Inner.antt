@@ -95,6 +95,21 @@ use Rattle.text.proofs.put_lines.Reads as text·put-lines
 use Rattle.text.proofs.put_last.Reads as text·put-last
 use Rattle.text.proofs.put_refusal.Reads as text·put-refusal
 use Rattle.text.proofs.put_number.Reads as text·put-number
+use Rattle.text.proofs.put_state.Reads as text·put-state
+use Rattle.text.proofs.put_end.Reads as text·put-end
+use Rattle.reasons.proofs.sight_of.Reads as reasons·sight-of
+use Rattle.reasons.proofs.reason_by.Reads as reasons·reason-by
+use Rattle.reasons.proofs.signs_of.Reads as reasons·signs-of
+use Rattle.reasons.proofs.reason_in.Reads as reasons·reason-in
+use Rattle.wording.proofs.put_reason.Reads as wording·put-reason
+use Rattle.reason_bytes.proofs.put_numbers.Reads as reason-bytes·put-numbers
+use Rattle.reasoned.proofs.sight_at.Reads as reasoned·sight-at
+use Rattle.standing.proofs.reason_now.Reads as standing·reason-now
+use Rattle.now_table.proofs.show.Reads as now-table·show
+use Rattle.now_table.specs.declared.Shown.{Shown}
+use Rattle.why_bytes.proofs.put_reasons.Reads as why-bytes·put-reasons
+use Rattle.why_bytes.proofs.put_now.Reads as why-bytes·put-now
+use Rattle.room.proofs.records_number.Reads as room·records-number
 use Rattle.text.proofs.put_total.Reads as text·put-total
 use Rattle.findings.proofs.explain.Reads as findings·explain
 use Rattle.sentences.proofs.put_finding.Reads as sentences·put-finding
@@ -429,7 +444,7 @@ season-table-put-table κs = by-equations (season-table·put-table.Learnt κs) (
 pub text-put-header : (κs : Lfts 1) → Unique (text·put-header.Learnt κs) (λ e. now (e .0))
 text-put-header κs = by-equations (text·put-header.Learnt κs) (λ e. now (e .0)) _ _ (λ a r e h. h .0)
 
-pub text-put-lines : (κs : Lfts 2) → UniqueWhereAsked (text·put-lines.Asked κs) (text·put-lines.Learnt κs) (λ e. now (e .0))
+pub text-put-lines : (κs : Lfts 3) → UniqueWhereAsked (text·put-lines.Asked κs) (text·put-lines.Learnt κs) (λ e. now (e .0))
 text-put-lines κs = λ a r q e f asked h k.
     let g = asked .1 in
     let x = h .0 (g .0) (g .1) (g .2) in
@@ -472,3 +487,49 @@ summaries-put-summary κs = by-equations (summaries·put-summary.Learnt κs) (λ
 
 pub summaries-put-summary-header : (κs : Lfts 1) → Unique (summaries·put-summary-header.Learnt κs) (λ e. now (e .0))
 summaries-put-summary-header κs = by-equations (summaries·put-summary-header.Learnt κs) (λ e. now (e .0)) _ _ (λ a r e h. h .0)
+
+-- ## Reasons (`reasons`, `wording`, `reason_bytes`, `reasoned`, `standing`, `now_table`, `why_bytes`), their lines (`text`), and room (`room`)
+
+pub reasons-sight-of : (κs : Lfts 0) → Unique (reasons·sight-of.Learnt κs) none
+reasons-sight-of κs = by-equation (reasons·sight-of.Learnt κs) _ (λ a r e h. h)
+
+pub reasons-reason-by : (κs : Lfts 0) → Unique (reasons·reason-by.Learnt κs) none
+reasons-reason-by κs = by-equation (reasons·reason-by.Learnt κs) _ (λ a r e h. h)
+
+pub reasons-signs-of : (κs : Lfts 0) → Unique (reasons·signs-of.Learnt κs) none
+reasons-signs-of κs = by-equation (reasons·signs-of.Learnt κs) _ (λ a r e h. h)
+
+pub reasons-reason-in : (κs : Lfts 1) → Unique (reasons·reason-in.Learnt κs) none
+reasons-reason-in κs = by-equation (reasons·reason-in.Learnt κs) _ (λ a r e h. h)
+
+pub wording-put-reason : (κs : Lfts 1) → Unique (wording·put-reason.Learnt κs) (λ e. now (e .0))
+wording-put-reason κs = by-equations (wording·put-reason.Learnt κs) (λ e. now (e .0)) _ _ (λ a r e h. h)
+
+pub reason-bytes-put-numbers : (κs : Lfts 1) → Unique (reason-bytes·put-numbers.Learnt κs) (λ e. now (e .0))
+reason-bytes-put-numbers κs = by-equations (reason-bytes·put-numbers.Learnt κs) (λ e. now (e .0)) (λ a. tt) _ (λ a r e h. (refl, h))
+
+pub reasoned-sight-at : (κs : Lfts 1) → Unique (reasoned·sight-at.Learnt κs) none
+reasoned-sight-at κs = by-equation (reasoned·sight-at.Learnt κs) _ (λ a r e h. h)
+
+pub standing-reason-now : (κs : Lfts 0) → Unique (standing·reason-now.Learnt κs) none
+standing-reason-now κs = by-equation (standing·reason-now.Learnt κs) _ (λ a r e h. h)
+
+pub now-table-show : (κs : Lfts 2) → Unique (now-table·show.Learnt κs) (λ e. now (e .0))
+now-table-show κs a r q e f h k =
+    let same : (m n i j : ℕ) → m ≡ n → i ≡ j → _≡_ {A = Shown} (record { number = m; size = i }) (record { number = n; size = j }) = λ m n i j x y. ap₂ (λ (u v : ℕ). record { number = u; size = v }) x y in
+    (same _ _ _ _ (h .number-is ∙ sym (k .number-is)) (h .size-is ∙ sym (k .size-is)), h .text ∙ sym (k .text))
+
+pub why-bytes-put-reasons : (κs : Lfts 2) → Unique (why-bytes·put-reasons.Learnt κs) (λ e. now (e .1 .0))
+why-bytes-put-reasons κs = by-equations (why-bytes·put-reasons.Learnt κs) (λ e. now (e .1 .0)) _ _ (λ a r e h. h)
+
+pub why-bytes-put-now : (κs : Lfts 2) → Unique (why-bytes·put-now.Learnt κs) (λ e. now (e .1 .0))
+why-bytes-put-now κs = by-equations (why-bytes·put-now.Learnt κs) (λ e. now (e .1 .0)) _ _ (λ a r e h. h)
+
+pub text-put-state : (κs : Lfts 1) → Unique (text·put-state.Learnt κs) (λ e. now (e .0))
+text-put-state κs = by-equations (text·put-state.Learnt κs) (λ e. now (e .0)) _ _ (λ a r e h. h)
+
+pub text-put-end : (κs : Lfts 1) → Unique (text·put-end.Learnt κs) (λ e. now (e .0))
+text-put-end κs = by-equations (text·put-end.Learnt κs) (λ e. now (e .0)) _ _ (λ a r e h. h)
+
+pub room-records-number : (κs : Lfts 2) → Unique (room·records-number.Learnt κs) none
+room-records-number κs = by-equation (room·records-number.Learnt κs) _ (λ a r e h. h)

@@ -5,4 +5,5 @@ pub mod Determined
 pub mod Unique
 pub mod Inner
 pub mod Season
+pub mod Reasons
 pub mod Demands

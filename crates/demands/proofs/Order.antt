@@ -13,7 +13,7 @@ use Rattle.settings.specs.declared.Settings.{Settings}
 use Rattle.settings.specs.declared.Words.{Words}
 use Rattle.settings.specs.declared.Row.{Row}
 use Rattle.settings.specs.declared.Known.{Known}
-use Rattle.rules.specs.Limits.{mostHold, mostScans}
+use Rattle.rules.specs.Limits.{between, mostHold, mostScans}
 use Rattle.settings.specs.Refusals.{unless, orElse, granted, roomNumber}
 use Rattle.settings.specs.Right.{blockOk, countOk, slotOk, knownOf, settingsNumber, wordsOk, apart, several, wordsNumber, rowNumber}
 use Rattle.block.specs.declared.State.{State}
@@ -27,6 +27,8 @@ use Rattle.recording.specs.Encode.{opening}
 use Rattle.writing.specs.Answers.{writtenNumber, writtenPlace, writtenLength}
 use Rattle.writing.specs.Writer.{openingNumber, rowPieceNumber, written, after}
 use Rattle.writing.proofs.Theorems.{written-number, refused-piece}
+use Rattle.queries.specs.Queries.{queryNumber}
+use Rattle.demands.specs.Reasons.{queryCases}
 use Rattle.demands.specs.Order.{Case, _when_, firstOf, InOrder, settingsCases, wordsCases, rowCases, stateCases, scansCases, roomCases, heldCases, scanCases, openingCases, rowPieceCases}
 
 -- ## Any table
@@ -148,3 +150,8 @@ pub row-piece-in-order : (st : Settings) (row : Row) (room : ℕ)
     → Table (orElse (rowPieceNumber st row) (roomNumber (length (putRow row)) room)) (rowPieceCases st row room)
 unfolding rowPieceNumber
 row-piece-in-order st row room = then (then (settings-in-order st) (row-in-order (knownOf st) row)) (beyond (length (putRow row)) room 9)
+
+pub query-in-order : (st : Settings) (w : Words) (x : State) (e : ℕ) → Table (queryNumber st w x e) (queryCases st w x e)
+unfolding queryNumber inputNumber
+query-in-order st w x e =
+    then (then (settings-in-order st) (then (state-in-order st x) (then (row-in-order (knownOf st) (once w)) (scans-in-order x (once w))))) (check (between 1 (st .count) e) 2)

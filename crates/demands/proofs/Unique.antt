@@ -50,6 +50,9 @@ entry-points κ0 κ1 κ2 κ3 =
       season-empty = record { nothing-asked = λ a. tt; says = λ a r e h. (h, refl) };
       season-add = record { nothing-asked = λ a. tt; says = λ a r e h. (h, refl) };
       pohandira-season = record { nothing-asked = λ a. tt; says = λ a r e h. h };
+      why = record { nothing-asked = λ a. tt; says = λ a r e h. (h, refl) };
+      pohandira-reasons = record { nothing-asked = λ a. tt; says = λ a r e h. h };
+      pohandira-now = record { nothing-asked = λ a. tt; says = λ a r e h. h };
       opening = record { nothing-asked = λ a. tt; says = λ a r e h. (h .0, h .1 .0) };
       closing = record { nothing-asked = λ a. tt; says = λ a r e h. (h .0, h .1 .0) };
       has-room = record { nothing-asked = λ a. tt; says = λ a r e h. (h, refl) };

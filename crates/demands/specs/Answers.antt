@@ -1,7 +1,7 @@
 -- What a call of each entry point gives. Its contract asks nothing of a caller (`Asked`), and a caller learns that the result and
 -- the parameters at exit (`Learnt`) are those of the definitions named here. Rattle makes `Asked` and `Learnt` from the
 -- clauses in src/ and proves that they are what a call gives (`known` beside them), so this page is about the contracts themselves.
--- Arguments stand in the order of src/, and `_` is what follows the last. Document 01, "What each contract has to exclude"; document 02, L1.
+-- Arguments stand in the order of src/, and `_` is what follows the last. Document 01, "What each contract has to exclude"; document 02, L1 and L4.
 use mathlib.Core.Path.{_≡_}
 use mathlib.Core.Bool.{cond}
 use Prim.Native.Nat.{_-_, _^_}
@@ -29,6 +29,7 @@ use Rattle.walk.proofs as walk
 use Rattle.rerun.proofs as rerun
 use Rattle.listing.proofs as listing
 use Rattle.season.proofs as season
+use Rattle.queries.proofs as queries
 use Rattle.pohandira.proofs as pohandira
 use Rattle.rules.specs.Limits.{mostDelay, mostHold, mostScans}
 use Rattle.rules.specs.Rules.{code, same}
@@ -48,6 +49,8 @@ use Rattle.listing.specs.Printed.{opening, hasRoom, placed, written}
 use Rattle.text.specs.Room.{mostPiece}
 use Rattle.pohandira.specs.Crossing.{checkNumber, checkInto, countNumber, countInto, replayNumber, recordsInto, totalsInto}
 use Rattle.pohandira.specs.Version.{version}
+use Rattle.queries.specs.Queries.{replyOf}
+use Rattle.why_bytes.specs.Bytes.{reasonsNumber, reasonsInto, nowNumber, nowInto}
 use Rattle.season.specs.Season.{empty, addedTo}
 use Rattle.season_bytes.specs.Bytes.{intoNumber, seasonInto}
 use Rattle.demands.specs.Contracts.{Gives, Returns, both}
@@ -85,9 +88,15 @@ pub record EntryPoints (κ0 : Lfts 0) (κ1 : Lfts 1) (κ2 : Lfts 2) (κ3 : Lfts 
   pub season-add : Returns (season.Report.add.Reads.Asked κ1) (season.Report.add.Reads.Learnt κ1) (λ (r, (s, _)). addedTo r (now s))
   pub pohandira-season : Gives (pohandira.pohandira_season.Reads.Asked κ2) (pohandira.pohandira_season.Reads.Learnt κ2) (λ (s, (report, _)). intoNumber (now s) (now report))
       (λ e. now (e .1 .0)) (λ (s, (report, _)). seasonInto (now s) (now report))
+  -- reasons (`queries`), and the static library's
+  pub why : Returns (queries.why.Reads.Asked κ0) (queries.why.Reads.Learnt κ0) (λ (st, (x, (w, (effect, _)))). replyOf st w x effect)
+  pub pohandira-reasons : Gives (pohandira.pohandira_reasons.Reads.Asked κ2) (pohandira.pohandira_reasons.Reads.Learnt κ2) (λ (s, (out, _)). reasonsNumber (now s) (length (now out)))
+      (λ e. now (e .1 .0)) (λ (s, (out, _)). reasonsInto (now s) (now out))
+  pub pohandira-now : Gives (pohandira.pohandira_now.Reads.Asked κ2) (pohandira.pohandira_now.Reads.Learnt κ2) (λ (s, (out, _)). nowNumber (now s) (length (now out)))
+      (λ e. now (e .1 .0)) (λ (s, (out, _)). nowInto (now s) (now out))
   -- listings (`listing`)
-  pub opening : Gives (listing.opening.Reads.Asked κ1) (listing.opening.Reads.Learnt κ1) (λ (file, (out, (at, _))). written (length (now out)) at (opening (file .answer)))
-      (λ e. now (e .1 .0)) (λ (file, (out, (at, _))). placed (now out) at (opening (file .answer)))
+  pub opening : Gives (listing.opening.Reads.Asked κ1) (listing.opening.Reads.Learnt κ1) (λ (file, (out, (at, (why, _)))). written (length (now out)) at (opening why (file .answer)))
+      (λ e. now (e .1 .0)) (λ (file, (out, (at, (why, _)))). placed (now out) at (opening why (file .answer)))
   pub closing : Gives (listing.closing.Reads.Asked κ1) (listing.closing.Reads.Learnt κ1) (λ (end, (out, (at, _))). written (length (now out)) at (closing end))
       (λ e. now (e .1 .0)) (λ (end, (out, (at, _))). placed (now out) at (closing end))
   pub has-room : Returns (listing.has_room.Reads.Asked κ0) (listing.has_room.Reads.Learnt κ0) (λ (n, (at, _)). hasRoom n at)

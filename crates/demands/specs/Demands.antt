@@ -1,6 +1,6 @@
 -- What the user demanded, in the user's words and order: one record of propositions for each demand, and one for each request that came
 -- later. They are about the definitions that the contracts of the entry points cite; that the contracts say so is `Answers`. `demand-1`,
--- `demand-2`, `demand-3` and `season-totals` (proofs/Demands) prove them, so a reader who believes the definitions need read no proof:
+-- `demand-2`, `demand-3`, `season-totals` and `reasons-of-states` (proofs/Demands) prove them, so a reader who believes the definitions need read no proof:
 -- docs/PROMISES.md lists them, "What has to be believed".
 mod Names
 use Names.*
@@ -180,3 +180,19 @@ pub record SeasonTotals : Type 0 where
   pub the-session : addedTo empty session ≡ record { number = 0; place = 0; effects = 2; report = sessionReport }
   -- the same of a report in lent bytes (`pohandira_season`)
   pub crosses-in-order : (s bytes : List ℕ) → SeasonInOrder s bytes (intoNumber s bytes) (seasonInto s bytes)
+
+-- Document 02, L4. The reason for an effect's state after a scan. Exactly one fits; under equal settings, rows that give the same reason from
+-- the same state lead to the same state and timer. Refusals: a scan's except 10, then 3 for an absent effect. Effects count from 0 here, but
+-- for the effect number of a query.
+pub record ReasonsOfStates : Type 0 where
+  -- which reason fits is `fits`, in document 02's words; it does not say how a reason is found
+  pub exactly-one-fits : (st : Settings) (w : Words) (x : State) (i : ℕ) → ExactlyOneFits st w x i
+  pub same-reason-leads-alike : (st : Settings) (v w : Words) (x : State) (i : ℕ) (r : Reason) → SameReasonLeadsAlike st v w x i r
+  -- a query (`queries::why`), of any settings, words, state and effect number: a refusal has place 0, and the reason that it answers fits
+  pub query-refuses-in-order : (st : Settings) (w : Words) (x : State) (e : ℕ) → let a = replyOf st w x e in
+      InOrder (queryCases st w x e) (replyNumber a) (replyPlace a ≡ 0)
+  pub query-answers-what-fits : (st : Settings) (w : Words) (x : State) (e : ℕ) (r : Reason) → replyOf st w x e ≡ Because r → FitsAt st w x (e - 1) r
+  -- the reason that is found (`reasonOf`), of which those of a recording are made (`reasoned`, `reasonsNow`), fits, of any signals and slot
+  pub what-is-found-fits : (s : Signals) (x : Slot) → fits s x (reasonOf s x) ≡ true
+  -- the events with reasons are those of the replay, in their order
+  pub events-are-the-replay's : (s : List ℕ) → Accepted s → map (λ (t : Reasoned). t .event) (reasoned s) ≡ replay s .replay .events

@@ -4,4 +4,5 @@ pub mod Order
 pub mod Back
 pub mod Library
 pub mod Season
+pub mod Reasons
 pub mod Demands

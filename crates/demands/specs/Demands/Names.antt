@@ -60,3 +60,14 @@ pub use Rattle.demands.specs.Order.{firstOf, InOrder, settingsCases, wor
 pub use Rattle.demands.specs.Library.{CheckInOrder, ReplayInOrder, CountAsReplayed}
 pub use Rattle.demands.specs.Back.{Recording, writtenBack}
 pub use Rattle.demands.specs.Season.{CountsSingleScans, AddsInOrder, SeasonInOrder}
+-- reasons
+pub use mathlib.Core.List.{map}
+pub use Prim.Native.Nat.{_-_}
+pub use Rattle.reasons.specs.declared.Reason.{Reason}
+pub use Rattle.rules.specs.Signals.{Signals}
+pub use Rattle.reasons.specs.Fits.{fits}
+pub use Rattle.reasons.specs.Reasons.{reasonOf}
+pub use Rattle.queries.specs.declared.Reply.the-variants.{Because}
+pub use Rattle.queries.specs.Queries.{replyNumber, replyPlace, replyOf}
+pub use Rattle.reasoned.specs.Reasoned.{Reasoned, reasoned}
+pub use Rattle.demands.specs.Reasons.{FitsAt, ExactlyOneFits, SameReasonLeadsAlike, queryCases}
