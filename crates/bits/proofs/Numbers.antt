@@ -10,7 +10,7 @@ use lib.ListN.{length, getD, take, drop, set, length-append, length-drop, drop-o
 use lib.Seq.{sets, sets-eq, drop-cons, getD-at, take-add, take-all, drop-drop}
 use lib.Pow.{pow-add}
 use lib.Arith.{digits-div, digits-mod, digits-lt, mod-mul}
-use Rattle.bits.specs.Numbers.{Bytes, numAt, lowAt, turned, digits}
+use Rattle.bits.specs.Numbers.{Bytes, numAt, lowAt, lows, turned, digits}
 use Rattle.bits.specs.Layout.{pack}
 
 -- as many numbers as the layout has, each within its width
@@ -148,6 +148,51 @@ turned-halves s at b x r e f =
     f ∙ ap₂ (λ (l m : ℕ). turned 4 l * 2 ^ 32 + turned 4 m) (h .0) (h .1)
     ∙ ap₂ (λ (l m : ℕ). l * 2 ^ 32 + m) (turned-low 4 s at b) (turned-low 4 s (at + 4) b)
     ∙ sym (num-parts 4 4 s at)
+
+-- a number that is turned, and then written the lowest byte first, is the number that is written the highest byte first
+turned-lt : (w v : ℕ) → turned w v < 256 ^ w
+turned-lt zero v = omega arith
+turned-lt (suc w) v = rw (pow-suc 256 w, mul-comm (256 ^ w) 256) (digits-lt (mod-lt v (omega arith)) (turned-lt w (v / 256)))
+
+lows-last : (w d r : ℕ) → r < 256 ^ w → d < 256 → lows (suc w) (d * 256 ^ w + r) ≡ lows w r ++ (d ∷ [])
+lows-last zero d r lt b = ap (λ (x : ℕ). x ∷ []) (omega (arith, lt, b))
+lows-last (suc w) d r lt b =
+    let m = d * 256 ^ w in
+    let e : d * 256 ^ suc w + r ≡ m * 256 + r = rw (pow-suc 256 w, mul-assoc) in
+    let first : (d * 256 ^ suc w + r) % 256 ≡ r % 256 = rw e (omega arith) in
+    let rest : (d * 256 ^ suc w + r) / 256 ≡ m + r / 256 = rw e (omega arith) in
+    let below : r / 256 < 256 ^ w = omega (arith, lt, pow-suc 256 w) in
+    ap₂ (λ (x : ℕ) (l : List ℕ). x ∷ l) first (ap (lows (suc w)) rest ∙ lows-last w d (r / 256) below b)
+
+digits-last : (w v : ℕ) → v < 256 ^ suc w → digits (suc w) v ≡ digits w (v / 256) ++ (v % 256 ∷ [])
+digits-last zero v lt = ap (λ (x : ℕ). x ∷ []) (omega (arith, lt))
+digits-last (suc w) v lt = ap (λ (n : ℕ). digits (suc n) v) (sym (add-one w)) ∙ digits-parts w 1 v ∙ rw div-one
+
+pub lows-turned : (w v : ℕ) → v < 256 ^ w → lows w (turned w v) ≡ digits w v
+lows-turned zero v lt = refl
+lows-turned (suc w) v lt =
+    let below : v / 256 < 256 ^ w = omega (arith, lt, pow-suc 256 w) in
+    lows-last w (v % 256) (turned w (v / 256)) (turned-lt w (v / 256)) (mod-lt v (omega arith))
+    ∙ ap (λ (l : List ℕ). l ++ (v % 256 ∷ [])) (lows-turned w (v / 256) below)
+    ∙ sym (digits-last w v lt)
+
+half-lt : (v : ℕ) → v < 256 ^ 8 → v / 2 ^ 32 < 256 ^ 4
+half-lt v lt = omega (arith, lt)
+
+-- the same of eight bytes that are turned by halves, as `turned-halves` has it
+pub lows-halves : (v t : ℕ) → v < 256 ^ 8 → t ≡ turned 4 (v % 2 ^ 32) * 2 ^ 32 + turned 4 (v / 2 ^ 32)
+    → lows 4 (t % 2 ^ 32) ++ lows 4 (t / 2 ^ 32) ≡ digits 8 v
+lows-halves v t lt e =
+    let upper = v / 2 ^ 32 in
+    let lower = v % 2 ^ 32 in
+    let h = halves (turned 4 upper) (turned 4 lower) t (turned-lt 4 upper) (omega (arith, e)) in
+    ap₂ (λ (x y : ℕ). lows 4 x ++ lows 4 y) (h .0) (h .1)
+    ∙ ap₂ (λ (x y : List ℕ). x ++ y) (lows-turned 4 upper (half-lt v lt)) (lows-turned 4 lower (omega arith))
+    ∙ sym (digits-parts 3 4 v)
+
+-- the bytes of a number that is put together from two are those of the one and then those of the other
+pub digits-joined : (a b q r : ℕ) → r < 256 ^ b → digits (suc (a + b)) (q * 256 ^ b + r) ≡ digits (suc a) q ++ digits b r
+digits-joined a b q r lt = digits-parts a b (q * 256 ^ b + r) ∙ rw (digits-div q lt, digits-mod q lt)
 
 -- ---- entries of fixed layout
 

@@ -18,11 +18,15 @@ abbrev pub digits : ℕ → ℕ → List ℕ
 digits zero v = []
 digits (suc w) v = v / 256 ^ w ∷ digits w (v % 256 ^ w)
 
--- the number that the w bytes from `at` spell, the lowest first, and the w bytes of v in the other order. No entry point's contract
--- cites these two
+-- the number that the w bytes from `at` spell, the lowest first; the w bytes of v, the lowest first; and the number of the w bytes of v in
+-- the other order. No entry point's contract cites these three
 abbrev pub lowAt : ℕ → List ℕ → ℕ → ℕ
 lowAt zero s at = 0
 lowAt (suc w) s at = getD s at 0 + 256 * lowAt w s (at + 1)
+
+abbrev pub lows : ℕ → ℕ → List ℕ
+lows zero v = []
+lows (suc w) v = v % 256 ∷ lows w (v / 256)
 
 abbrev pub turned : ℕ → ℕ → ℕ
 turned zero v = 0

@@ -11,7 +11,7 @@ ghost use lib.ListN.{length, take, drop};
 ghost use mathlib.Core.List.{_++_};
 ghost use lib.Seq.{sets};
 ghost use Rattle.bits.specs.Words.{bitOf};
-ghost use Rattle.bits.specs.Numbers.{numAt, lowAt, turned, digits};
+ghost use Rattle.bits.specs.Numbers.{numAt, lowAt, lows, turned, digits};
 ghost use Rattle.bits.specs.Decimal.{decimal};
 
 // ---- words of bits
@@ -172,22 +172,41 @@ pub fn put16(s: &mut [u8], at: usize, v: u16)
     s[at + 1] = (v % 256) as u8;
 }
 
-// Writes the four bytes of `v` at `at`; all else stays.
+// Writes the four bytes of `v` at `at`, the lowest first; all else stays.
+fn put_low32(s: &mut [u8], at: usize, v: u32)
+    requires { ⌜ at + 4 ≤ length (now s) ⌝ }
+    ensures { λ _. ⌜ now (s .exit) ≡ sets (now (s .entry)) at (lows 4 v) ⌝ }
+{
+    s[at] = (v % 256) as u8;
+    s[at + 1] = (v / 256 % 256) as u8;
+    s[at + 2] = (v / 65536 % 256) as u8;
+    s[at + 3] = (v / 16777216) as u8;
+}
+
+// Writes the four bytes of `v` at `at`; all else stays. The number is turned and then written the lowest byte first: the compiler makes one
+// store of that, also where `v` is put together from several fields.
 pub fn put32(s: &mut [u8], at: usize, v: u32)
     requires { ⌜ at + 4 ≤ length (now s) ⌝ }
     ensures { λ _. ⌜ now (s .exit) ≡ sets (now (s .entry)) at (digits 4 v) ⌝ }
 {
-    put16(s, at, (v / 65536) as u16);
-    put16(s, at + 2, (v % 65536) as u16);
+    put_low32(s, at, turned32(v));
 }
 
-// Writes the eight bytes of `v` at `at`; all else stays.
+// Writes the eight bytes of `v` at `at`, the lowest first; all else stays.
+fn put_low64(s: &mut [u8], at: usize, v: u64)
+    requires { ⌜ at + 8 ≤ length (now s) ⌝ }
+    ensures { λ _. ⌜ now (s .exit) ≡ sets (now (s .entry)) at (lows 4 (v % 2 ^ 32) ++ lows 4 (v / 2 ^ 32)) ⌝ }
+{
+    put_low32(s, at, (v % 4294967296) as u32);
+    put_low32(s, at + 4, (v / 4294967296) as u32);
+}
+
+// Writes the eight bytes of `v` at `at`, in one store as `put32` does; all else stays.
 pub fn put64(s: &mut [u8], at: usize, v: u64)
     requires { ⌜ at + 8 ≤ length (now s) ⌝ }
     ensures { λ _. ⌜ now (s .exit) ≡ sets (now (s .entry)) at (digits 8 v) ⌝ }
 {
-    put32(s, at, (v / 4294967296) as u32);
-    put32(s, at + 4, (v % 4294967296) as u32);
+    put_low64(s, at, turned64(v));
 }
 
 // Copies the first n bytes of `src` to the front of `out`; what stands past them stays.

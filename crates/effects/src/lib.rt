@@ -8,6 +8,7 @@ ghost use Prim.Native.Nat.{_+_, _≤_};
 ghost use lib.ListN.{length};
 ghost use lib.Seq.{sets};
 ghost use Rattle.bits.specs.Layout.{pack};
+ghost use Rattle.bits.specs.Numbers.{digits};
 ghost use Rattle.effects.specs.Records.{recordLength, bytesOf, StandsAt};
 ghost use Rattle.effects.specs.declared.Event.{Event};
 use rules::EffectState;
@@ -40,32 +41,27 @@ pub const MOST_ROW_BYTES: usize = 384;
 
 // ---- the records
 
-fn put_number(buf: &mut [u8], at: usize, seq: u16, scan: u32, effect: u8)
-    requires { ⌜ at + 7 ≤ length (now buf) ⌝ }
-    ensures { λ _. ⌜ now (buf .exit) ≡ sets (now (buf .entry)) at (pack (2 ∷ 4 ∷ 1 ∷ []) (seq ∷ scan ∷ effect ∷ [])) ⌝ }
+// The first eight bytes of a record as one number: its sequence number, scan, effect and state before.
+fn head_of(r: Record) -> u64
+    ensures { λ h. ⌜ digits 8 h ≡ pack (2 ∷ 4 ∷ 1 ∷ 1 ∷ []) (r .seq ∷ r .scan ∷ r .effect ∷ r .from ∷ []) ⌝ }
 {
-    bits::put16(buf, at, seq);
-    bits::put32(buf, at + 2, scan);
-    bits::put8(buf, at + 6, effect);
+    (r.seq as u64 * 4294967296 + r.scan as u64) * 65536 + (r.effect as u64 * 256 + r.from as u64)
 }
 
-fn put_change(buf: &mut [u8], at: usize, from: u8, to: u8, first: u16)
-    requires { ⌜ at + 5 ≤ length (now buf) ⌝ }
-    ensures { λ _. ⌜ now (buf .exit) ≡ sets (now (buf .entry)) at (pack (1 ∷ 1 ∷ 1 ∷ 2 ∷ []) (from ∷ to ∷ 0 ∷ first ∷ [])) ⌝ }
+// The other four bytes: its state after, a zero and its first-out.
+fn tail_of(r: Record) -> u32
+    ensures { λ t. ⌜ digits 4 t ≡ pack (1 ∷ 1 ∷ 2 ∷ []) (r .to ∷ 0 ∷ r .«first_out» ∷ []) ⌝ }
 {
-    bits::put8(buf, at, from);
-    bits::put8(buf, at + 1, to);
-    bits::put8(buf, at + 2, 0);
-    bits::put16(buf, at + 3, first);
+    r.to as u32 * 16777216 + r.first_out as u32
 }
 
-// Puts a record at a place.
+// Puts a record at a place, as two numbers: each is one store, where field by field a record takes twelve.
 pub fn put_record(buf: &mut [u8], at: usize, r: Record)
     requires { ⌜ at + recordLength ≤ length (now buf) ⌝ }
     ensures { λ _. ⌜ now (buf .exit) ≡ sets (now (buf .entry)) at (bytesOf r) ⌝ }
 {
-    put_number(buf, at, r.seq, r.scan, r.effect);
-    put_change(buf, at + 7, r.from, r.to, r.first_out);
+    bits::put64(buf, at, head_of(r));
+    bits::put32(buf, at + 8, tail_of(r));
 }
 
 // The event whose record stands at a place.

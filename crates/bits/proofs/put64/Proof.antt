@@ -1,25 +1,18 @@
--- `bits::put64` meets its contract: its two halves, stored one after the other, are its eight bytes.
+-- `bits::put64` meets its contract: the eight bytes of the number that is turned, the lowest first, are its own.
 use borrow.Author.Needs.{needs}
-use mathlib.Core.Path.{_∙_}
+use mathlib.Core.Path.{ap, _∙_}
+use native.Mathlib.Omega.{arith}
 use denote.Ref.{now}
-use Rattle.bits.proofs.Numbers.{sets-parts}
+use lib.Seq.{sets}
+use Rattle.bits.proofs.Numbers.{lows-halves}
 use Rattle.bits.proofs.put64.Statement.{statement}
 use Rattle.bits.proofs.put64.Tie as tie
 
 returns : tie.Need-returns
 returns c =
-    let k = c .before .before in
-    let a = c .before .before .before .before .before .before .before .before .before .args in
-    k .put322 .ensures ∙ sets-parts (now (a .s)) _ (a .at) 3 4 (a .v) (c .before .before .before .before .before .before .put32 .ensures)
+    let a = c .before .before .before .before .before .before .args in
+    let t = c .before .before .before .turned64 in
+    c .before .before .put-low64 .ensures ∙ ap (sets (now (a .s)) (a .at)) (lows-halves (a .v) (t .result) (omega arith) (t .ensures))
 
 pub put64-spec : {M : Type 1} → statement M
-put64-spec =
-    tie.close
-    (tie.spec
-    (λ c. search needs)
-    (λ c κs. search needs)
-    (λ c. search needs)
-    (λ c. search needs)
-    (λ c κs. search needs)
-    (λ c. search needs)
-    returns)
+put64-spec = tie.close (tie.spec (λ c κs. search needs) (λ c κs. search needs) (λ c. search needs) returns)
