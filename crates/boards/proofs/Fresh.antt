@@ -1,8 +1,8 @@
 -- The table of effects that are all Tripped, without timers or first-outs, is the table of the slots of no effect.
-use Prim.Native.Nat.{ℕ, zero, suc, _<_, _≤_}
+use Prim.Native.Nat.{ℕ, _<_, _≤_}
 use native.Mathlib.Nat.{lt-of-lt-of-le}
-use mathlib.Core.Path.{_≡_, refl, ap, sym, _∙_}
-use mathlib.Core.Bool.{true, false}
+use mathlib.Core.Path.{_≡_, ap, sym, _∙_}
+use mathlib.Core.Bool.{true}
 use mathlib.Core.List.{List, _++_}
 use lib.ListN.{drop, getD, getD-replicate, replicate, take-append-drop}
 use Rattle.bits.specs.Lists.{tabulate}
@@ -16,15 +16,11 @@ use Rattle.planes.specs.Planes.{planesOf}
 use Rattle.planes.proofs.ByWord.{planesOf-ext}
 use Rattle.boards.specs.Table.{Table, padded, tableOf}
 use Rattle.boards.proofs.Step.{table, table-path}
+use Rattle.boards.proofs.Calm.{none-word}
 
 -- the effects of one word are Tripped, and no effect is in another state
 abbrev pub trippedAlone : ℕ → Planes
 trippedAlone all = record { tripped = all; «wait_reset» = 0; ready = 0; «wait_start» = 0; normal = 0; delayed = 0 }
-
-none-word : (n : ℕ) → wordOf (λ i. false) n ≡ 0
-unfolding wordOf
-none-word zero = refl
-none-word (suc n) = rw (none-word n)
 
 tripped-words : (n : ℕ) → planesOf n (λ i. Tripped) ≡ trippedAlone (wordOf (λ i. true) n)
 unfolding planesOf

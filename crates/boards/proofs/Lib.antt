@@ -1,4 +1,5 @@
 pub mod Bits
+pub mod Calm
 pub mod Due
 pub mod Fresh
 pub mod Going

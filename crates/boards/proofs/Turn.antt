@@ -2,10 +2,10 @@
 use mathlib.Core.Path.{_≡_, refl, ap, sym, _∙_}
 use mathlib.Core.Bool.{Bool, true, false, not, cond}
 use mathlib.Core.List.{List, [], _∷_}
-use Prim.Native.Nat.{ℕ, zero, suc, _+_, _-_, _*_, _%_, _^_, _<_, _≤_}
+use Prim.Native.Nat.{ℕ, suc, _+_, _-_, _*_, _%_, _^_, _<_, _≤_}
 use native.Mathlib.Nat.{mod-lt, zero-lt-suc}
 use native.Mathlib.Omega.{arith}
-use lib.Dec.{eqb}
+use lib.Dec.{eqb, leb}
 use lib.ListN.{getD, length, length-append}
 use lib.Seq.{sets, length-sets}
 use Rattle.bits.specs.Lists.{tabulate}
@@ -27,8 +27,9 @@ use Rattle.rounds.proofs.Held.{due}
 use Rattle.planes.specs.declared.Asked.{Asked}
 use Rattle.boards.specs.Board.{Board, entriesOf, scanned, later, unset, signalsBy, signalsIn, runOf, Right, boardOf}
 use Rattle.boards.specs.Table.{Table, blamed, Settled, Within, Steady, tableOf, tableAfter, quietsBy, slotsOf, padded, joined, entriesTo}
-use Rattle.planes.specs.Planes.{planesOf, changedOf, askedOf}
+use Rattle.planes.specs.Planes.{planesOf, planesAfter, changedOf, askedOf}
 use Rattle.planes.proofs.ByWord.{changed-word}
+use Rattle.boards.proofs.Calm.{unset-word, not-live, calm}
 use Rattle.boards.proofs.Steady.{steady-states}
 use Rattle.boards.proofs.Step.{Sees, table-step, table-middle}
 use Rattle.boards.proofs.Rest.{settled-after, settled-later}
@@ -38,15 +39,6 @@ use Rattle.boards.proofs.Slots.{length-slots}
 use Rattle.boards.proofs.Going.{Going, turn, fit, begins, ends}
 
 -- ## The reset cleared
-
-none-word : (n : ℕ) → wordOf (λ i. false) n ≡ 0
-unfolding wordOf
-none-word zero = refl
-none-word (suc n) = ap (λ (w : ℕ). w + 0) (none-word n)
-
-unset-word : (n : ℕ) (s : ℕ → Signals) → unset (askedOf n (λ i. asks (s i))) ≡ askedOf n (λ i. asks (clear (s i)))
-unfolding askedOf
-unset-word n s = rw (none-word n)
 
 sees-clear : (associations delays : List ℕ) (period : ℕ) (seen : Seen) (s : ℕ → Signals) → Sees associations delays period seen s → Sees associations delays period seen (λ i. clear (s i))
 sees-clear associations delays period seen s h = record { active = h .active; bad = h .bad; delay = h .delay; time = h .time }
@@ -92,6 +84,11 @@ module _ (n : ℕ) (few : n ≤ 16) (associations delays : List ℕ) (period : �
   middle : tableAfter n associations delays period seen w (tableOf n xs)
       ≡ record { planes = planesOf n (λ i. y i .state); timers = padded n (λ i. y i .timer); firsts = padded n (λ i. y i .«first_out») }
   middle = table-middle n few associations delays period seen s sees xs long
+
+  calm-table : changedOf (tableOf n xs .planes) (tableAfter n associations delays period seen w (tableOf n xs) .planes) ≡ 0
+      → let p = tableAfter n associations delays period seen w (tableOf n xs) .planes in changedOf p (planesAfter (unset w) 0 p) ≡ 0
+  unfolding tableOf
+  calm-table = rw middle (calm n few s (λ i. leb (getD xs i noSlot .timer) (s i .period)) (λ i. getD xs i noSlot .state))
 
   entries-middle : entriesOf n associations delays period seen w (boardOf n r)
       ≡ entriesTo (r .next) (r .«scans_done» + 1) (wordOf (λ i. moved (s i) (getD xs i noSlot)) n) (planesOf n (λ i. getD xs i noSlot .state)) (planesOf n (λ i. y i .state)) (padded n (λ i. y i .«first_out»)) 16
@@ -188,6 +185,12 @@ module _ {n : ℕ} {associations delays : List ℕ} {period : ℕ} {seen : Seen}
   pub steady : Steady n (x .table .planes) (scanned n associations delays period seen w x .table .planes)
   unfolding tableOf
   steady = rw (h .shown, h .asked, scan-here) (steady-states n (h .few) _ _)
+
+  -- after a scan that is not live the next one changes no state, where nothing is due
+  pub calm-scanned : scanned n associations delays period seen w x .live ≡ x .live
+      → let p = scanned n associations delays period seen w x .table .planes in changedOf p (planesAfter (unset w) 0 p) ≡ 0
+  unfolding scanned
+  calm-scanned = rw (h .shown, h .asked) (λ e. calm-table n (h .few) associations delays period seen (h .s) (h .sees) (h .r) (h .long) (not-live _ _ e))
 
   -- what has to rest after a scan rests
   pub settled-scanned : Settled n (scanned n associations delays period seen w x .table)

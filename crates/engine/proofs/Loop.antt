@@ -1,9 +1,12 @@
 -- The stroke's loop over a mark and the array that is lent beside it: what holds at its head, what its calls ask for, and that a turn
 -- keeps it.
-use mathlib.Core.Path.{_≡_, refl, ap}
+use mathlib.Core.Path.{_≡_, refl, ap, sym, _∙_}
+use mathlib.Core.Bool.{Bool}
 use mathlib.Core.List.{List}
 use Prim.Native.Nat.{ℕ, _+_, _-_, _*_, _^_, _≤_, _<_}
 use native.Mathlib.Omega.{arith}
+use borrow.Author.Tests.{eqb-true}
+use lib.Dec.{eqb}
 use lib.ListN.{length}
 use lib.Seq.{sets}
 use Rattle.rules.specs.Limits.{mostHold, mostScans}
@@ -17,10 +20,10 @@ use Rattle.cells.specs.Changed.{fallen}
 use Rattle.boards.specs.Table.{blamed, Still, Within, quietsBy, joined}
 use Rattle.boards.specs.Board.{Board, entriesOf, scanned, unset}
 use Rattle.engine.specs.Marks.{boardAt, begun}
-use Rattle.engine.specs.Stroke.{heldBy, ScanReady, ScanDone, StrokeReady, StrokeDone}
+use Rattle.engine.specs.Stroke.{Calm, heldBy, ScanReady, ScanDone, StrokeReady, StrokeDone}
 use Rattle.engine.proofs.Marks.{settled-there, within-there, skipped-is, skipped-same}
 use Rattle.cells.proofs.Parts.{same-then}
-use Rattle.boards.proofs.Turn.{Kept, fresh, starts, turned, within, within-then, steady, settled-scanned, fits, ended, done-fits, live-fits}
+use Rattle.boards.proofs.Turn.{Kept, fresh, starts, turned, within, within-then, steady, calm-scanned, settled-scanned, fits, ended, done-fits, live-fits}
 
 -- what holds at the loop's head. x₀: the mark that the loop begins with
 pub record Head (plan : Plan) (task : Task) (array₀ buf₀ : List ℕ) (x₀ : Mark) (w : Asked) (x : Mark) (array buf : List ℕ) (left fuel : ℕ) : Type 0 where
@@ -77,6 +80,12 @@ module _ {plan : Plan} {task : Task} {array₀ buf₀ : List ℕ} {x₀ : Mark} 
 
       pub still-scanned : Still n (y .planes .delayed) (timersIn mid)
       still-scanned = settled-there y mid board-then (settled-scanned (h .kept)) .still
+
+      -- after a scan that was not live the next one changes no state, where nothing is due
+      pub calm-then : {v : Asked} {still : Bool} → v ≡ unset w → still ≡ eqb (y .live) (x .live) → Calm v (y .planes) still
+      calm-then ev es e =
+          let same = sym (ap (λ (b : Board). b .live) board-then) ∙ eqb-true _ _ (sym es ∙ e) in
+          rw (ev, ap (λ (b : Board). b .table .planes) board-then) (calm-scanned (h .kept) same)
 
       pub left-fits : left - 1 ≤ mostHold
       left-fits = omega (arith, live-fits (h .kept))

@@ -1,6 +1,7 @@
 -- What a scan and a stroke of the words ask for, and what they give. No entry point's contract cites this page.
 use Prim.Native.Nat.{ℕ, _+_, _*_, _≤_, _<_}
 use mathlib.Core.Path.{_≡_}
+use mathlib.Core.Bool.{Bool, true}
 use mathlib.Core.List.{List}
 use lib.ListN.{length}
 use lib.Seq.{sets}
@@ -10,6 +11,8 @@ use Rattle.rules.specs.declared.Seen.{Seen}
 use Rattle.rules.specs.Signals.{Signals}
 use Rattle.rounds.specs.Steps.{Run, held}
 use Rattle.planes.specs.declared.Asked.{Asked}
+use Rattle.planes.specs.declared.Planes.{Planes}
+use Rattle.planes.specs.Planes.{planesAfter, changedOf}
 use Rattle.engine.specs.declared.Mark.{Mark}
 use Rattle.cells.specs.declared.Plan.{Plan}
 use Rattle.engine.specs.declared.Task.{Task}
@@ -17,6 +20,10 @@ use Rattle.cells.specs.Array.{arrayLength, associationsIn, delaysIn, Same}
 use Rattle.boards.specs.Table.{Settled, Within, Steady, joined}
 use Rattle.boards.specs.Board.{Board, entriesOf, scanned, signalsIn, runOf, boardOf, Right}
 use Rattle.engine.specs.Marks.{boardAt}
+
+-- if the scan before has changed no state, the next one changes none, where nothing is due
+abbrev pub Calm : Asked → Planes → (still : Bool) → Type 0
+Calm w p still = still ≡ true → changedOf p (planesAfter w 0 p) ≡ 0
 
 -- ## A scan
 

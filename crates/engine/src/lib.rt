@@ -5,17 +5,20 @@
 // point: inner functions alone cite it.
 ghost use mathlib.Core.Path.{_≡_};
 ghost use Prim.Native.Nat.{_+_, _-_, _*_, _/_, _%_, _^_, _<_, _≤_};
-ghost use lib.ListN.{length};
+ghost use mathlib.Core.Bool.{not};
+ghost use lib.Dec.{eqb};
+ghost use lib.ListN.{getD, length};
 ghost use lib.Seq.{sets};
-ghost use Rattle.bits.specs.Words.{one};
+ghost use Rattle.bits.specs.Words.{bitOf, one, wordOf};
 ghost use Rattle.rules.specs.Limits.{mostHold, mostPeriod, mostScans};
 ghost use Rattle.effects.specs.Records.{recordLength};
 ghost use Rattle.cells.specs.Array.{timersIn, firstsIn};
 ghost use Rattle.cells.specs.Changed.{settledIn};
-ghost use Rattle.boards.specs.Table.{quietsBy, joined};
+ghost use Rattle.planes.specs.Planes.{planesAfter, changedOf};
+ghost use Rattle.boards.specs.Table.{dueAt, lowTo, quietsBy, joined};
 ghost use Rattle.boards.specs.Board.{unset as unsetOf};
 ghost use Rattle.engine.specs.Marks.{recordBy, scanEntries, Changeable, begun};
-ghost use Rattle.engine.specs.Stroke.{ScanReady, ScanDone, StrokeReady, StrokeDone};
+ghost use Rattle.engine.specs.Stroke.{Calm, ScanReady, ScanDone, StrokeReady, StrokeDone};
 use cells::Plan;
 use effects::Record;
 use planes::Asked;
@@ -42,18 +45,30 @@ pub struct Mark {
 
 // ---- scans that are not live
 
-// How many of the next n scans leave every state as it is.
-fn quiets(n: u32, board: &[u32; 64], plan: Plan, w: Asked, p: Planes) -> u32
-    requires { ⌜ (plan .count ≤ 16) × (n ≤ mostHold) × (0 < plan .period) × (plan .period ≤ mostPeriod) × (p .delayed < 2 ^ plan .count) ⌝ }
+// Whether the next scan changes a state. low: the least timer of the effects in Delayed. still: the scan before has changed none; then only
+// a delay that runs out can, and the rules are not asked once more.
+fn changes_next(board: &[u32; 64], plan: Plan, w: Asked, p: Planes, low: u32, still: bool) -> bool
+    requires { ⌜ (plan .count ≤ 16) × (p .delayed < 2 ^ plan .count) × (low ≡ lowTo (bitOf (p .delayed)) (λ i. getD (timersIn (now board)) i 0) (plan .count)) × Calm w p still ⌝ }
+    ensures { λ r. ⌜ r ≡ not (eqb (changedOf p (planesAfter w (wordOf (dueAt (timersIn (now (board .entry))) (plan .period)) (plan .count)) p)) 0) ⌝ }
+{
+    if still & (plan.period < low) {
+        return false;
+    }
+    let due = cells::due_by(board, plan, p.delayed, low);
+    let next = planes::planes_after(w, due, p);
+    planes::changed(p, next) != 0
+}
+
+// How many of the next n scans leave every state as it is. still: the scan before has changed none.
+fn quiets(n: u32, board: &[u32; 64], plan: Plan, w: Asked, p: Planes, still: bool) -> u32
+    requires { ⌜ (plan .count ≤ 16) × (n ≤ mostHold) × (0 < plan .period) × (plan .period ≤ mostPeriod) × (p .delayed < 2 ^ plan .count) × Calm w p still ⌝ }
     ensures { λ r. ⌜ r ≡ quietsBy n (plan .count) (plan .period) w p (timersIn (now (board .entry))) ⌝ }
 {
     if n == 0 {
         return n;
     }
     let low = cells::low_timer(board, plan.count, p.delayed);
-    let due = cells::due_by(board, plan, p.delayed, low);
-    let next = planes::planes_after(w, due, p);
-    if planes::changed(p, next) != 0 {
+    if changes_next(board, plan, w, p, low, still) {
         return 0;
     }
     if p.delayed == 0 {
@@ -161,6 +176,13 @@ fn later(k: u32, x: Mark) -> Mark
     }
 }
 
+// Whether the scan from x to y was not live.
+fn unmoved(x: Mark, y: Mark) -> bool
+    ensures { λ r. ⌜ r ≡ eqb (y .live) (x .live) ⌝ }
+{
+    y.live == x.live
+}
+
 // What is asked in the scans after the first: the reset counts in the first scan and is zero afterwards.
 fn unset(w: Asked) -> Asked
     ensures { λ r. ⌜ r ≡ unsetOf w ⌝ }
@@ -200,7 +222,7 @@ pub fn stroke(buf: &mut [u8], board: &mut [u32; 64], plan: Plan, task: Task, fro
         let v = unset(w);
         let rest = left - 1;
         let p = y.planes;
-        let k = quiets(rest, board, plan, v, p);
+        let k = quiets(rest, board, plan, v, p, unmoved(x, y));
         cells::timers_later(k, board, plan, p.delayed);
         w = v;
         x = later(k, y);

@@ -5,7 +5,7 @@ use borrow.Author.Needs.{needs}
 use lib.Bits.{or-lt}
 use Rattle.boards.proofs.Quiet.{quiets-few}
 use Rattle.boards.proofs.Turn.{as-long}
-use Rattle.engine.proofs.Loop.{Head, begins, scan-ready, within-scanned, still-scanned, left-fits, scanned-fits, goes-on, ends}
+use Rattle.engine.proofs.Loop.{Head, begins, scan-ready, within-scanned, still-scanned, calm-then, left-fits, scanned-fits, goes-on, ends}
 use Rattle.engine.proofs.stroke.Statement.{statement}
 use Rattle.engine.proofs.stroke.Tie as tie
 
@@ -34,16 +34,16 @@ within-loop c = c .before .before .before
 
 quiets-requires : tie.Need-quiets-requires Inv-loop μ-loop
 quiets-requires c κs =
-    let k = c .before .before .before .before .before in
+    let k = c .before .before .before .before .before .before in
     let i = within-loop k in
     let h = i .before .loop .inv in
     let more = i .loop-test .taken in
-    (h .kept .few, left-fits h more (k .scan .ensures), h .kept .pos, h .kept .short, within-scanned h more (k .scan .ensures) .0)
+    (h .kept .few, left-fits h more (k .scan .ensures), h .kept .pos, h .kept .short, within-scanned h more (k .scan .ensures) .0, calm-then h more (k .scan .ensures) (c .before .before .before .unset .ensures) (c .unmoved .ensures))
 
 -- ## After the scans that are skipped are counted
 
 abbrev after-scan : tie.After-quiets Inv-loop μ-loop → tie.After-scan Inv-loop μ-loop
-after-scan c = c .before .before .before .before .before .before
+after-scan c = c .before .before .before .before .before .before .before
 
 -- the scans that are skipped are at most those left
 few : (c : tie.After-quiets Inv-loop μ-loop) → c .quiets .result ≤ within-loop (after-scan c) .before .loop .left - 1
@@ -76,7 +76,7 @@ loop-again c =
     let q = c .before .before .before in
     let k = after-scan q in
     let i = within-loop k in
-    goes-on (i .before .loop .inv) (i .loop-test .taken) (k .scan .ensures) (q .before .before .before .unset .ensures) (q .quiets .ensures) (c .before .timers-later .ensures) (c .later .ensures)
+    goes-on (i .before .loop .inv) (i .loop-test .taken) (k .scan .ensures) (q .before .before .before .before .unset .ensures) (q .quiets .ensures) (c .before .timers-later .ensures) (c .later .ensures)
 
 same-length : tie.Need-same-length Inv-loop μ-loop
 same-length c = as-long (c .before .loop .inv .kept)
@@ -98,6 +98,7 @@ stroke-spec =
     scan-requires
     (λ c κs. search needs)
     (λ c. search needs)
+    (λ c κs. search needs)
     quiets-requires
     timers-later-requires
     later-requires
