@@ -1,5 +1,5 @@
--- After a scan that has changed no state, the next one changes none either, unless a delay runs out: nothing new is asked of it, and the
--- reset, which is then zero, holds no effect where it is. It is computed at every answer to what the rules ask.
+-- After a scan that has changed no state, the next one changes none either, unless a delay runs out: the same is asked of it but for the
+-- reset, and an effect that stays where it is with the reset stays there without it. This is computed at every answer to what the rules ask.
 use mathlib.Core.Path.{_≡_, refl, ap, sym, _∙_}
 use mathlib.Core.Bool.{Bool, true, false, not, _||_}
 use Prim.Native.Nat.{ℕ, zero, suc, _+_, _<_, _≤_}
