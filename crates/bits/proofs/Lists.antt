@@ -84,11 +84,11 @@ module _ {A : Type 0} where
   -- one turn of a loop that tests element i, where those before it passed
   module _ (t : ℕ → A → Bool) (i : ℕ) (xs : List A) (d : A) (result : Bool) (h : i < length xs)
       (is : result ≡ t i (get_or xs i d)) (inv : all_from t i (drop i xs) ≡ all_from t 0 xs) where
-    pub all-fails : not result ≡ true → false ≡ all_from t 0 xs
-    all-fails n = rw (← inv, all_step t i xs d h, ← is, not-true result n)
+    pub all_fails : result ≡ false → false ≡ all_from t 0 xs
+    all_fails n = rw (← inv, all_step t i xs d h, ← is, n)
 
-    pub all_goes_on : not result ≡ false → all_from t (i + 1) (drop (i + 1) xs) ≡ all_from t 0 xs
-    all_goes_on n = rw (← inv, all_step t i xs d h, ← is, not-false result n)
+    pub all_goes_on : result ≡ true → all_from t (i + 1) (drop (i + 1) xs) ≡ all_from t 0 xs
+    all_goes_on n = rw (← inv, all_step t i xs d h, ← is, n)
 
   pub all_ends : (t : ℕ → A → Bool) (i : ℕ) (xs : List A) → length xs ≤ i → all_from t i (drop i xs) ≡ all_from t 0 xs → true ≡ all_from t 0 xs
   all_ends t i xs h inv = rw (← inv, drop_of_length-le xs h)

@@ -38,16 +38,9 @@ pub put_last : {A : Type 0} (l l' : List A) (at n : ℕ) (vs : List A) (v : A) �
     → set l' n v ≡ sets l at (vs ++ (v ∷ []))
 put_last l l' at n vs v p e = rw (p, e) (sym (sets-append l at vs (v ∷ [])))
 
--- a part from `at` to the end that comes back with vs at its front: vs is stored at `at`
-pub part_stored : {A : Type 0} (vs l part : List A) (at : ℕ) → at + length vs ≤ length l → part ≡ vs ++ drop (length vs) (mid_of at (length l - at) l)
-    → put_mid at (length l - at) l part ≡ sets l at vs
-part_stored vs l part at h e =
-    let rest = drop at l in
-    let k = length l - at in
-    let n : length rest ≡ k = length-drop at l in
-    let all : take k rest ≡ rest = take_all k rest (omega (arith, n)) in
-    let none : drop k rest ≡ [] = drop_of_length-le rest {i = k} (omega (arith, n)) in
-    rw (e, all, none, append-nil, drop-drop (length vs) at l, sets-eq vs l at h, append_assoc)
+-- a part from `at` on that becomes vs: vs is stored at `at`
+pub part_text : {A : Type 0} (vs l part : List A) (at k : ℕ) → at + length vs ≤ length l → k ≡ length vs → part ≡ vs → put_mid at k l part ≡ sets l at vs
+part_text vs l part at k h n e = rw (e, n, drop-drop (length vs) at l, sets-eq vs l at h, append_assoc)
 
 -- ---- a number of w bytes
 

@@ -2,6 +2,8 @@
 // the kit where the kit has a function, as for copying bytes.
 // How a function computes its answer may change without moving a contract; what the answer is stands in specs/, and the laws in
 // proofs/ are cited by name.
+#![tactic(auto)]
+
 ghost use Rattle.std.specs.Prelude.{◌≡◌, cond, ◌+◌, ◌-◌, ◌*◌, ◌/◌, ◌%◌, ◌^◌, ◌≤◌, ◌<◌, ltb, length, take, drop, ◌++◌};
 ghost use Rattle.std.specs.Int.Count.{ones};
 ghost use Rattle.std.proofs.lemmas.List.Edits.{sets};
@@ -209,7 +211,7 @@ pub fn copy_front(src: &[u8], n: usize, out: &mut [u8])
     requires { (n ≤ length src.now) × (n ≤ length out.old) }
     ensures { out.new ≡ take n src.now ++ drop n out.old }
 {
-    bytes::copy(&src[..n], out);
+    out[..n].copy_from_slice(&src[..n]);
 }
 
 // ---- text
@@ -219,7 +221,9 @@ pub fn put_text(s: &mut [u8], at: usize, text: &[u8]) -> usize
     requires { at + length text.now ≤ length s.old }
     ensures { (result ≡ at + length text.now) × (s.new ≡ sets s.old at text.now) }
 {
-    at + bytes::copy(text, &mut s[at..])
+    let end = at + text.len();
+    s[at..end].copy_from_slice(text);
+    end
 }
 
 // Writes a number in decimal at `at`, and answers the place after it; all else stays. It calls itself for the digits

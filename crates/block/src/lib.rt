@@ -2,6 +2,8 @@
 // scan", "Held runs and their two counts" and "Refusal numbers".
 // It rests on `settings` and `slots` for what is valid and on `wiring` for the run. How a run is made (`run_right`, `run_kept` and all
 // below them) may change without moving a contract; the order of the refusal numbers and what a state keeps may not.
+#![tactic(auto)]
+
 ghost use Rattle.std.specs.Prelude.{◌≡◌, true, ◌*◌, ◌≤◌, ◌<◌, length, replicate};
 ghost use Rattle.std.proofs.lemmas.List.Edits.{sets};
 ghost use Rattle.bits.specs.Words.{one, word_of};
@@ -23,7 +25,7 @@ use settings::{Row, Settings, Words};
 use wiring::Struck;
 
 // The state of the block: scans done, the next sequence number, and sixteen slots, one for each effect.
-#[derive(Drop)]
+#[derive(Clone, Copy)]
 pub struct State {
     pub scans_done: u32,
     pub next: u16,
@@ -32,7 +34,7 @@ pub struct State {
 
 // What a scan answers: a refusal number (0 for none) and its place, the state after the scan or the given one, the effect and
 // the latent word, and the number of records.
-#[derive(Drop)]
+#[derive(Clone, Copy)]
 pub struct Scanned {
     pub number: u8,
     pub place: usize,
@@ -43,7 +45,7 @@ pub struct Scanned {
 }
 
 // What a held run answers: what a scan answers, with the words of its last scan, and its live and exercised scans.
-#[derive(Drop)]
+#[derive(Clone, Copy)]
 pub struct Held {
     pub number: u8,
     pub place: usize,

@@ -53,7 +53,7 @@ length-advances k (s ∷ ss) (x ∷ xs) = ap suc (length-advances k ss xs)
 seq_lt : (q : ℕ) (ss : List Signals) (xs : List Slot) → q < 65536 → seq_after q ss xs < 65536
 seq_lt q [] xs h = h
 seq_lt q (s ∷ ss) [] h = h
-seq_lt q (s ∷ ss) (x ∷ xs) h = seq_lt _ ss xs (go (moved s x))
+seq_lt q (s ∷ ss) (x ∷ xs) h = seq_lt (cond (moved s x) (wrapped q) q) ss xs (go (moved s x))
   where
     go : (b : Bool) → cond b (wrapped q) q < 65536
     go true = mod-lt (q + 1) (zero-lt-suc 65535)

@@ -2,6 +2,8 @@
 // an answer, the filling of a lent buffer, and lines of hexadecimal digits. second/README.md lays the streams out. It rests on
 // `block`, `layout` (for effects) and what these rest on, and on the kit's `io` and `libc`; no promise rests on it. All but the
 // streams may change.
+#![tactic(auto)]
+
 ghost use Rattle.std.specs.Prelude.{◌≡◌, ◌+◌, ◌*◌, ◌%◌, ◌<◌, ◌≤◌, min, length};
 ghost use mathlib.Core.List.{[], ◌∷◌, flat_map};
 ghost use Rattle.std.proofs.lemmas.List.Edits.{sets};

@@ -2,6 +2,8 @@
 // bits of a word of effects. Document 01, "The rules of one scan" and "Held runs and their two counts".
 // This crate is a part of the algorithm of `engine`. It rests on `boards` for what the parts mean and on `planes` for the states.
 // All of it may change without moving a contract of an entry point: inner functions alone cite it.
+#![tactic(auto)]
+
 mod slots;
 
 ghost use Rattle.std.specs.Prelude.{◌≡◌, ◌-◌, ◌*◌, ◌^◌, ◌<◌, ◌≤◌, min, get_or};
@@ -16,7 +18,7 @@ pub use slots::{load, slots_of};
 
 // What stays the same from row to row: the number of effects, the scan period, the options, and words of effects and causes: all
 // effects, those with a delay, and the causes that any effect watches.
-#[derive(Drop)]
+#[derive(Clone, Copy)]
 pub struct Plan {
     pub count: usize,
     pub period: u32,

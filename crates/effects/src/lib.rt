@@ -2,6 +2,8 @@
 // words, stands in specs/ and is computed by words of effects in `planes`. It rests on `rules` and `bits`.
 // How a record's bytes are put may change without moving a contract; which bytes they are is `record_of`, and `encode` of an
 // event, in specs/Records.
+#![tactic(auto)]
+
 ghost use Rattle.std.specs.Prelude.{◌≡◌, [], ◌∷◌, ◌+◌, ◌≤◌, length};
 ghost use Rattle.std.proofs.lemmas.List.Edits.{sets};
 ghost use Rattle.bits.specs.Layout.{pack};
@@ -12,7 +14,7 @@ ghost use Rattle.effects.specs.declared.Event.{Event};
 use rules::EffectState;
 
 // An event: what a record holds.
-#[derive(Drop)]
+#[derive(Clone, Copy)]
 pub struct Event {
     pub seq: u16,
     pub scan: u32,
@@ -23,7 +25,7 @@ pub struct Event {
 }
 
 // What a record holds, as its bytes give it: the states are codes.
-#[derive(Drop)]
+#[derive(Clone, Copy)]
 pub struct Record {
     pub seq: u16,
     pub scan: u32,

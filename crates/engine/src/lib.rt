@@ -3,6 +3,8 @@
 // This crate is an algorithm alone: it is proved to give what `boards` says of words, and so the held run over lists of slots. It rests on
 // `cells` for the array, on `boards` and `planes`, and on what those rest on. All of it may change without moving a contract of an entry
 // point: inner functions alone cite it.
+#![tactic(auto)]
+
 ghost use Rattle.std.specs.Prelude.{◌≡◌, ◌+◌, ◌-◌, ◌*◌, ◌/◌, ◌%◌, ◌^◌, ◌<◌, ◌≤◌, not, length, ◌==◌, slice_index};
 ghost use Rattle.std.proofs.lemmas.List.Edits.{sets};
 ghost use Rattle.bits.specs.Words.{bit_of, one, word_of};
@@ -22,7 +24,7 @@ use planes::{Asked, Planes};
 use rules::Seen;
 
 // What a row asks of a stroke: its hold, what is seen of the causes, and what the rules ask.
-#[derive(Drop)]
+#[derive(Clone, Copy)]
 pub struct Task {
     pub hold: u32,
     pub seen: Seen,
@@ -32,7 +34,7 @@ pub struct Task {
 // How far a run of scans has got: the scans done, the next sequence number, the place after the records in the buffer, the live scans so
 // far, and the effects' states. Associations, delays, timers and first-outs are in one array that is lent beside it. Timers and first-outs
 // change in place: to copy them from scan to scan would cost more than all the rest.
-#[derive(Drop)]
+#[derive(Clone, Copy)]
 pub struct Mark {
     pub scans_done: u32,
     pub next: u16,

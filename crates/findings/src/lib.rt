@@ -3,6 +3,8 @@
 // stands, and the tests of that entry, in the order of its fields, say which one it fails.
 // It rests on `recording` and `rerun` for the refusal number and place, and on `layout` and `settings` for what is valid. How the finding
 // is found may change without moving a contract; `sentences` has the words.
+#![tactic(auto)]
+
 ghost use Rattle.std.specs.Prelude.{◌≡◌, ◌+◌, ◌*◌, ◌^◌, ◌≤◌, ◌<◌, leb, ltb, length};
 ghost use Rattle.layout.specs.declared.Kind.TheVariants.{Rows};
 ghost use Rattle.layout.specs.Entries.{row_at};
@@ -17,7 +19,7 @@ use recording::Answer;
 use settings::{Effect, Row, Words};
 
 // Where a byte stands: in the count of a section, in an entry, counted from 1, or past the last row.
-#[derive(Drop)]
+#[derive(Clone, Copy)]
 pub enum Spot {
     Count(Kind),
     Entry(Kind, u16),
@@ -25,7 +27,7 @@ pub enum Spot {
 }
 
 // The ten words of a row.
-#[derive(Drop)]
+#[derive(Clone, Copy)]
 pub enum RowWord {
     Values,
     Bad,
@@ -41,7 +43,7 @@ pub enum RowWord {
 
 // What is wrong with an entry: a field of the block, of an effect, or of a row; two words of a row together; or that the row ends
 // after the last scan that can be counted.
-#[derive(Drop)]
+#[derive(Clone, Copy)]
 pub enum Fault {
     CauseCount,
     Options,
@@ -58,7 +60,7 @@ pub enum Fault {
 
 // Why a recording is refused: nothing is wrong; the bytes end in a count or in an entry; a count is wrong, or an entry; bytes
 // follow the last row. Entries are counted from 1.
-#[derive(Drop)]
+#[derive(Clone, Copy)]
 pub enum Finding {
     Nothing,
     CountEnds {
@@ -81,7 +83,7 @@ pub enum Finding {
 
 // What a whole file is answered: its refusal number and place, or 0 and 0; the number of its rows, or 0 where the reader refuses it;
 // and why.
-#[derive(Drop)]
+#[derive(Clone, Copy)]
 pub struct Explained {
     pub number: u8,
     pub place: usize,

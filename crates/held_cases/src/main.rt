@@ -1,5 +1,7 @@
 // Answers a stream of held cases: 245 bytes each on standard input, a line each on standard output. second/README.md
 // lays both out. It is a test program over `block`, `layout` (for words), `cases` and `streams`: all but the stream may change.
+#![tactic(auto)]
+
 ghost use Rattle.std.specs.Prelude.{◌≡◌, ◌≤◌, length};
 
 use block::{Held, Scanned};

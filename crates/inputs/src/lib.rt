@@ -2,6 +2,8 @@
 // If an input cannot be opened or read, standard error says so with its name; it is not taken for an empty one. Every command that takes
 // names stands on this crate. It rests on `bits` and on the kit's `os`, `io` and `libc`; no contract can say what is read or written. All but the
 // messages and the statuses may change.
+#![tactic(auto)]
+
 ghost use Rattle.std.specs.Prelude.{◌≡◌, ◌⊎◌, ◌+◌, ◌≤◌, max, min, length};
 ghost use Rattle.inputs.specs.Lengths.{most_program, most_name, most_message};
 ghost use Rattle.inputs.specs.Statuses.{done, refused, unread, unwritten};
@@ -106,7 +108,7 @@ pub fn write(program: &[u8], text: &[u8]) -> u8
 // ---- reading
 
 // Whether an input could be read, and how many bytes it has, up to the room for them.
-#[derive(Drop)]
+#[derive(Clone, Copy)]
 pub struct Input {
     pub good: bool,
     pub size: usize,
@@ -193,7 +195,7 @@ pub const ASKED: usize = 1;
 pub const FIRST_NAME: usize = 2;
 
 // Whether an argument is in the lent buffer whole, and how many bytes it has.
-#[derive(Drop)]
+#[derive(Clone, Copy)]
 pub struct Name {
     pub good: bool,
     pub size: usize,

@@ -2,6 +2,8 @@
 // has the quick test of rows. Document 01, "Recordings".
 // It rests on `settings` and `bits`; `recording` has the reader, and `writing` the writer. How a row is tested may change without moving
 // a contract.
+#![tactic(auto)]
+
 mod quick;
 
 ghost use Rattle.std.specs.Prelude.{◌≡◌, ◌++◌, ◌+◌, ◌*◌, ◌-◌, ◌≤◌, length, replicate};
@@ -15,7 +17,7 @@ ghost use Rattle.layout.specs.Barred.{Skipped};
 use settings::{Effect, Known, Row, Words};
 
 // The kinds of section, in the order of the file.
-#[derive(Drop)]
+#[derive(Clone, Copy)]
 pub enum Kind {
     Block,
     Effects,
@@ -23,7 +25,7 @@ pub enum Kind {
 }
 
 // What a section results in: the place after it, or a refusal.
-#[derive(Drop)]
+#[derive(Clone, Copy)]
 pub enum Section {
     Next(usize),
     Refused { number: u8, place: usize },

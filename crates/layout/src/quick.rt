@@ -15,7 +15,7 @@ use super::ROW_BYTES;
 use settings::{Known, Row};
 
 // The bits that no valid row has, in each of its three numbers of eight bytes, and whether several effects may be forced.
-#[derive(Drop)]
+#[derive(Clone, Copy)]
 struct Bars {
     first: u64,
     second: u64,

@@ -3,6 +3,8 @@
 // written, and the caller goes on with more room. A place within the buffer stays within it, so that a caller need not show it.
 // It rests on `rerun`, `reasoned` and `text`, and on what those rest on. How lines are put, and the records that a row leaves on the way, may change
 // without moving a contract; the text is specs/Text of `text`, and when a buffer is full is part of every contract.
+#![tactic(auto)]
+
 ghost use Rattle.std.specs.Prelude.{◌≡◌, ◌+◌, ◌<◌, ◌≤◌, length};
 ghost use Rattle.std.proofs.lemmas.List.Edits.{sets};
 ghost use Rattle.recording.specs.Answers.{row_count_of};
@@ -20,14 +22,14 @@ use rules::Seen;
 use text::Column;
 
 // Whether the buffer was full, and the place after the piece.
-#[derive(Drop)]
+#[derive(Clone, Copy)]
 pub struct Piece {
     pub full: bool,
     pub at: usize,
 }
 
 // Whether the buffer was full, the place after a row's lines, and the row's turn. Where the buffer was full, no row was run.
-#[derive(Drop)]
+#[derive(Clone, Copy)]
 pub struct Printed {
     pub full: bool,
     pub at: usize,

@@ -1,6 +1,8 @@
 // What the programs that print listings share: a listing or a line on standard output, and how that ended. docs/DECISIONS.md says what
 // happens where output fails. `program` is the name that messages begin with. It rests on `printing` for a listing, on `reports` for a
 // heading and on `inputs` for messages and statuses. All but what is printed, and the status (specs/Endings), may change.
+#![tactic(auto)]
+
 ghost use Rattle.std.specs.Prelude.{◌≡◌, ◌≤◌, length};
 ghost use Rattle.inputs.specs.Lengths.{most_program};
 ghost use Rattle.reports.specs.Reports.{most_name};

@@ -1,6 +1,8 @@
 // The table of how all effects stand after the last scan of a recording, at the front of a lent buffer. Document 02, L4; the table is ours.
 // It rests on `standing` for what is shown, on `text` and `wording` for the fields and on `rerun` for the refusal. How lines are put may
 // change without moving a contract; the text is specs/Now.
+#![tactic(auto)]
+
 ghost use Rattle.std.specs.Prelude.{◌≡◌, ◌+◌, ◌≤◌, ◌<◌, length, get_or};
 ghost use Rattle.std.proofs.lemmas.List.Edits.{sets};
 ghost use Rattle.rules.specs.Limits.{most_effects};
@@ -22,7 +24,7 @@ use settings::Settings;
 use standing::Standing;
 
 // What is shown of a recording: its refusal number or 0, and how many bytes its text has.
-#[derive(Drop)]
+#[derive(Clone, Copy)]
 pub struct Shown {
     pub number: u8,
     pub size: usize,

@@ -1,5 +1,7 @@
 // The numbers that cross to other languages, 8 bytes each: the answer to a check, and what a replay results in, at the front of lent
 // bytes if they fit. It rests on `rerun` for what a replay results in. `pohandira` says which of them cross, and when.
+#![tactic(auto)]
+
 ghost use Rattle.std.specs.Prelude.{◌≡◌, [], ◌∷◌, ◌+◌, ◌*◌, ◌≤◌, length};
 ghost use Rattle.std.proofs.lemmas.List.Edits.{sets};
 ghost use Rattle.settings.specs.Refusals.{or_else, room_number};

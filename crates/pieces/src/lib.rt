@@ -1,6 +1,8 @@
 // The pieces of a recording as bytes: the opening and a row, put at a place where they fit. Document 01, "Recordings". It rests on
 // `layout`, whose table of sections has the widths, on `recording` for the definition of the bytes, on `settings` and `bits`. How the
 // bytes are put may change without moving a contract.
+#![tactic(auto)]
+
 ghost use Rattle.std.specs.Prelude.{◌≡◌, ◌+◌, ◌*◌, ◌^◌, ◌≤◌, ◌<◌, length, take};
 ghost use mathlib.Core.List.{◌∷◌, [], flat_map};
 ghost use Rattle.std.proofs.lemmas.List.Edits.{sets};

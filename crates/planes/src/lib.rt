@@ -3,6 +3,8 @@
 // What the rules mean stands in the specs of `rules`, effect by effect; the proofs here show that the formulas give the same, and `boards`
 // shows it of a scan and a held run. It rests on `rules` and `bits`. All of it may change without moving a contract of an entry point:
 // inner functions alone cite it.
+#![tactic(auto)]
+
 mod words;
 
 ghost use Rattle.std.specs.Prelude.{◌≡◌, ◌≤◌, ◌<◌};
@@ -12,7 +14,7 @@ pub use words::{planes_of, slot_of};
 
 // What the rules ask of all effects, one bit an effect. bad_trip, active and with_delay: the effect's Bad causes, its active word and its
 // delay are not 0.
-#[derive(Drop)]
+#[derive(Clone, Copy)]
 pub struct Asked {
     pub force_trip: u16,
     pub force_normal: u16,
@@ -26,7 +28,7 @@ pub struct Asked {
 }
 
 // The states of all effects: bit i is set in the word of effect i's state.
-#[derive(Drop)]
+#[derive(Clone, Copy)]
 pub struct Planes {
     pub tripped: u16,
     pub wait_reset: u16,

@@ -1,6 +1,8 @@
 // What the settings give to the words of effects: which causes and delays stand behind each effect, in the lent array, and what stays
 // the same from row to row. Document 01, "Settings, row, state".
 // It rests on `cells` for the array and on `settings`. All of it may change without moving a contract of an entry point.
+#![tactic(auto)]
+
 ghost use Rattle.std.specs.Prelude.{◌≡◌, true, ◌≤◌, ltb};
 ghost use Rattle.std.proofs.lemmas.List.Edits.{sets};
 ghost use Rattle.bits.specs.Lists.{tabulate};

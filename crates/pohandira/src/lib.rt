@@ -3,6 +3,8 @@
 // specs/Crossing, for season totals in season_bytes/specs/Bytes and for reasons in why_bytes/specs/Bytes; include/pohandira.h says it in C.
 // It rests on `rerun` for the replay, on `room` for refusal number 10, on `numbers` for the bytes of what crosses, on `season_bytes` for the
 // totals and on `why_bytes` for the reasons. The numbers that cross, their order and their 8 bytes may not change without moving a contract.
+#![tactic(auto)]
+
 ghost use Rattle.std.specs.Prelude.{◌≡◌, length};
 ghost use Rattle.rerun.specs.Replay.{replay};
 ghost use Rattle.rerun.specs.Turn.{Going, stop_of};

@@ -1,6 +1,8 @@
 // A listing on standard output: its text is `listing`'s, collected in one lent buffer and handed over when no piece fits any more
 // and at the end. All programs that print listings do it here. It rests on `listing` and what that rests on, and on the kit's `io` and
 // `libc`. When a part is handed over may change without moving a contract; the parts joined, and the answers 0, 1 and 2, may not.
+#![tactic(auto)]
+
 mod sending;
 
 ghost use Rattle.std.specs.Prelude.{◌≡◌, ◌+◌, ◌≤◌, ◌<◌, length, take};
@@ -74,7 +76,7 @@ fn status(good: bool, number: u8) -> u8
 }
 
 // How printing ended: 0 replayed, 1 refused, 2 the output took no more; and what has gone.
-#[derive(Drop)]
+#[derive(Clone, Copy)]
 pub struct Ending {
     pub status: u8,
     pub sent: Sent,

@@ -4,7 +4,7 @@ ghost use Rattle.std.specs.Prelude.{◌≡◌, true, ◌+◌, ◌^◌, ◌<◌, 
 ghost use Rattle.printing.specs.Sent.{NextPart};
 
 // What was handed over: whether all of it was written, and how many bytes of the listing have gone.
-#[derive(Drop)]
+#[derive(Clone, Copy)]
 pub struct Sent {
     good: bool,
     gone: usize,

@@ -1,6 +1,8 @@
 // The query for a reason: given settings, a state, ten words and an effect number, why the effect is in its state after a scan, or a
 // refusal. Document 02, L4; document 01, "Refusal numbers". It rests on `block` for the scan and on `reasons` for the reason. How the scan
 // is run may change without moving a contract; the order of the refusal numbers may not.
+#![tactic(auto)]
+
 ghost use Rattle.std.specs.Prelude.{◌≡◌, ◌<◌};
 ghost use Rattle.settings.specs.Refusals.{or_else};
 ghost use Rattle.queries.specs.Queries.{present_number, reply_of};
@@ -11,7 +13,7 @@ use reasons::Reason;
 use settings::{Settings, Words};
 
 // The answer to a query: the reason, or a refusal number with its place.
-#[derive(Drop)]
+#[derive(Clone, Copy)]
 pub enum Reply {
     Because(Reason),
     Refused { number: u8, place: usize },

@@ -1,5 +1,7 @@
 // The reason of an effect's state, in numbers: 8 bytes for callers in other languages. Document 02, L4. It rests on `reasons` and
 // `bits`. How bytes are put may change without moving a contract; which bytes they are is specs/Bytes.
+#![tactic(auto)]
+
 ghost use Rattle.std.specs.Prelude.{◌≡◌, [], ◌∷◌, ◌+◌, ◌≤◌, length};
 ghost use Rattle.std.proofs.lemmas.List.Edits.{sets};
 ghost use Rattle.bits.specs.Layout.{pack};

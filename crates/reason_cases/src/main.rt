@@ -2,6 +2,8 @@
 // hexadecimal digits: the refusal number and the place, then a space, then the bytes of the reason, which a refusal does not have.
 // second/README.md lays both streams out. It is a test program over `queries`, `reason_bytes`, `layout` (for words), `cases` and
 // `streams`: all but the streams may change.
+#![tactic(auto)]
+
 ghost use Rattle.std.specs.Prelude.{◌≤◌, length};
 
 use queries::Reply;

@@ -1,6 +1,8 @@
 // The reasons of a replay: what they are by single scans (specs/Reasoned), what a row and its records tell of them (proofs/Theorems), and
 // what a reason reads of a run's next row. Document 02, L4. It rests on `rerun` for the run, on `layout` for the row and on `reasons`. The
 // definitions cite a held run and a replay by theirs (block/specs/Held, rerun/specs/Replay), and nothing of how they are computed.
+#![tactic(auto)]
+
 ghost use Rattle.std.specs.Prelude.{◌≡◌};
 ghost use Rattle.reasoned.specs.Told.{NextRow, row_sight};
 

@@ -1,6 +1,8 @@
 // The reason of an effect's state after a scan, in the operator's terms. Document 02, L4. It rests on `settings` for what a row gives, on
 // `effects` for the records, and on `rules` and `bits`. Which reason fits is specs/Fits, and exactly one does (proofs/Exactly). How the reason is found may change
 // without moving a promise.
+#![tactic(auto)]
+
 ghost use Rattle.std.specs.Prelude.{◌≡◌, ◌<◌, ◌≤◌};
 ghost use Rattle.rules.specs.Limits.{most_effects};
 ghost use Rattle.reasons.specs.Given.{sight_of, signs_in};
@@ -11,7 +13,7 @@ use rules::{EffectState, Seen};
 use settings::Words;
 
 // What an effect waits for.
-#[derive(Drop)]
+#[derive(Clone, Copy)]
 pub enum Missing {
     ResetPermit,
     Reset,
@@ -19,7 +21,7 @@ pub enum Missing {
 }
 
 // The reason of an effect's state after a scan: Bad and Active with the causes as a word, DelayRunning with the milliseconds left.
-#[derive(Drop)]
+#[derive(Clone, Copy)]
 pub enum Reason {
     ForcedTripped,
     ForcedNormal,
@@ -33,7 +35,7 @@ pub enum Reason {
 }
 
 // What a reason reads of a row for all effects: the effects in the force words, if forces count, and what is seen of the causes.
-#[derive(Drop)]
+#[derive(Clone, Copy)]
 pub struct Sight {
     pub trip: u16,
     pub normal: u16,
@@ -41,7 +43,7 @@ pub struct Sight {
 }
 
 // What a reason reads of it for one effect: the forces that count, and the effect's Bad and active causes.
-#[derive(Drop)]
+#[derive(Clone, Copy)]
 pub struct Signs {
     pub trip: bool,
     pub normal: bool,

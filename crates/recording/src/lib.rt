@@ -2,6 +2,8 @@
 // It rests on `layout` (what stands at a place), `settings` and `bits`; `writing` has the writer. How the reader goes through the bytes
 // may change without moving a contract, as long as it gives the first refusal. A caller takes the first row's place and the width of a
 // row from the answer, and assumes neither.
+#![tactic(auto)]
+
 ghost use Rattle.std.specs.Prelude.{◌≡◌, ◌+◌, ◌*◌, ◌≤◌, ◌<◌, length};
 ghost use Rattle.bits.specs.Numbers.{num_at};
 ghost use Rattle.layout.specs.Sections.{section_of};
@@ -12,7 +14,7 @@ use layout::{Kind, Section};
 use settings::{Effect, Known, Row, Settings};
 
 // What a recording results in: the row count, the first row's place and the width of a row, or a refusal.
-#[derive(Drop)]
+#[derive(Clone, Copy)]
 pub enum Answer {
     Accepted {
         rows: u16,
@@ -26,14 +28,14 @@ pub enum Answer {
 }
 
 // The answer, and the settings, which are all zero beside a refusal.
-#[derive(Drop)]
+#[derive(Clone, Copy)]
 pub struct Reading {
     pub answer: Answer,
     pub settings: Settings,
 }
 
 // What stands at a place: a row and the place after it, or nothing.
-#[derive(Drop)]
+#[derive(Clone, Copy)]
 pub enum Step {
     Row(Row, usize),
     Ended,

@@ -1,6 +1,8 @@
 // Answers a stream of recordings on standard input: for each the reader's answer, its rows, the bytes that the writer gives for
 // what a walk finds, and what a whole replay answers. second/README.md lays both streams out. It is a test program over
 // `recording`, `walk`, `writing`, `rerun`, `cases` and `streams`: all but the streams may change.
+#![tactic(auto)]
+
 ghost use Rattle.std.specs.Prelude.{◌≡◌, ◌+◌, ◌≤◌, length};
 
 use recording::{Answer, Step};

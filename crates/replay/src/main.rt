@@ -3,6 +3,8 @@
 // it ended. The first argument says what is asked, and the others are names; without an argument it replays standard input and tells
 // nothing. It rests on `listings` for a listing, on `reports` and `summaries` for a line and on `inputs` for names, messages and statuses. All
 // but what it prints, and the digit that it tells, may change.
+#![tactic(auto)]
+
 ghost use Rattle.std.specs.Prelude.{◌≡◌, ◌+◌, ◌≤◌, length};
 ghost use Rattle.reports.specs.Reports.{most_name, InputRoom};
 ghost use Rattle.listings.specs.Buffers.{Printing};
@@ -11,7 +13,7 @@ use inputs::{ASKED, DONE, FIRST_NAME, UNREAD, UNWRITTEN};
 use recording::Answer;
 
 // What is asked of each recording.
-#[derive(Drop)]
+#[derive(Clone, Copy)]
 enum Asked {
     Listing,
     Check,

@@ -1,5 +1,6 @@
 // Answers a stream of recordings on standard input: for each its listing, and an empty line. second/README.md lays the stream
 // out. It is a test program over `printing` and `streams`: all but the stream may change.
+#![tactic(auto)]
 
 // Prints the listing of a recording and an empty line; false if nothing can be written. The buffer is small, so that listings of a few
 // thousand bytes need several buffers: a stream has some that end about the end of one, two and three buffers.

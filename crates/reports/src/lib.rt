@@ -2,6 +2,8 @@
 // heading above a listing. Each function answers the length of its line, and all else stays. docs/FORMAT.md, "A line for each file". It
 // rests on `text` and `sentences` for parts of lines and on `recording` and `findings` for the answers. How lines are put may change
 // without moving a contract; the text is specs/Reports.
+#![tactic(auto)]
+
 ghost use Rattle.std.specs.Prelude.{◌≡◌, ◌+◌, ◌≤◌, length};
 ghost use Rattle.std.proofs.lemmas.List.Edits.{sets};
 ghost use Rattle.reports.specs.Reports.{heading, accepted_line, refused_line, check_line, refused_at, refused_why, explained_line, most_refused_at, Roomy};

@@ -3,6 +3,8 @@
 // It rests on `recording` for the reader, on `layout` for the rows and on `block` for the runs. What is carried from row to row (`Run`,
 // and the array that is lent beside it) may change without moving the contract of `replay`. A caller that replays row by row uses only
 // `Going` and the laws of proofs/Turns.
+#![tactic(auto)]
+
 ghost use Rattle.std.specs.Prelude.{◌≡◌, ◌≤◌, length, replicate};
 ghost use Rattle.cells.specs.Array.{array_length};
 ghost use Rattle.recording.specs.declared.Answer.TheVariants.{Accepted};
@@ -19,7 +21,7 @@ use wiring::Struck;
 // What is carried from row to row: what stays the same, how far the effects have got, the width and number of the file's rows, the
 // place of the next row, and what the rows so far have given. Associations, delays, timers and first-outs are in one array that is
 // lent beside it and changed in place.
-#[derive(Drop)]
+#[derive(Clone, Copy)]
 pub struct Run {
     pub plan: Plan,
     pub mark: Mark,
@@ -34,7 +36,7 @@ pub struct Run {
 
 // What one row more, or some rows, result in: 0 and the run after them; or refusal number 9 and the run before the row that is refused,
 // whose place is that row's first byte. records: the number of records of the one row; 0 after some rows.
-#[derive(Drop)]
+#[derive(Clone, Copy)]
 pub struct Turn {
     pub number: u8,
     pub records: usize,
@@ -42,7 +44,7 @@ pub struct Turn {
 }
 
 // What a whole file results in: 0, 0 and what its rows have given; or the refusal number, its place, and zeros.
-#[derive(Drop)]
+#[derive(Clone, Copy)]
 pub struct Replayed {
     pub number: u8,
     pub place: usize,
@@ -54,7 +56,7 @@ pub struct Replayed {
 }
 
 // Where a replay stops: 0 and 0 where every row is replayed, or the refusal number and its place.
-#[derive(Drop)]
+#[derive(Clone, Copy)]
 pub struct Stop {
     pub number: u8,
     pub place: usize,

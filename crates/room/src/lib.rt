@@ -1,6 +1,8 @@
 // Whether what crosses for each record of a replay fits in lent bytes, known before the first byte is written. Document 01, "Refusal numbers"
 // (10). It rests on `rerun` for the rows. How the room is found out (a bound, or a pass that counts) may change without moving a contract of
 // an entry point.
+#![tactic(auto)]
+
 ghost use Rattle.std.specs.Prelude.{◌≡◌, ◌*◌, ◌≤◌, length};
 ghost use Rattle.effects.specs.Records.{record_length};
 ghost use Rattle.settings.specs.Refusals.{room_number};

@@ -3,11 +3,13 @@
 // document 02, L3 (Bad causes). It rests on `bits`.
 // A rule that changes in specs/ changes what every crate above promises, and its formula in `planes` has to change with it. The proofs
 // above stay, because what they need of the rules is tested by computing.
+#![tactic(auto)]
+
 ghost use Rattle.std.specs.Prelude.{◌≡◌, ◌≤◌};
 ghost use Rattle.rules.specs.Rules.{code as code_of, most_code, same as same_as};
 
 // The state of one effect.
-#[derive(Drop)]
+#[derive(Clone, Copy)]
 pub enum EffectState {
     Tripped,
     WaitReset,
@@ -18,7 +20,7 @@ pub enum EffectState {
 }
 
 // What is kept of one effect: its state, its timer in milliseconds and its first-out word.
-#[derive(Drop)]
+#[derive(Clone, Copy)]
 pub struct Slot {
     pub state: EffectState,
     pub timer: u32,
@@ -27,7 +29,7 @@ pub struct Slot {
 
 // What is seen of the causes in a scan: those that are tripped, and those that are Bad; no masked cause is. Of both words an effect sees
 // the causes that it is associated with.
-#[derive(Drop)]
+#[derive(Clone, Copy)]
 pub struct Seen {
     pub tripped: u16,
     pub bad: u16,

@@ -1,6 +1,8 @@
 // Season totals: a report over recordings, each replayed from a fresh state. Document 02, L1. What a total is stands in specs/Season by
 // single scans; the code counts by stretches, from the event records that each row leaves (`tally`), and `trace` shows that both agree. It
 // rests on `rerun` for the rows and on `tally` for the counting. How rows are counted may change without moving a contract of `Report`.
+#![tactic(auto)]
+
 ghost use Rattle.std.specs.Prelude.{◌≡◌, ◌<◌};
 ghost use Rattle.recording.specs.declared.Answer.TheVariants.{Accepted};
 ghost use Rattle.recording.specs.Answers.{row_count_of};
@@ -16,14 +18,14 @@ use settings::Settings;
 
 // 113 sums: for each effect, in its slot from 0, seven: the scans after which it stood in each state, by the state's code, and its
 // changes into Tripped; behind those of sixteen effects the exercised scans.
-#[derive(Drop)]
+#[derive(Clone, Copy)]
 pub struct Report {
     pub sums: [u64; 113],
 }
 
 // The answer to one recording more: 0, the effect count of the recording and the report after it; or the refusal number, its place and the
 // report as it was.
-#[derive(Drop)]
+#[derive(Clone, Copy)]
 pub struct Added {
     pub number: u8,
     pub place: usize,

@@ -1,5 +1,7 @@
 // A report in lent bytes, as it crosses to other languages: 113 numbers of 8 bytes, big-endian. Document 02, L1. It rests on `season` for
 // the report and on `bits` for the numbers. How a recording is added may change without moving a contract; the bytes of a report may not.
+#![tactic(auto)]
+
 ghost use Rattle.std.specs.Prelude.{◌≡◌, ◌≤◌, length};
 ghost use Rattle.std.proofs.lemmas.List.Edits.{sets};
 ghost use Rattle.settings.specs.Refusals.{or_else};

@@ -1,6 +1,8 @@
 // Answers a stream of season cases on standard input: a report and a recording each, and for each a line of hexadecimal digits: the
 // refusal number, the place, the effects and the report after the recording was added. second/README.md lays both streams out. It is a
 // test program over `season`, `season_bytes`, `cases` and `streams`: all but the streams may change.
+#![tactic(auto)]
+
 ghost use Rattle.std.specs.Prelude.{◌≤◌, length};
 ghost use Rattle.season_bytes.specs.Bytes.{report_length};
 

@@ -3,6 +3,8 @@
 // asked, which is always the table, and the others are names; without an argument it adds standard input and tells nothing. It rests on
 // `season` for the report, on `season_table` for the table, on `reports` for the line of a refusal and on `inputs` for names, messages and
 // statuses. All but what it prints and says, and the digit that it tells, may change.
+#![tactic(auto)]
+
 ghost use Rattle.std.specs.Prelude.{◌≤◌, length};
 ghost use Rattle.reports.specs.Reports.{most_report, InputRoom, Roomy};
 ghost use Rattle.season_table.specs.Files.{Over};
@@ -13,7 +15,7 @@ use recording::Answer;
 use season_table::Table;
 
 // The table over the files so far, and how the gravest of all that were named ended.
-#[derive(Drop)]
+#[derive(Clone, Copy)]
 struct Adding {
     table: Table,
     gravest: u8,

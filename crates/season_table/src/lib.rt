@@ -1,6 +1,8 @@
 // What `bin/season` shows: the report over the files of a call, with the files that were added and refused, and its text as a table at the
 // front of a lent buffer. docs/FORMAT.md, "Season totals"; document 02, L1. It rests on `season` for the report and on `text` and `bits` for
 // numbers and words. How lines are put may change without moving a contract; the text is specs/Lines, and what a file changes specs/Files.
+#![tactic(auto)]
+
 ghost use Rattle.std.specs.Prelude.{◌≡◌, ◌+◌, ◌*◌, ◌≤◌, ◌<◌, max, length};
 ghost use Rattle.std.proofs.lemmas.List.Edits.{sets};
 ghost use Rattle.rules.specs.Limits.{most_effects};
@@ -13,7 +15,7 @@ ghost use Rattle.season_table.specs.Pieces.{spaced, sums_text, most_spaced, most
 use season::{Added, Report};
 
 // The report over some files, the largest effect count of those that were added, and how many were added and refused.
-#[derive(Drop)]
+#[derive(Clone, Copy)]
 pub struct Table {
     pub report: Report,
     pub effects: u8,

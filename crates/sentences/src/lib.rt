@@ -1,6 +1,8 @@
 // A finding in words, written at a place of a lent buffer: each function answers the place after what it wrote, and all else stays.
 // It rests on `findings` for what is wrong and on `bits` for numbers and text. How a sentence is put may change without moving a contract;
 // the words are specs/Sentences.
+#![tactic(auto)]
+
 ghost use Rattle.std.specs.Prelude.{◌≡◌, ◌+◌, ◌≤◌, length};
 ghost use Rattle.std.proofs.lemmas.List.Edits.{sets};
 ghost use Rattle.sentences.specs.Sentences.{numbered, word_text, fault_text, count_ends, entry_ends, count_wrong, entry_name, entry_wrong, sentence, most_words};

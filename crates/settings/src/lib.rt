@@ -2,6 +2,8 @@
 // Document 01, "Settings, row, state", "Refusal numbers" and "The rules of one scan". It rests on `rules` and `bits`.
 // How a refusal number is computed, and in which order the tests of one refusal number are made, may change without moving a contract;
 // the order of the refusal numbers may not.
+#![tactic(auto)]
+
 ghost use Rattle.std.specs.Prelude.{◌≡◌, ◌&&◌, ◌||◌, not, ◌+◌, ◌<◌, ◌≤◌, eqb, leb, ltb};
 ghost use Rattle.std.specs.Int.Bits.{bit_and};
 ghost use Rattle.std.specs.Int.Count.{ones};
@@ -14,14 +16,14 @@ ghost use Rattle.settings.specs.Signals.{forces_count};
 use rules::Seen;
 
 // The settings of one effect: its association word and its delay in milliseconds.
-#[derive(Drop)]
+#[derive(Clone, Copy)]
 pub struct Effect {
     pub association: u16,
     pub delay: u32,
 }
 
 // Cause count, options, scan period in milliseconds, effect count, and sixteen slots of effects.
-#[derive(Drop)]
+#[derive(Clone, Copy)]
 pub struct Settings {
     pub causes: u8,
     pub options: u8,
@@ -31,7 +33,7 @@ pub struct Settings {
 }
 
 // The ten words of a row.
-#[derive(Drop)]
+#[derive(Clone, Copy)]
 pub struct Words {
     pub values: u16,
     pub bad: u16,
@@ -45,14 +47,14 @@ pub struct Words {
     pub force_normal: u16,
 }
 
-#[derive(Drop)]
+#[derive(Clone, Copy)]
 pub struct Row {
     pub hold: u32,
     pub words: Words,
 }
 
 // What is known of the settings where effects and rows are checked: the causes and effects that exist, and the options.
-#[derive(Drop)]
+#[derive(Clone, Copy)]
 pub struct Known {
     pub causes: u8,
     pub count: u8,

@@ -1,6 +1,8 @@
 // What is kept of an effect from scan to scan, and when it is valid for the settings: refusal number 8, except for the scans done.
 // Document 01, "Settings, row, state". It rests on `settings` and `rules`. How the tests are made may change without moving a contract;
 // what is valid stands in specs/Slots.
+#![tactic(auto)]
+
 ghost use Rattle.std.specs.Prelude.{◌≡◌, ◌<◌};
 ghost use Rattle.bits.specs.Lists.{all_from};
 ghost use Rattle.slots.specs.Slots.{timer_right, first_right, slot_right, slot_unused, slot_ok};

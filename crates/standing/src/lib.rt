@@ -1,6 +1,8 @@
 // How all effects stand after the last scan of a recording: what the reasons of their states are read from. Document 02, L4. It rests on
 // `rerun` for the rows, on `cells` for the slots, and on `reasoned` and `reasons`. Only the last row's records are read: what they say up to
 // the scan before the last tells each effect's state before that scan. All of it may change without moving a contract of an entry point.
+#![tactic(auto)]
+
 ghost use Rattle.std.specs.Prelude.{◌≡◌, ◌+◌, ◌≤◌, ◌<◌};
 ghost use Rattle.rules.specs.Limits.{most_effects};
 ghost use Rattle.effects.specs.Records.{Recorded};
@@ -19,7 +21,7 @@ use settings::Settings;
 
 // from: each effect's state before the last scan, in a slot of which only the state counts. to: its slot after that scan. sight: what a
 // reason reads of the last row.
-#[derive(Drop)]
+#[derive(Clone, Copy)]
 pub struct Standing {
     pub from: [Slot; 16],
     pub to: [Slot; 16],

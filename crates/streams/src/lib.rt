@@ -1,10 +1,12 @@
 // Streams of cases on standard input, a case at a time, at the front of a buffer that the program lends. second/README.md lays the
 // streams out. It rests on `bits` and on the kit's `io` and `libc`; no promise rests on it. No contract can say what is read or
 // written. All but the streams may change.
+#![tactic(auto)]
+
 ghost use Rattle.std.specs.Prelude.{◌≡◌, ◌≤◌, length};
 
 // Whether there is a case, and how many bytes it has.
-#[derive(Drop)]
+#[derive(Clone, Copy)]
 pub struct Next {
     pub more: bool,
     pub size: usize,

@@ -2,6 +2,8 @@
 // it has to be, and seven numbers. Each function answers the length of its line, and all else stays. docs/FORMAT.md, "A line for each
 // file". It rests on `rerun` for the numbers, on `text` for a number with the byte behind it and on `reports` for the room that a line
 // needs. How a line is put may change without moving a contract; the text is specs/Summaries.
+#![tactic(auto)]
+
 ghost use Rattle.std.specs.Prelude.{◌≡◌, ◌++◌, ◌+◌, ◌*◌, ◌≤◌, length};
 ghost use Rattle.std.proofs.lemmas.List.Edits.{sets};
 ghost use Rattle.bits.specs.Decimal.{ascii, decimal};

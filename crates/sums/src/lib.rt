@@ -1,5 +1,7 @@
 // Sums of 64 bits, many at once: whether all of them fit, and adding. Document 02, L1. It rests on `bits`. How they are added may change
 // without moving a contract.
+#![tactic(auto)]
+
 ghost use Rattle.std.specs.Prelude.{◌≡◌, true, ◌+◌, leb, length, get_or};
 ghost use Rattle.sums.specs.Sums.{most_sum, in_range, summed};
 

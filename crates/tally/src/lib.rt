@@ -1,6 +1,8 @@
 // The sums of a recording, counted from the records of its events: for each effect the scans of its closed stretches in each state, and its
 // changes into Tripped. Document 02, L1. It rests on `effects` for the events and on `rules` for the states; `trace` says what stretches are
 // in single scans. How events are counted may change without moving a contract of `season`.
+#![tactic(auto)]
+
 ghost use Rattle.std.specs.Prelude.{◌≡◌, ◌≤◌};
 ghost use Rattle.bits.specs.Words.{one};
 ghost use Rattle.rules.specs.declared.EffectState.TheVariants.{Tripped};

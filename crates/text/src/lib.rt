@@ -2,6 +2,8 @@
 // else stays. Functions for whole lines also say that this place is within the buffer, so that a caller need not show it. Document
 // 01, "One session, whole"; document 02, L4 (a column for reasons). It rests on `effects` for the events, on `reasons` and `wording` for
 // reasons, and on `bits` for numbers and text. How lines are put may change without moving a contract; the text is specs/Text.
+#![tactic(auto)]
+
 ghost use Rattle.std.specs.Prelude.{◌≡◌, [], ◌∷◌, ◌++◌, ◌+◌, ◌≤◌, length};
 ghost use Rattle.std.proofs.lemmas.List.Edits.{sets};
 ghost use Rattle.bits.specs.Decimal.{ascii, decimal};
@@ -18,7 +20,7 @@ use reasons::{Reason, Sight};
 use rules::EffectState;
 
 // What stands behind the first-out in the lines of a row: nothing, or each record's reason, and what a reason reads of the row.
-#[derive(Drop)]
+#[derive(Clone, Copy)]
 pub struct Column {
     pub why: bool,
     pub sight: Sight,

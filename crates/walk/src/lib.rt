@@ -2,6 +2,8 @@
 // The work is done by covered functions on a slice and a place; `start` and `next` take the walk apart and call one of them,
 // and `nth` stands above them with plain parameters. It rests on `recording` and what that rests on. How a step finds its row may
 // change without moving a contract, as long as any bytes and any place get the reader's answer.
+#![tactic(auto)]
+
 ghost use Rattle.std.specs.Prelude.{◌≡◌};
 ghost use Rattle.recording.specs.Answers.{first_row};
 ghost use Rattle.walk.specs.Walks.{place_after, stride_at, begun_of, start_of, next_of, moved_on, nth_of};
@@ -9,14 +11,14 @@ ghost use Rattle.walk.specs.Walks.{place_after, stride_at, begun_of, start_of, n
 use recording::{Answer, Step};
 
 // What a walk does at a place: the row there or that it has ended, and the place where it then stands.
-#[derive(Drop)]
+#[derive(Clone, Copy)]
 struct Stride {
     step: Step,
     place: usize,
 }
 
 // The reader's answer, and the place where a walk starts.
-#[derive(Drop)]
+#[derive(Clone, Copy)]
 struct Begun {
     answer: Answer,
     place: usize,

@@ -3,6 +3,8 @@
 // tells how it ended. The first argument says what is asked, and the others are names; without an argument it lists standard input and tells
 // nothing. It rests on `listings` for a listing, on `now_table` for the table and on `inputs` for names, messages and statuses. All but what
 // it prints, and the digit that it tells, may change.
+#![tactic(auto)]
+
 ghost use Rattle.std.specs.Prelude.{◌≡◌, ◌+◌, ◌≤◌, length};
 ghost use Rattle.reports.specs.Reports.{most_name, InputRoom};
 ghost use Rattle.listings.specs.Buffers.{Printing};
@@ -10,7 +12,7 @@ ghost use Rattle.listings.specs.Buffers.{Printing};
 use inputs::{ASKED, DONE, FIRST_NAME, UNREAD, UNWRITTEN};
 
 // What is asked of each recording.
-#[derive(Drop)]
+#[derive(Clone, Copy)]
 enum Asked {
     Listing,
     Now,

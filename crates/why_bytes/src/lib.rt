@@ -2,6 +2,8 @@
 // last scan. Document 02, L4. It rests on `rerun` for the rows, on `reasoned` and `standing` for what reasons are read from, on `room` for
 // refusal number 10 and on `reason_bytes` for the bytes of a reason. How reasons are found may change without moving a contract of
 // `put_reasons` and `put_now`; their order and their 8 bytes may not.
+#![tactic(auto)]
+
 ghost use Rattle.std.specs.Prelude.{◌≡◌, ◌+◌, ◌*◌, ◌≤◌, ◌<◌, length};
 ghost use mathlib.Core.List.{flat_map};
 ghost use Rattle.std.proofs.lemmas.List.Edits.{sets};

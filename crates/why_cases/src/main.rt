@@ -1,6 +1,8 @@
 // Answers a stream of recordings on standard input: for each its listing with reasons and an empty line, and the table of how all effects
 // stand after the last scan and an empty line. second/README.md lays the stream out. It is a test program over `printing`, `now_table` and
 // `streams`: all but the stream may change.
+#![tactic(auto)]
+
 ghost use Rattle.std.specs.Prelude.{◌≤◌, length};
 ghost use Rattle.printing.specs.Waiting.{Buffer};
 

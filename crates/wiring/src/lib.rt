@@ -3,6 +3,8 @@
 // This crate leads from a row to the algorithm of `engine`. What an effect sees stands in the specs of `settings`. It rests on `engine`,
 // on `plans` for what the settings give, on `settings`, and on what those rest on. All of it may change without moving a contract of an
 // entry point.
+#![tactic(auto)]
+
 ghost use Rattle.std.specs.Prelude.{◌≡◌, ◌≤◌, length};
 ghost use Rattle.cells.specs.Array.{associations_in};
 ghost use Rattle.wiring.specs.Wiring.{watched_of, asked_by, task_of, Runnable, RunsBy};
@@ -14,7 +16,7 @@ use rules::Seen;
 use settings::{Row, Words};
 
 // What a held run results in: its mark, the effect and latent words of its last scan, and whether it exercises an effect.
-#[derive(Drop)]
+#[derive(Clone, Copy)]
 pub struct Struck {
     pub mark: Mark,
     pub effect: u16,

@@ -1,6 +1,8 @@
 // The writer: the opening piece and a row, each into a lent buffer. Document 01, "Recordings" and "Refusal numbers". How a piece is put
 // may change without moving a contract, as long as nothing is put before it is known to fit. It rests on `pieces` for the stores, on
 // `layout`, whose table of sections has the widths, the counts and the refusal numbers, and on `settings`.
+#![tactic(auto)]
+
 ghost use Rattle.std.specs.Prelude.{◌≡◌, length};
 ghost use Rattle.writing.specs.Writer.{opening_number, row_piece_number, opening_written, opening_after, row_written, row_after};
 
@@ -8,7 +10,7 @@ use layout::Kind;
 use settings::{Row, Settings};
 
 // What writing a piece results in: the number of bytes written, or the refusal number.
-#[derive(Drop)]
+#[derive(Clone, Copy)]
 pub enum Written {
     Bytes(usize),
     Refused(u8),

@@ -1,6 +1,8 @@
 // Answers a stream of writing cases: 129 bytes each on standard input, a line each on standard output, the opening piece
 // and then the row piece, each in a buffer of its own. second/README.md lays both out. It is a test program over `writing`,
 // `layout` (for words), `cases` and `streams`: all but the stream may change.
+#![tactic(auto)]
+
 ghost use Rattle.std.specs.Prelude.{◌≤◌, length};
 
 use settings::Row;

@@ -5,7 +5,7 @@ use native.Mathlib.Omega.{arith}
 use lib.ListN.{length, drop}
 use borrow.Author.Rules.{rules}
 use Rattle.bits.specs.Lists.{all_from}
-use Rattle.bits.proofs.Lists.{all-fails, all_goes_on, all_ends}
+use Rattle.bits.proofs.Lists.{all_fails, all_goes_on, all_ends}
 use Rattle.rules.specs.Rules.{no_slot}
 use Rattle.slots.specs.Slots.{slot_ok}
 use Rattle.slots.proofs.slots_ok.Statement.{statement}
@@ -21,7 +21,7 @@ returns : tie.Need-returns invariant-loop decreases-loop
 returns c =
     let k = c.before.before.before.before in
     let a = k.before.args in
-    all-fails (slot_ok a.st) k.loop.i _ no_slot c.before.Slot-ok.result (omega arith) c.before.Slot-ok.ensures k.loop.invariant.2 c.if1.true
+    all_fails (slot_ok a.st) k.loop.i _ no_slot c.before.Slot-ok.result (omega arith) c.before.Slot-ok.ensures k.loop.invariant.2 c.if1.true
 
 loop_again : tie.Need-loop-preserved invariant-loop decreases-loop
 loop_again c =

@@ -1,0 +1,23 @@
+-- `cells::tick` meets its contract. The loop's invariant: the word of what is due below some m, the timers of those effects in the array, and
+-- the word holds the effects from m on.
+use mathlib.Core.Path.{refl}
+use Prim.Native.Nat.{◌-◌}
+use native.Mathlib.Omega.{arith}
+use borrow.Author.Rules.{rules}
+use lib.ListN.{get_or}
+use Rattle.bits.specs.Lists.{tabulate}
+use Rattle.bits.specs.Words.{word_of}
+use Rattle.cells.specs.Array.{timers_at, timers_in}
+use Rattle.boards.specs.Table.{due_at, due_in}
+use Rattle.boards.proofs.Bits.{falls, Done, started, ended}
+use Rattle.boards.proofs.Due.{word_rest, no_higher, put}
+use Rattle.cells.proofs.Filled.{up_to, there, stored, fallen_rest}
+use Rattle.cells.proofs.tick.Given as goal
+
+abbrev pub invariant-loop-rest : goal.invariant-loop-rest
+invariant-loop-rest l =
+    Done l.plan.count l.delayed (word_of (due_in (timers_in l.fn.board) l.plan.period l.delayed)) l.word l.rest
+    × Done l.plan.count l.delayed (up_to timers_at (λ i. get_or (timers_in l.fn.board) i 0 - l.plan.period) l.fn.board) l.board l.rest
+
+abbrev pub decreases-loop-rest : goal.decreases-loop-rest
+decreases-loop-rest l = l.rest

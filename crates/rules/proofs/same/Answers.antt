@@ -1,0 +1,6 @@
+-- `rules::same` meets its contract, from what its callee ensures.
+use borrow.Author.Rules.{rules}
+use Rattle.rules.proofs.same.Goals as goal
+
+pub returns : goal.returns
+returns c = cc
