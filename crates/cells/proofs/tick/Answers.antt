@@ -39,4 +39,4 @@ loop-rest-preserved c =
     )
 
 pub returns : goal.returns
-returns c = (ended c.loop-rest.invariant.0 (omega arith), ended c.loop-rest.invariant.1 (omega arith))
+returns c = record { value = ended c.loop-rest.invariant.0 (omega arith); board_after = ended c.loop-rest.invariant.1 (omega arith) }
