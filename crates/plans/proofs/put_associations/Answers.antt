@@ -1,0 +1,24 @@
+-- `plans::put_associations` meets its contract. The loop's invariant: the first i of the part are filled.
+use mathlib.Core.Path.{◌≡◌, refl}
+use Prim.Native.Nat.{◌≤◌, ◌-◌}
+use native.Mathlib.Nat.{zero-add}
+use native.Mathlib.Omega.{arith}
+use borrow.Author.Rules.{rules}
+use Rattle.bits.specs.Lists.{tabulate}
+use Rattle.cells.specs.Array.{associations_at}
+use Rattle.plans.specs.Plans.{association_at}
+use Rattle.cells.proofs.Filled.{up_to, more}
+use Rattle.plans.proofs.put_associations.Goals as goal
+
+pub loop-i-init : goal.loop-i-init
+unfolding tabulate
+loop-i-init c = (search rules, refl)
+
+pub loop-i-preserved : goal.loop-i-preserved
+loop-i-preserved c =
+    (omega arith, rw (c.loop-i.invariant.1, more associations_at, zero-add))
+
+pub returns : goal.returns
+returns c =
+    let e : c.loop-i.i ≡ 16 = omega arith in
+    rw (c.loop-i.invariant.1, e)
