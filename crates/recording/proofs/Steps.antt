@@ -1,10 +1,10 @@
 -- What stands at a place, by the cases of the definition.
 use mathlib.Core.Path.{◌≡◌, sym, ap, ◌∙◌}
-use mathlib.Core.Bool.{Bool, true, false, not, ◌&&◌}
+use mathlib.Core.Bool.{Bool, true, false, ◌&&◌}
 use mathlib.Core.List.{List}
 use Prim.Native.Nat.{ℕ, ◌+◌, ◌*◌, ◌-◌, ◌%◌, ◌≤◌, ◌<◌}
 use native.Mathlib.Omega.{arith}
-use borrow.Author.Tests.{not-true, not-false, le-leb, le-ltb, leb-true, ltb-true, eqb-true}
+use borrow.Author.Tests.{le-leb, le-ltb, leb-true, ltb-true, eqb-true}
 use lib.Dec.{leb, ltb, eqb}
 use lib.ListN.{length}
 use Rattle.bits.proofs.Lists.{and_left, and_right}
@@ -42,18 +42,18 @@ module _ (s : List ℕ) (at : ℕ) (x : Reading) (is : x ≡ reading s) where
       is-there : b ≡ is_place first width (first + width * n) at
       is-there = ib ∙ ap (λ (end : ℕ). is_place first width end at) ends
 
-      pub step_between : not b ≡ true → T.Ended ≡ step_at s at
+      pub step_between : b ≡ false → T.Ended ≡ step_at s at
       unfolding step_at
-      step_between l = rw (← is, h, ← is-there, not-true b l)
+      step_between l = rw (← is, h, ← is-there, l)
 
-      pub step_row : not b ≡ false → T.Row (row_at width s at) (at + width) ≡ step_at s at
+      pub step_row : b ≡ true → T.Row (row_at width s at) (at + width) ≡ step_at s at
       unfolding step_at
-      step_row l = rw (← is, h, ← is-there, not-false b l)
+      step_row l = rw (← is, h, ← is-there, l)
 
       -- the row's bytes are in the file
-      pub step_within : not b ≡ false → (width_of Rows ≤ width) × (at + width ≤ length s)
+      pub step_within : b ≡ true → (width_of Rows ≤ width) × (at + width ≤ length s)
       step_within l =
-          let q = sym ib ∙ not-false b l in
+          let q = sym ib ∙ l in
           let wide = accepted_width s n first width said in
           let both = and_left (leb first at && ltb at (length s)) (eqb ((at - first) % width) 0) q in
           let z : (at - first) % width_of Rows ≡ 0 = rw wide at (eqb-true ((at - first) % width) 0 (and_right (leb first at && ltb at (length s)) (eqb ((at - first) % width) 0) q)) in
