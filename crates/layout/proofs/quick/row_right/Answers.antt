@@ -13,4 +13,4 @@ returns c k e =
     let first = c.get64-first in
     let a = c.args in
     ap₂ ◌&&◌ (ap₂ ◌&&◌ h.ensures w.ensures) c.forces_right.ensures
-    ∙ quick_is_number k a.s.now a.at (λ i. (c.shared_slice_known-1.given i).fits) a.b first.result second.result third.result e first.ensures second.ensures third.ensures
+    ∙ quick_is_number k a.s.now a.at (λ i. (c.type_inv.s i).fits) a.b first.result second.result third.result e first.ensures second.ensures third.ensures
