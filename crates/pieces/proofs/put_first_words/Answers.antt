@@ -1,0 +1,13 @@
+-- `pieces::put_first_words` meets its contract, from what its callees ensure and the tests on the way.
+use Rattle.bits.proofs.Numbers.{sets_5}
+use Rattle.pieces.proofs.put_first_words.Goals as goal
+
+pub returns : goal.returns
+returns c =
+    let a = c.args in
+    sets_5 a.s.now _ _ _ _ _ a.at a.w.values a.w.bad a.w.mask a.w.require_reset a.w.reset_permit
+    c.put16.ensures
+    c.put16-2.ensures
+    c.put16-3.ensures
+    c.put16-4.ensures
+    c.put16-5.ensures
