@@ -11,7 +11,6 @@ use Rattle.bits.proofs.Words.{bit_if}
 use Rattle.settings.specs.declared.Settings.{Settings}
 use Rattle.settings.specs.declared.Words.{Words}
 use Rattle.settings.specs.Signals.{no_effect, forces_count, signals_of}
-use Rattle.reasons.specs.declared.Signs.{Signs}
 use Rattle.reasons.specs.Given.{signs_of, sight_of, Narrow, signs_in}
 
 pub signs_of_an_effect : (st : Settings) (w : Words) (i : ℕ)
