@@ -1,6 +1,6 @@
 -- The words that a row gives are those of what the effects see.
 use mathlib.Core.Path.{◌≡◌, refl, ap, ap₂, sym, ◌∙◌}
-use mathlib.Core.Bool.{Bool, true, false, cond, not, ◌&&◌, ◌||◌, or_assoc, or-false}
+use mathlib.Core.Bool.{Bool, true, false, cond, not, ◌||◌, or_assoc, or-false}
 use mathlib.Core.List.{List, [], ◌∷◌, ◌++◌}
 use Prim.Native.Nat.{ℕ, zero, suc, ◌^◌, ◌<◌, ◌≤◌}
 use native.Mathlib.Nat.{lt_of_lt_of_le}
@@ -11,9 +11,9 @@ use lib.Dec.{eqb, ltb}
 use lib.ListN.{get_or}
 use lib.Pow.{pow_pos}
 use Rattle.bits.specs.Lists.{tabulate}
-use Rattle.bits.specs.Words.{bit_of, word_of}
+use Rattle.bits.specs.Words.{word_of}
 use Rattle.bits.proofs.Lists.{length-tabulate, tabulate_ext, get_or-tabulate}
-use Rattle.bits.proofs.Words.{bit_word_of, bit_if, word_of_ext, word_bits, and_word, or_word, and-or, some_or}
+use Rattle.bits.proofs.Words.{bit_if, word_of_ext, word_bits, and_word, or_word, and-or, some_or}
 use Rattle.rules.specs.declared.EffectState.{EffectState}
 use Rattle.rules.specs.declared.EffectState.TheVariants.{Tripped, WaitReset, Ready, WaitStart, Normal, Delayed}
 use Rattle.rules.specs.declared.Seen.{Seen}

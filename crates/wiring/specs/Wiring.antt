@@ -11,7 +11,6 @@ use Rattle.planes.specs.declared.Asked.{Asked}
 use Rattle.engine.specs.declared.Mark.{Mark}
 use Rattle.cells.specs.declared.Plan.{Plan}
 use Rattle.engine.specs.declared.Task.{Task}
-use Rattle.cells.specs.Array.{associations_in}
 use Rattle.boards.specs.Table.{watches}
 use Rattle.boards.specs.Board.{Board, board_of, run_of, Shown}
 use Rattle.engine.specs.Marks.{board_at}

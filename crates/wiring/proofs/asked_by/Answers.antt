@@ -1,5 +1,4 @@
 -- `wiring::asked_by` meets its contract, from what its callees ensure.
-use borrow.Author.Rules.{rules}
 use Rattle.wiring.specs.Wiring.{asked_by}
 use Rattle.wiring.proofs.asked_by.Goals as goal
 

@@ -1,6 +1,5 @@
 -- `wiring::stroke` meets its contract: the words are those of what the effects see.
 use mathlib.Core.Path.{refl}
-use borrow.Author.Rules.{rules}
 use Rattle.wiring.proofs.Held.{few, ready, ran}
 use Rattle.wiring.proofs.stroke.Goals as goal
 

@@ -1,5 +1,4 @@
 -- `wiring::task_of` meets its contract, from what its callees ensure.
-use borrow.Author.Rules.{rules}
 use Rattle.wiring.proofs.task_of.Goals as goal
 
 pub returns : goal.returns

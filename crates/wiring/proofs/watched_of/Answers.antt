@@ -1,5 +1,4 @@
 -- `wiring::watched_of` meets its contract, from what its callee ensures.
-use borrow.Author.Rules.{rules}
 use Rattle.wiring.proofs.watched_of.Goals as goal
 
 pub returns : goal.returns
