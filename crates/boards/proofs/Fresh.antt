@@ -5,7 +5,6 @@ use mathlib.Core.Path.{◌≡◌, ap, sym, ◌∙◌}
 use mathlib.Core.Bool.{true}
 use mathlib.Core.List.{List, ◌++◌}
 use lib.ListN.{drop, get_or, get_or-replicate, replicate, take-append-drop}
-use Rattle.bits.specs.Lists.{tabulate}
 use Rattle.bits.specs.Words.{word_of}
 use Rattle.bits.proofs.Lists.{tabulate_ext, tabulate_take}
 use Rattle.rules.specs.declared.EffectState.TheVariants.{Tripped}
@@ -14,7 +13,7 @@ use Rattle.rules.specs.Rules.{no_slot}
 use Rattle.planes.specs.declared.Planes.{Planes}
 use Rattle.planes.specs.Planes.{planes_of}
 use Rattle.planes.proofs.ByWord.{planes_of_ext}
-use Rattle.boards.specs.Table.{Table, padded, table_of}
+use Rattle.boards.specs.Table.{padded, table_of}
 use Rattle.boards.proofs.Step.{table, table_path}
 use Rattle.boards.proofs.Calm.{none_word}
 

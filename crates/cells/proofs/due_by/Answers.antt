@@ -1,7 +1,6 @@
 -- `cells::due_by` meets its contract: where the least timer is above the period, no effect is due.
 use mathlib.Core.Path.{sym}
 use native.Mathlib.Omega.{arith}
-use borrow.Author.Rules.{rules}
 use lib.ListN.{get_or}
 use Rattle.bits.specs.Words.{bit_of}
 use Rattle.cells.specs.Array.{timers_in}

@@ -1,11 +1,10 @@
 -- `cells::due_of` meets its contract. The loop's invariant: the word of what is due below some m, and the word holds the effects from m on.
 use mathlib.Core.Path.{refl}
 use native.Mathlib.Omega.{arith}
-use borrow.Author.Rules.{rules}
 use Rattle.bits.specs.Words.{word_of}
 use Rattle.cells.specs.Array.{timers_at, timers_in}
-use Rattle.boards.specs.Table.{due_at, due_in}
-use Rattle.boards.proofs.Bits.{falls, Done, started, ended}
+use Rattle.boards.specs.Table.{due_at}
+use Rattle.boards.proofs.Bits.{falls, started, ended}
 use Rattle.boards.proofs.Due.{word_rest, no_higher, put}
 use Rattle.cells.proofs.Filled.{get_d_part}
 use Rattle.cells.proofs.due_of.Goals as goal

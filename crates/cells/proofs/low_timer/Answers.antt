@@ -2,12 +2,10 @@
 -- and the word holds those from m on.
 use mathlib.Core.Path.{refl}
 use native.Mathlib.Omega.{arith}
-use borrow.Author.Rules.{rules}
 use lib.ListN.{get_or}
-use Rattle.bits.specs.Words.{bit_of}
 use Rattle.cells.specs.Array.{timers_at, timers_in}
 use Rattle.boards.specs.Table.{low_to}
-use Rattle.boards.proofs.Bits.{falls, Done, started, ended}
+use Rattle.boards.proofs.Bits.{falls, started, ended}
 use Rattle.cells.proofs.Filled.{get_d_part}
 use Rattle.boards.proofs.Low.{low_rest, lowered}
 use Rattle.cells.proofs.low_timer.Goals as goal

@@ -1,15 +1,10 @@
 -- `cells::low_timer` meets its contract. The loop's invariant: the least timer of the effects in the word below some m,
 -- and the word holds those from m on.
-use mathlib.Core.Path.{refl}
-use native.Mathlib.Omega.{arith}
-use borrow.Author.Rules.{rules}
 use lib.ListN.{get_or}
 use Rattle.bits.specs.Words.{bit_of}
-use Rattle.cells.specs.Array.{timers_at, timers_in}
+use Rattle.cells.specs.Array.{timers_in}
 use Rattle.boards.specs.Table.{low_to}
-use Rattle.boards.proofs.Bits.{falls, Done, started, ended}
-use Rattle.cells.proofs.Filled.{get_d_part}
-use Rattle.boards.proofs.Low.{low_rest, lowered}
+use Rattle.boards.proofs.Bits.{Done}
 use Rattle.cells.proofs.low_timer.Given as goal
 
 abbrev pub invariant-loop-rest : goal.invariant-loop-rest

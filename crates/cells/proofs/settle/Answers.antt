@@ -1,5 +1,4 @@
 -- `cells::settle` meets its contract, from what its callees ensure: an entry of the array is the entry of its part.
-use borrow.Author.Rules.{rules}
 use Rattle.cells.specs.Array.{delays_at, firsts_at}
 use Rattle.cells.proofs.Filled.{get_or_association, get_d_part}
 use Rattle.cells.proofs.settle.Goals as goal

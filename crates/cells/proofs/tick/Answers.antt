@@ -1,17 +1,14 @@
 -- `cells::tick` meets its contract. The loop's invariant: the word of what is due below some m, the timers of those effects in the array, and
 -- the word holds the effects from m on.
 use mathlib.Core.Path.{refl}
-use Prim.Native.Nat.{◌-◌}
 use native.Mathlib.Omega.{arith}
-use borrow.Author.Rules.{rules}
-use lib.ListN.{get_or}
 use Rattle.bits.specs.Lists.{tabulate}
 use Rattle.bits.specs.Words.{word_of}
-use Rattle.cells.specs.Array.{timers_at, timers_in}
-use Rattle.boards.specs.Table.{due_at, due_in}
-use Rattle.boards.proofs.Bits.{falls, Done, started, ended}
+use Rattle.cells.specs.Array.{timers_in}
+use Rattle.boards.specs.Table.{due_at}
+use Rattle.boards.proofs.Bits.{falls, started, ended}
 use Rattle.boards.proofs.Due.{word_rest, no_higher, put}
-use Rattle.cells.proofs.Filled.{up_to, there, stored, fallen_rest}
+use Rattle.cells.proofs.Filled.{there, stored, fallen_rest}
 use Rattle.cells.proofs.tick.Goals as goal
 
 pub loop-rest-init : goal.loop-rest-init

@@ -1,15 +1,12 @@
 -- `cells::timers_later` meets its contract. The loop's invariant: whatever the count is, the effects in the word below some m have their
 -- timers, and the word holds those from m on.
 use mathlib.Core.Path.{refl, ap, ◌∙◌}
-use Prim.Native.Nat.{ℕ, ◌-◌, ◌*◌}
+use Prim.Native.Nat.{ℕ, ◌*◌}
 use native.Mathlib.Nat.{mul-le-mul, zero-mul}
 use native.Mathlib.Omega.{arith}
-use borrow.Author.Rules.{rules}
-use lib.ListN.{get_or}
 use Rattle.bits.specs.Lists.{tabulate}
-use Rattle.cells.specs.Array.{timers_at, timers_in}
-use Rattle.boards.proofs.Bits.{falls, Rests, Done, started, ended}
-use Rattle.cells.proofs.Filled.{up_to, stored, fallen_none, fallen_rest}
+use Rattle.boards.proofs.Bits.{falls, started, ended}
+use Rattle.cells.proofs.Filled.{stored, fallen_none, fallen_rest}
 use Rattle.cells.proofs.timers_later.Goals as goal
 
 -- where no scan is skipped, the timers stay

@@ -1,7 +1,7 @@
 -- `engine::changes_next` meets its contract: where nothing is due after a scan that changed no state, the next one changes none; else the rules
 -- are asked.
 -- where nothing is due
-use Rattle.std.proofs.Common.{ℕ, ◌<◌, not, eqb, ltb, get_or, sym, refl, ap, ◌∙◌, arith, rules, ltb-true}
+use Rattle.std.proofs.Common.{ℕ, ◌<◌, not, eqb, ltb, get_or, sym, refl, ap, ◌∙◌, arith, ltb-true}
 use Rattle.bits.specs.Words.{bit_of}
 use Rattle.bits.proofs.Lists.{and_left, and_right}
 use Rattle.cells.specs.Array.{timers_in}

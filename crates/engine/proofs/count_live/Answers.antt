@@ -1,5 +1,5 @@
 -- `engine::count_live` meets its contract: by the two cases of its test.
-use Rattle.std.proofs.Common.{arith, rules}
+use Rattle.std.proofs.Common.{arith}
 use Rattle.engine.proofs.count_live.Goals as goal
 
 pub returns-then-b : goal.returns-then-b

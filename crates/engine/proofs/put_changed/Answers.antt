@@ -1,12 +1,12 @@
 -- `engine::put_changed` meets its contract. The loop's invariant: the records of the effects below some m are written, with the first-outs
 -- that they have at the end, the array has their timers and first-outs, and the word holds the effects from m on.
-use Rattle.std.proofs.Common.{arith, rules}
+use Rattle.std.proofs.Common.{arith}
 use lib.Count.{count_trailing_zeros}
 use Rattle.cells.specs.Array.{firsts_in}
-use Rattle.cells.specs.Changed.{settled_at, settled_in}
+use Rattle.cells.specs.Changed.{settled_at}
 use Rattle.cells.proofs.Settled.{settled_rests, settled_turn, first_stays, settled-none}
-use Rattle.boards.proofs.Bits.{falls, Done, started, ended}
-use Rattle.engine.proofs.Records.{Put, begun, finished, roomy, as_long, put_same}
+use Rattle.boards.proofs.Bits.{falls, started, ended}
+use Rattle.engine.proofs.Records.{begun, finished, roomy, as_long, put_same}
 use Rattle.engine.proofs.put_changed.Goals as goal
 
 pub loop-rest-init : goal.loop-rest-init

@@ -1,9 +1,7 @@
 -- `engine::quiets` meets its contract, from what its callees ensure.
-use Rattle.std.proofs.Common.{◌≡◌, Bool, true, false, not, eqb, sym, refl, arith, rules}
-use Rattle.bits.specs.Words.{word_of}
+use Rattle.std.proofs.Common.{◌≡◌, Bool, true, false, not, sym, refl, arith}
 use Rattle.cells.specs.Array.{timers_in}
-use Rattle.planes.specs.Planes.{planes_after, changed_of}
-use Rattle.boards.specs.Table.{due_at, quiets_by}
+use Rattle.boards.specs.Table.{quiets_by}
 use Rattle.boards.proofs.Quiet.{quiets_by_le}
 use Rattle.boards.proofs.Low.{none_low}
 use Rattle.engine.proofs.quiets.Goals as goal

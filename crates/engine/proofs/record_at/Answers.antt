@@ -1,5 +1,4 @@
 -- `engine::record_at` meets its contract, from what its callees ensure.
-use Rattle.std.proofs.Common.{rules}
 use Rattle.cells.specs.Array.{firsts_at}
 use Rattle.cells.proofs.Filled.{get_d_part}
 use Rattle.engine.proofs.record_at.Goals as goal

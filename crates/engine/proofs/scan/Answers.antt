@@ -1,10 +1,8 @@
 -- `engine::scan` meets its contract, from what its callees ensure.
-use Rattle.std.proofs.Common.{◌≡◌, ℕ, List, refl, arith, rules}
+use Rattle.std.proofs.Common.{refl, arith}
 use lib.Bits.{or_lt}
-use Rattle.cells.specs.Changed.{settled_in}
-use Rattle.boards.specs.Table.{blamed}
 use Rattle.boards.proofs.Picked.{picked_le}
-use Rattle.engine.proofs.Marks.{between, Stored, settles, same_ticks, narrow_then, fits_then, scanned_is}
+use Rattle.engine.proofs.Marks.{between, settles, same_ticks, narrow_then, fits_then, scanned_is}
 use Rattle.engine.proofs.scan.Goals as goal
 
 pub tick-due-requires : goal.tick-due-requires

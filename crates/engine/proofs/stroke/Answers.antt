@@ -1,9 +1,9 @@
 -- `engine::stroke` meets its contract: a turn of the loop is a round, and the rest of the run gives what the whole gives.
-use Rattle.std.proofs.Common.{◌-◌, ◌≤◌, arith, rules}
+use Rattle.std.proofs.Common.{arith}
 use lib.Bits.{or_lt}
 use Rattle.boards.proofs.Quiet.{quiets_few}
 use Rattle.boards.proofs.Turn.{as_long}
-use Rattle.engine.proofs.Loop.{Head, begins, scan_ready, within_scanned, still_scanned, calm_then, left-fits, scanned_fits, goes_on, ends}
+use Rattle.engine.proofs.Loop.{begins, scan_ready, within_scanned, still_scanned, calm_then, left-fits, scanned_fits, goes_on, ends}
 use Rattle.engine.proofs.stroke.Goals as goal
 
 pub loop-left-init : goal.loop-left-init

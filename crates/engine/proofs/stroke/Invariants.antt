@@ -1,9 +1,5 @@
 -- `engine::stroke` meets its contract: a turn of the loop is a round, and the rest of the run gives what the whole gives.
-use Rattle.std.proofs.Common.{◌-◌, ◌≤◌, arith, rules}
-use lib.Bits.{or_lt}
-use Rattle.boards.proofs.Quiet.{quiets_few}
-use Rattle.boards.proofs.Turn.{as_long}
-use Rattle.engine.proofs.Loop.{Head, begins, scan_ready, within_scanned, still_scanned, calm_then, left-fits, scanned_fits, goes_on, ends}
+use Rattle.engine.proofs.Loop.{Head}
 use Rattle.engine.proofs.stroke.Given as goal
 
 abbrev pub invariant-loop-left : goal.invariant-loop-left

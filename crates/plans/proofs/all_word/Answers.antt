@@ -1,8 +1,6 @@
 -- `plans::all_word` meets its contract. The loop's invariant: the word is that of the first i effects.
 use mathlib.Core.Path.{◌≡◌, refl}
-use Prim.Native.Nat.{◌≤◌, ◌-◌}
 use native.Mathlib.Omega.{arith}
-use mathlib.Core.Bool.{true}
 use Rattle.bits.specs.Words.{word_of}
 use Rattle.bits.proofs.Words.{word_of_lt, word_of_more}
 use borrow.Author.Rules.{rules}

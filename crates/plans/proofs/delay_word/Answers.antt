@@ -1,9 +1,6 @@
 -- `plans::delay_word` meets its contract. The loop's invariant: the word is that of the first i effects.
 use mathlib.Core.Path.{◌≡◌, refl}
-use Prim.Native.Nat.{◌≤◌, ◌-◌}
 use native.Mathlib.Omega.{arith}
-use lib.Dec.{ltb}
-use Rattle.plans.specs.Plans.{delay_at}
 use Rattle.bits.specs.Words.{word_of}
 use Rattle.bits.proofs.Words.{word_of_lt, word_of_more}
 use borrow.Author.Rules.{rules}

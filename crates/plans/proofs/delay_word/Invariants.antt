@@ -1,12 +1,9 @@
 -- `plans::delay_word` meets its contract. The loop's invariant: the word is that of the first i effects.
-use mathlib.Core.Path.{◌≡◌, refl}
+use mathlib.Core.Path.{◌≡◌}
 use Prim.Native.Nat.{◌≤◌, ◌-◌}
-use native.Mathlib.Omega.{arith}
 use lib.Dec.{ltb}
 use Rattle.plans.specs.Plans.{delay_at}
 use Rattle.bits.specs.Words.{word_of}
-use Rattle.bits.proofs.Words.{word_of_lt, word_of_more}
-use borrow.Author.Rules.{rules}
 use Rattle.plans.proofs.delay_word.Given as goal
 
 abbrev pub invariant-loop-i : goal.invariant-loop-i

@@ -1,5 +1,4 @@
 -- `plans::plan_of` meets its contract, from what its callees ensure.
-use borrow.Author.Rules.{rules}
 use Rattle.plans.specs.Plans.{plan_of}
 use Rattle.plans.proofs.plan_of.Goals as goal
 

@@ -1,13 +1,11 @@
 -- `plans::put_associations` meets its contract. The loop's invariant: the first i of the part are filled.
 use mathlib.Core.Path.{◌≡◌, refl}
-use Prim.Native.Nat.{◌≤◌, ◌-◌}
 use native.Mathlib.Nat.{zero-add}
 use native.Mathlib.Omega.{arith}
 use borrow.Author.Rules.{rules}
 use Rattle.bits.specs.Lists.{tabulate}
 use Rattle.cells.specs.Array.{associations_at}
-use Rattle.plans.specs.Plans.{association_at}
-use Rattle.cells.proofs.Filled.{up_to, more}
+use Rattle.cells.proofs.Filled.{more}
 use Rattle.plans.proofs.put_associations.Goals as goal
 
 pub loop-i-init : goal.loop-i-init

@@ -1,13 +1,9 @@
 -- `plans::put_associations` meets its contract. The loop's invariant: the first i of the part are filled.
-use mathlib.Core.Path.{◌≡◌, refl}
+use mathlib.Core.Path.{◌≡◌}
 use Prim.Native.Nat.{◌≤◌, ◌-◌}
-use native.Mathlib.Nat.{zero-add}
-use native.Mathlib.Omega.{arith}
-use borrow.Author.Rules.{rules}
-use Rattle.bits.specs.Lists.{tabulate}
 use Rattle.cells.specs.Array.{associations_at}
 use Rattle.plans.specs.Plans.{association_at}
-use Rattle.cells.proofs.Filled.{up_to, more}
+use Rattle.cells.proofs.Filled.{up_to}
 use Rattle.plans.proofs.put_associations.Given as goal
 
 abbrev pub invariant-loop-i : goal.invariant-loop-i

@@ -1,12 +1,10 @@
 -- `plans::put_delays` meets its contract. The loop's invariant: the first i of the part are filled.
 use mathlib.Core.Path.{◌≡◌, refl}
-use Prim.Native.Nat.{◌≤◌, ◌-◌}
 use native.Mathlib.Omega.{arith}
 use borrow.Author.Rules.{rules}
 use Rattle.bits.specs.Lists.{tabulate}
 use Rattle.cells.specs.Array.{delays_at}
-use Rattle.plans.specs.Plans.{delay_at}
-use Rattle.cells.proofs.Filled.{up_to, more}
+use Rattle.cells.proofs.Filled.{more}
 use Rattle.plans.proofs.put_delays.Goals as goal
 
 pub loop-i-init : goal.loop-i-init

@@ -1,9 +1,6 @@
 -- `plans::watched_word` meets its contract. The loop's invariant: the word is the union of the first i association words.
-use mathlib.Core.Path.{◌≡◌, refl}
+use mathlib.Core.Path.{◌≡◌}
 use Prim.Native.Nat.{◌≤◌, ◌-◌}
-use native.Mathlib.Numerals.{add-one}
-use native.Mathlib.Omega.{arith}
-use borrow.Author.Rules.{rules}
 use Rattle.plans.specs.Plans.{association_at, union_to}
 use Rattle.plans.proofs.watched_word.Given as goal
 

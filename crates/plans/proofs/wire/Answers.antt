@@ -1,5 +1,4 @@
 -- `plans::wire` meets its contract, from what its callees ensure.
-use borrow.Author.Rules.{rules}
 use Rattle.plans.specs.Plans.{wired_into}
 use Rattle.plans.proofs.wire.Goals as goal
 

@@ -1,5 +1,4 @@
 -- `cells::slots::load` meets its contract, from what its callees ensure.
-use borrow.Author.Rules.{rules}
 use Rattle.cells.specs.Loaded.{loaded_into}
 use Rattle.cells.proofs.slots.load.Goals as goal
 

@@ -1,13 +1,10 @@
 -- `cells::slots::put_timers` meets its contract. The loop's invariant: the entries before i in the part are filled.
-use mathlib.Core.Path.{◌≡◌, refl, sym}
+use mathlib.Core.Path.{◌≡◌}
 use Prim.Native.Nat.{◌≤◌, ◌-◌}
-use native.Mathlib.Omega.{arith}
-use borrow.Author.Rules.{rules}
 use lib.ListN.{get_or}
-use Rattle.bits.specs.Lists.{tabulate}
 use Rattle.rules.specs.Rules.{no_slot}
 use Rattle.cells.specs.Array.{timers_at}
-use Rattle.cells.proofs.Filled.{up_to, more}
+use Rattle.cells.proofs.Filled.{up_to}
 use Rattle.cells.proofs.slots.put_timers.Given as goal
 
 abbrev pub invariant-loop-i : goal.invariant-loop-i

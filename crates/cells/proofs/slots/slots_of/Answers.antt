@@ -1,17 +1,14 @@
 -- `cells::slots::slots_of` meets its contract. The loop's invariant: the slots before i are filled, and the rest are of no effect.
 use mathlib.Core.Path.{◌≡◌, refl}
-use mathlib.Core.List.{◌++◌}
-use Prim.Native.Nat.{◌≤◌, ◌-◌}
 use native.Mathlib.Nat.{mod-eq_of_lt}
 use native.Mathlib.Omega.{arith}
 use borrow.Author.Rules.{rules}
-use lib.ListN.{drop, replicate}
+use lib.ListN.{replicate}
 use Rattle.bits.specs.Lists.{tabulate}
 use Rattle.bits.proofs.Lists.{fill}
 use Rattle.rules.specs.Rules.{no_slot}
 use Rattle.cells.specs.Array.{timers_at, firsts_at}
-use Rattle.boards.specs.Table.{slot_at, slots_of}
-use Rattle.cells.specs.Loaded.{table_in}
+use Rattle.boards.specs.Table.{slots_of}
 use Rattle.cells.proofs.Filled.{get_d_part}
 use Rattle.cells.proofs.slots.slots_of.Goals as goal
 

@@ -1,18 +1,12 @@
 -- `cells::slots::slots_of` meets its contract. The loop's invariant: the slots before i are filled, and the rest are of no effect.
-use mathlib.Core.Path.{◌≡◌, refl}
+use mathlib.Core.Path.{◌≡◌}
 use mathlib.Core.List.{◌++◌}
 use Prim.Native.Nat.{◌≤◌, ◌-◌}
-use native.Mathlib.Nat.{mod-eq_of_lt}
-use native.Mathlib.Omega.{arith}
-use borrow.Author.Rules.{rules}
 use lib.ListN.{drop, replicate}
 use Rattle.bits.specs.Lists.{tabulate}
-use Rattle.bits.proofs.Lists.{fill}
 use Rattle.rules.specs.Rules.{no_slot}
-use Rattle.cells.specs.Array.{timers_at, firsts_at}
-use Rattle.boards.specs.Table.{slot_at, slots_of}
+use Rattle.boards.specs.Table.{slot_at}
 use Rattle.cells.specs.Loaded.{table_in}
-use Rattle.cells.proofs.Filled.{get_d_part}
 use Rattle.cells.proofs.slots.slots_of.Given as goal
 
 abbrev pub invariant-loop-i : goal.invariant-loop-i

@@ -1,0 +1,6 @@
+-- `rerun::place_of` meets its contract, in both cases.
+use borrow.Author.Rules.{rules}
+use Rattle.rerun.proofs.place_of.Goals as goal
+
+pub returns-then-keep : goal.returns-then-keep
+returns-then-keep c = rw c.if-keep.true
