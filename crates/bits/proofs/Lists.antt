@@ -1,13 +1,12 @@
 -- Laws of lists that are made or tested by their index, and of lists joined from pieces.
 use mathlib.Core.Path.{◌≡◌, refl, ap, ap₂, sym, ◌∙◌}
-use mathlib.Core.Bool.{Bool, true, false, not, ◌&&◌, ◌||◌, false≢true}
+use mathlib.Core.Bool.{Bool, true, false, ◌&&◌, ◌||◌, false≢true}
 use mathlib.Core.List.{List, [], ◌∷◌, ◌++◌, map, flat_map, append_assoc, append-nil}
 use mathlib.Core.Logic.{⊎_elim}
 use Prim.Native.Nat.{ℕ, zero, suc, ◌+◌, ◌*◌, ◌<◌, ◌≤◌, suc-le-suc}
 use native.Mathlib.Nat.{add-zero, mul-add, mul-suc, mul-zero, eq-or-lt_of_le, le_of_suc-le-suc, not-suc-le-zero}
 use native.Mathlib.Numerals.{add-one}
 use native.Mathlib.Omega.{arith}
-use borrow.Author.Tests.{not-true, not-false}
 use lib.ListN.{length, take, drop, set, get_or, replicate, length-append, length-map, drop_of_length-le, get_or-append}
 use lib.Seq.{set_at, sets, drop-cons, get_or_at, take-suc}
 use Rattle.bits.specs.Lists.{tabulate, all_from}

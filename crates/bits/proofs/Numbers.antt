@@ -1,13 +1,13 @@
 -- Laws of numbers of w bytes, of entries of fixed layout, and of runs of stores.
 use mathlib.Core.Path.{◌≡◌, refl, sym, ap, ap₂, ◌∙◌}
-use mathlib.Core.List.{List, [], ◌∷◌, ◌++◌, append_assoc, append-nil}
-use Prim.Native.Nat.{ℕ, zero, suc, ◌+◌, ◌*◌, ◌-◌, ◌/◌, ◌%◌, ◌^◌, ◌≤◌, ◌<◌}
+use mathlib.Core.List.{List, [], ◌∷◌, ◌++◌, append_assoc}
+use Prim.Native.Nat.{ℕ, zero, suc, ◌+◌, ◌*◌, ◌/◌, ◌%◌, ◌^◌, ◌≤◌, ◌<◌}
 use native.Mathlib.Nat.{add_assoc, add-zero, zero-add, one-mul, div-one, div-add-mod', div-div-eq-div-mul, mod-lt, add-suc, suc-add, add-mul, mul_assoc, pow-suc, mul_comm, mul_right_comm}
 use native.Mathlib.Numerals.{add-one}
 use native.Mathlib.Omega.{arith}
-use borrow.Rule.Slice.PartMut.{mid_of, put_mid}
-use lib.ListN.{length, get_or, take, drop, set, length-append, length-drop, drop_of_length-le}
-use lib.Seq.{sets, sets-eq, drop-cons, get_or_at, take-add, take_all, drop-drop}
+use borrow.Rule.Slice.PartMut.{put_mid}
+use lib.ListN.{length, get_or, take, drop, set, length-append}
+use lib.Seq.{sets, sets-eq, drop-cons, get_or_at, take-add, drop-drop}
 use lib.Pow.{pow-add}
 use lib.Arith.{digits_div, digits_mod, digits_lt, mod-mul}
 use Rattle.bits.specs.Numbers.{Bytes, num_at, low_at, lows, turned, digits}

@@ -6,7 +6,7 @@ use Prim.Native.Nat.{ℕ, zero, suc, ◌+◌, ◌*◌, ◌≤◌, ◌<◌}
 use native.Mathlib.Nat.{zero-add, add-zero, le_of_suc-le-suc, not-suc-le-zero}
 use native.Mathlib.Numerals.{add-one}
 use native.Mathlib.Omega.{arith}
-use lib.ListN.{length, take, drop, get_or, length-append, length-take, take-append-drop}
+use lib.ListN.{length, take, drop, get_or, length-take, take-append-drop}
 use lib.Seq.{sets, sets-eq, take_at, drop_at, drop-drop, drop-cons}
 use Rattle.bits.specs.Words.{one}
 use Rattle.bits.specs.Numbers.{num_at}

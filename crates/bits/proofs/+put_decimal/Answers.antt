@@ -1,6 +1,6 @@
 -- `bits::put_decimal` meets its contract. The number falls with each call of itself: the digits before the last are those of the
 -- number without its last digit.
-use Prim.Native.Nat.{ℕ, ◌/◌, ◌%◌, ◌<◌}
+use Prim.Native.Nat.{◌/◌, ◌%◌}
 use mathlib.Core.Path.{sym, ap, ◌∙◌}
 use native.Mathlib.Omega.{arith}
 use lib.ListN.{length}

@@ -1,5 +1,4 @@
 -- `bits::get32` meets its contract: the number of four bytes is that of its two halves.
-use borrow.Author.Rules.{rules}
 use native.Mathlib.Nat.{add_assoc}
 use native.Mathlib.Omega.{arith}
 use Rattle.bits.proofs.get32.Goals as goal

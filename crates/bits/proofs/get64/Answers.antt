@@ -1,6 +1,5 @@
 -- `bits::get64` meets its contract: eight bytes that are read the lowest first and then turned are read the highest first.
 use Rattle.bits.proofs.Numbers.{turned_halves}
-use borrow.Author.Rules.{rules}
 use Rattle.bits.proofs.get64.Goals as goal
 
 pub returns : goal.returns

@@ -1,7 +1,6 @@
 -- `bits::low32` meets its contract, from what its callees ensure and the tests on the way.
 use native.Mathlib.Nat.{add_assoc}
 use native.Mathlib.Omega.{arith}
-use borrow.Author.Rules.{rules}
 use Rattle.bits.proofs.low32.Goals as goal
 
 pub returns : goal.returns

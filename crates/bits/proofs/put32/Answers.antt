@@ -1,5 +1,4 @@
 -- `bits::put32` meets its contract: the four bytes of the number that is turned, the lowest first, are its own.
-use borrow.Author.Rules.{rules}
 use mathlib.Core.Path.{ap, ◌∙◌}
 use native.Mathlib.Omega.{arith}
 use Prim.Native.Nat.{ℕ}

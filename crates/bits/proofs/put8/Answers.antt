@@ -1,5 +1,4 @@
 -- `bits::put8` meets its contract: one store.
-use borrow.Author.Rules.{rules}
 use native.Mathlib.Nat.{div-one}
 use Rattle.bits.proofs.put8.Goals as goal
 

@@ -1,6 +1,5 @@
 -- `bits::put_bit` meets its contract, by the law of a bit that is put in above the others.
 use native.Mathlib.Nat.{add-zero}
-use borrow.Author.Rules.{rules}
 use Rattle.bits.proofs.Words.{set-bit}
 use Rattle.bits.proofs.put_bit.Goals as goal
 

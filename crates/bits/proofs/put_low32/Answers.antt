@@ -1,5 +1,4 @@
 -- `bits::put_low32` meets its contract: four stores, one after the other. The definition divides by 256 again and again.
-use borrow.Author.Rules.{rules}
 use mathlib.Core.Path.{◌≡◌}
 use Prim.Native.Nat.{suc, ◌+◌, ◌/◌, ◌%◌}
 use native.Mathlib.Omega.{arith}

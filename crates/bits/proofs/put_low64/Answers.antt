@@ -1,5 +1,4 @@
 -- `bits::put_low64` meets its contract: its two halves, stored one after the other, are its eight bytes.
-use borrow.Author.Rules.{rules}
 use mathlib.Core.Path.{refl}
 use Prim.Native.Nat.{◌/◌, ◌%◌, ◌^◌}
 use Rattle.bits.specs.Numbers.{lows}

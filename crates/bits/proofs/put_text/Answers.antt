@@ -1,10 +1,6 @@
 -- `bits::put_text` meets its contract: the part from `at` on to the end of the text becomes the text.
-use mathlib.Core.Path.{◌≡◌, refl, ◌∙◌}
-use mathlib.Core.List.{◌++◌, []}
-use Prim.Native.Nat.{◌+◌, ◌-◌}
+use mathlib.Core.Path.{refl}
 use native.Mathlib.Omega.{arith}
-use borrow.Rule.Slice.PartMut.{mid_of, put_mid}
-use lib.ListN.{length, take, drop}
 use Rattle.bits.proofs.Numbers.{part_text}
 use Rattle.bits.proofs.put_text.Goals as goal
 

@@ -1,7 +1,6 @@
 -- `effects::event_at` meets its contract: its readers give the fields of the event whose record stands there.
 use mathlib.Core.Path.{◌∙◌}
 use native.Mathlib.Omega.{arith}
-use borrow.Author.Rules.{rules}
 use Rattle.rules.proofs.States.{code_at_most}
 use Rattle.effects.proofs.Records.{fields-of, read_as}
 use Rattle.effects.proofs.event_at.Goals as goal

@@ -1,5 +1,4 @@
 -- `effects::head_of` meets its contract: the bytes of a number that is put together from fields are those of the fields.
-use borrow.Author.Rules.{rules}
 use mathlib.Core.Path.{ap₂, ◌∙◌}
 use mathlib.Core.List.{◌++◌}
 use Prim.Native.Nat.{◌+◌, ◌*◌}

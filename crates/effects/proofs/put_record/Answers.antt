@@ -1,5 +1,4 @@
 -- `effects::put_record` meets its contract: the bytes of its two numbers, one after the other, are those of the fields.
-use borrow.Author.Rules.{rules}
 use mathlib.Core.Path.{refl, ap₂, ◌∙◌}
 use mathlib.Core.List.{List, ◌++◌}
 use Prim.Native.Nat.{ℕ}

@@ -1,5 +1,4 @@
 -- `effects::tail_of` meets its contract, as `head_of` does; the zero between the fields is one of them.
-use borrow.Author.Rules.{rules}
 use mathlib.Core.Path.{◌≡◌, ap, ◌∙◌}
 use mathlib.Core.List.{List, ◌++◌}
 use Prim.Native.Nat.{ℕ, ◌+◌, ◌*◌}

@@ -1,6 +1,5 @@
 -- `planes::code_at` meets its contract, from what its callees ensure.
 use Rattle.planes.specs.Planes.{code_at}
-use borrow.Author.Rules.{rules}
 use Rattle.planes.proofs.code_at.Goals as goal
 
 pub returns : goal.returns

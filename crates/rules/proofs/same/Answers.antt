@@ -1,5 +1,4 @@
 -- `rules::same` meets its contract, from what its callee ensures.
-use borrow.Author.Rules.{rules}
 use Rattle.rules.proofs.same.Goals as goal
 
 pub returns : goal.returns

@@ -1,13 +1,11 @@
 -- `sums::in_range` meets its contract. The loop's invariant: the sums before k are in range.
-use mathlib.Core.Path.{◌≡◌, refl}
-use Prim.Native.Nat.{◌≤◌, ◌-◌, ◌+◌}
+use mathlib.Core.Path.{refl}
+use Prim.Native.Nat.{◌+◌}
 use native.Mathlib.Omega.{arith}
 use lib.Dec.{leb}
-use lib.ListN.{length, drop, get_or}
-use borrow.Author.Rules.{rules}
-use Rattle.bits.specs.Lists.{all_from}
+use lib.ListN.{get_or}
 use Rattle.bits.proofs.Lists.{all_fails, all_goes_on, all_ends}
-use Rattle.sums.specs.Sums.{most_sum, in_range}
+use Rattle.sums.specs.Sums.{most_sum}
 use Rattle.sums.proofs.in_range.Goals as goal
 
 pub loop-k-init : goal.loop-k-init

@@ -1,12 +1,9 @@
 -- `sums::in_range` meets its contract. The loop's invariant: the sums before k are in range.
-use mathlib.Core.Path.{◌≡◌, refl}
+use mathlib.Core.Path.{◌≡◌}
 use Prim.Native.Nat.{◌≤◌, ◌-◌, ◌+◌}
-use native.Mathlib.Omega.{arith}
 use lib.Dec.{leb}
 use lib.ListN.{length, drop, get_or}
-use borrow.Author.Rules.{rules}
 use Rattle.bits.specs.Lists.{all_from}
-use Rattle.bits.proofs.Lists.{all_fails, all_goes_on, all_ends}
 use Rattle.sums.specs.Sums.{most_sum, in_range}
 use Rattle.sums.proofs.in_range.Given as goal
 

@@ -1,6 +1,5 @@
 -- `sums::sum_fits` meets its contract.
 use native.Mathlib.Omega.{arith}
-use borrow.Author.Rules.{rules}
 use Rattle.sums.proofs.Sums.{fits-is}
 use Rattle.sums.proofs.sum_fits.Goals as goal
 

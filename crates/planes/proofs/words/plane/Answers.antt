@@ -1,9 +1,6 @@
 -- `planes::words::plane` meets its contract. The loop's invariant: the word is that of the first i effects.
 use mathlib.Core.Path.{◌≡◌, refl}
-use Prim.Native.Nat.{◌≤◌, ◌-◌}
 use native.Mathlib.Omega.{arith}
-use lib.ListN.{get_or}
-use Rattle.rules.specs.Rules.{same, no_slot}
 use Rattle.bits.specs.Words.{word_of}
 use Rattle.bits.proofs.Words.{word_of_lt, word_of_more}
 use borrow.Author.Rules.{rules}

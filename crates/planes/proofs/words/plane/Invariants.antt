@@ -1,12 +1,9 @@
 -- `planes::words::plane` meets its contract. The loop's invariant: the word is that of the first i effects.
-use mathlib.Core.Path.{◌≡◌, refl}
+use mathlib.Core.Path.{◌≡◌}
 use Prim.Native.Nat.{◌≤◌, ◌-◌}
-use native.Mathlib.Omega.{arith}
 use lib.ListN.{get_or}
 use Rattle.rules.specs.Rules.{same, no_slot}
 use Rattle.bits.specs.Words.{word_of}
-use Rattle.bits.proofs.Words.{word_of_lt, word_of_more}
-use borrow.Author.Rules.{rules}
 use Rattle.planes.proofs.words.plane.Given as goal
 
 abbrev pub invariant-loop-i : goal.invariant-loop-i

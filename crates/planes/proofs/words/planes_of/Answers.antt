@@ -1,5 +1,4 @@
 -- `planes::words::planes_of` meets its contract, from what its callee ensures.
-use borrow.Author.Rules.{rules}
 use Rattle.planes.specs.Planes.{planes_of}
 use Rattle.planes.proofs.words.planes_of.Goals as goal
 

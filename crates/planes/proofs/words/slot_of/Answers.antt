@@ -1,5 +1,4 @@
 -- `planes::words::slot_of` meets its contract, from what its callees ensure.
-use borrow.Author.Rules.{rules}
 use Rattle.planes.proofs.words.slot_of.Goals as goal
 
 pub returns : goal.returns

@@ -1,6 +1,5 @@
 -- `planes::words::state_at` meets its contract: each return by the tests that led there.
 use mathlib.Core.Path.{sym, ◌∙◌}
-use borrow.Author.Rules.{rules}
 use Rattle.planes.specs.Planes.{state_at}
 use Rattle.planes.proofs.words.state_at.Goals as goal
 
