@@ -1,5 +1,4 @@
 -- `settings::apart_number` meets its contract, from what its callees ensure and the tests on the way.
-use borrow.Author.Rules.{rules}
 use Rattle.settings.proofs.apart_number.Goals as goal
 
 pub returns-then-is_apart : goal.returns-then-is_apart

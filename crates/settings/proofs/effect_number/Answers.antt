@@ -1,5 +1,4 @@
 -- `settings::effect_number` meets its contract, from what its callees ensure and the tests on the way.
-use borrow.Author.Rules.{rules}
 use Rattle.settings.proofs.effect_number.Goals as goal
 
 pub returns-then-effect_ok : goal.returns-then-effect_ok

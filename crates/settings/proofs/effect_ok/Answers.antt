@@ -1,5 +1,4 @@
 -- `settings::effect_ok` meets its contract, from what its callees ensure and the tests on the way.
-use borrow.Author.Rules.{rules}
 use Rattle.settings.proofs.effect_ok.Goals as goal
 
 pub returns : goal.returns

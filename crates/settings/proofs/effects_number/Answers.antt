@@ -1,5 +1,4 @@
 -- `settings::effects_number` meets its contract, from what its callees ensure and the tests on the way.
-use borrow.Author.Rules.{rules}
 use Rattle.settings.proofs.effects_number.Goals as goal
 
 pub returns-then-count_ok-slots_ok : goal.returns-then-count_ok-slots_ok

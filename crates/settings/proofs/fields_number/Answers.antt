@@ -1,5 +1,4 @@
 -- `settings::fields_number` meets its contract, from what its callees ensure and the tests on the way.
-use borrow.Author.Rules.{rules}
 use Rattle.settings.proofs.fields_number.Goals as goal
 
 pub returns-then-words_ok : goal.returns-then-words_ok

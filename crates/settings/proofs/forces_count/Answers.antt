@@ -1,5 +1,4 @@
 -- `settings::forces_count` meets its contract, from what its callees ensure and the tests on the way.
-use borrow.Author.Rules.{rules}
 use Rattle.settings.proofs.forces_count.Goals as goal
 
 pub returns : goal.returns

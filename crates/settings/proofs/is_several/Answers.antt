@@ -1,5 +1,4 @@
 -- `settings::is_several` meets its contract, from what its callees ensure and the tests on the way.
-use borrow.Author.Rules.{rules}
 use Rattle.settings.proofs.is_several.Goals as goal
 
 pub returns : goal.returns

@@ -1,7 +1,6 @@
 -- `settings::row_number` meets its contract, from what its callees ensure and the tests on the way.
 use Rattle.settings.proofs.Refusals.{or_else_first, or_else_next}
 use Rattle.settings.specs.Right.{row_number}
-use borrow.Author.Rules.{rules}
 use Rattle.settings.proofs.row_number.Goals as goal
 
 pub returns-then-number-ne0 : goal.returns-then-number-ne0

@@ -1,5 +1,4 @@
 -- `settings::seen_of` meets its contract, from what its callees ensure and the tests on the way.
-use borrow.Author.Rules.{rules}
 use Rattle.settings.proofs.seen_of.Goals as goal
 
 pub returns : goal.returns

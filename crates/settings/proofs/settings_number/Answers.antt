@@ -1,7 +1,6 @@
 -- `settings::settings_number` meets its contract, from what its callees ensure and the tests on the way.
 use Rattle.settings.proofs.Refusals.{or_else_first, or_else_next}
 use Rattle.settings.specs.Right.{settings_number}
-use borrow.Author.Rules.{rules}
 use Rattle.settings.proofs.settings_number.Goals as goal
 
 pub returns-then-number-ne0 : goal.returns-then-number-ne0

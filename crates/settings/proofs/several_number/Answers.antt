@@ -1,5 +1,4 @@
 -- `settings::several_number` meets its contract, from what its callees ensure and the tests on the way.
-use borrow.Author.Rules.{rules}
 use Rattle.settings.proofs.several_number.Goals as goal
 
 pub returns-then-bit-is_several : goal.returns-then-bit-is_several

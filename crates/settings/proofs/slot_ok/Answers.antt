@@ -1,6 +1,5 @@
 -- `settings::slot_ok` meets its contract, from what its callees ensure and the tests on the way.
 use borrow.Author.Tests.{lt-ltb, le-ltb}
-use borrow.Author.Rules.{rules}
 use Rattle.settings.proofs.slot_ok.Goals as goal
 
 pub returns-then-i-known : goal.returns-then-i-known

@@ -1,13 +1,9 @@
 -- `settings::slots_ok` meets its contract. The loop's invariant: the slots before i passed.
 use mathlib.Core.Path.{◌≡◌}
 use Prim.Native.Nat.{◌≤◌, ◌-◌}
-use native.Mathlib.Omega.{arith}
 use lib.ListN.{length, drop}
-use borrow.Author.Rules.{rules}
 use Rattle.bits.specs.Lists.{all_from}
-use Rattle.bits.proofs.Lists.{all_fails, all_goes_on, all_ends}
 use Rattle.settings.specs.Right.{slot_ok}
-use Rattle.settings.specs.Signals.{no_effect}
 use Rattle.settings.proofs.slots_ok.Given as goal
 
 abbrev pub invariant-loop-i : goal.invariant-loop-i

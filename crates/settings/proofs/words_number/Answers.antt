@@ -1,7 +1,6 @@
 -- `settings::words_number` meets its contract, from what its callees ensure and the tests on the way.
 use Rattle.settings.proofs.Refusals.{or_else_first, or_else_next}
 use Rattle.settings.specs.Right.{words_number}
-use borrow.Author.Rules.{rules}
 use Rattle.settings.proofs.words_number.Goals as goal
 
 pub returns-then-fields-ne0 : goal.returns-then-fields-ne0
