@@ -1,7 +1,6 @@
 // What the programs that answer streams of cases share: settings and a state read from the bytes of a case, the bytes of
 // an answer, the filling of a lent buffer, and lines of hexadecimal digits. second/README.md lays the streams out. It rests on
-// `block`, `layout` (for effects) and what these rest on, and on the kit's `io` and `libc`; no promise rests on it. All but the
-// streams may change.
+// `block`, `layout` (for effects) and what these rest on, and on std's writers; no promise rests on it. All but the streams may change.
 #![tactic(auto)]
 
 ghost use Rattle.std.specs.Prelude.{◌≡◌, ◌+◌, ◌*◌, ◌%◌, ◌<◌, ◌≤◌, min, length};
@@ -17,6 +16,7 @@ ghost use Rattle.cases.specs.Answers.{slot_bytes, state_bytes, answer_bytes, hex
 use block::{Scanned, State};
 use rules::{EffectState, Slot};
 use settings::Settings;
+use std::io::Write;
 
 // ---- settings: 101 bytes
 
@@ -240,18 +240,18 @@ fn put_line(a: &[u8], b: &[u8], last: u8, out: &mut [u8]) -> usize
     n + 1
 }
 
-// Writes a line, as put_line makes it, to standard output; false if standard output takes no more.
-fn write_line(a: &[u8], b: &[u8], last: u8, text: &[u8]) -> bool
+// Writes a line, as put_line makes it; false if the output takes no more.
+fn write_line<W: Write>(output: &mut W, a: &[u8], b: &[u8], last: u8, text: &[u8]) -> bool
     requires { text.now ≡ line_bytes a.now b.now last }
 {
-    io::write_all(1, text)
+    output.write_all(text).is_ok()
 }
 
-// Makes a line at the front of `line`, and writes it to standard output; false if standard output takes no more.
-pub fn print_line(a: &[u8], b: &[u8], last: u8, line: &mut [u8]) -> bool
+// Makes a line at the front of `line`, and writes it; false if the output takes no more.
+pub fn print_line<W: Write>(output: &mut W, a: &[u8], b: &[u8], last: u8, line: &mut [u8]) -> bool
     requires { 2 * length a.now + 2 * length b.now + 2 ≤ length line.old }
     ensures { line.new ≡ sets line.old 0 (line_bytes a.now b.now last) }
 {
     let n = put_line(a, b, last, line);
-    write_line(a, b, last, &line[..n])
+    write_line(output, a, b, last, &line[..n])
 }

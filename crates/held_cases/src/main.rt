@@ -6,6 +6,7 @@ ghost use Rattle.std.specs.Prelude.{◌≡◌, ◌≤◌, length};
 
 use block::{Held, Scanned};
 use settings::Row;
+use std::io::Write;
 
 fn run(case: &[u8; 245], buf: &mut [u8]) -> Held {
     let st = cases::settings_at(case, 0);
@@ -38,32 +39,34 @@ fn put_head(r: Held, head: &mut [u8])
 }
 
 // Answers a case in a buffer of exactly its room.
-fn answer_in(case: &[u8; 245], buf: &mut [u8]) -> bool
+fn answer_in<W: Write>(output: &mut W, case: &[u8; 245], buf: &mut [u8]) -> bool
     requires { length buf.old ≤ 400 }
 {
     let r = run(case, buf);
     let mut head = [0u8; 137];
     put_head(r, &mut head);
     let mut line = [0u8; 1076];
-    cases::print_line(&head, buf, b'\n', &mut line)
+    cases::print_line(output, &head, buf, b'\n', &mut line)
 }
 
 // Writes the line that answers a case; false if nothing can be written.
-fn answer(case: &[u8; 245]) -> bool {
+fn answer<W: Write>(output: &mut W, case: &[u8; 245]) -> bool {
     let mut space = [0u8; 400];
     let room = cases::room_at(case, 243, 400);
-    answer_in(case, &mut space[0..room])
+    answer_in(output, case, &mut space[0..room])
 }
 
 // Answers at most a million cases, so that the program ends.
-fn main() {
+fn main(rt: HostRuntime) {
+    let mut input = rt.stdin();
+    let mut output = rt.stdout();
     let mut case = [0u8; 245];
     let mut done: usize = 0;
     while done < 1000000 {
-        if !streams::next_case(&mut case) {
+        if !streams::next_case(&mut input, &mut output, &mut case) {
             return;
         }
-        if !answer(&case) {
+        if !answer(&mut output, &case) {
             return;
         }
         done += 1;

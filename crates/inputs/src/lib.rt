@@ -1,12 +1,18 @@
 // Named inputs of a program: each argument but the first names a file, or standard input by `-`, which is read to the front of a lent buffer.
 // If an input cannot be opened or read, standard error says so with its name; it is not taken for an empty one. Every command that takes
-// names stands on this crate. It rests on `bits` and on the kit's `os`, `io` and `libc`; no contract can say what is read or written. All but the
-// messages and the statuses may change.
+// names stands on this crate. It rests on `bits` and on std's files, arguments and standard streams; no contract can say what is read or
+// written. All but the messages and the statuses may change.
 #![tactic(auto)]
 
-ghost use Rattle.std.specs.Prelude.{◌≡◌, ◌⊎◌, ◌+◌, ◌≤◌, max, min, length};
+ghost use Rattle.std.specs.Prelude.{◌≡◌, ◌⊎◌, ◌+◌, ◌≤◌, max, min, length, IfOk, MatchResult};
 ghost use Rattle.inputs.specs.Lengths.{most_program, most_name, most_message};
 ghost use Rattle.inputs.specs.Statuses.{done, refused, unread, unwritten};
+
+use std::env::{Env, FillError};
+use std::fs::{File, OpenOptions};
+use std::io;
+use std::io::{Error, Read, Write};
+use std::rt::Files;
 
 // ---- statuses
 
@@ -27,8 +33,8 @@ pub fn graver(a: u8, b: u8) -> u8
     if a < b { b } else { a }
 }
 
-// The descriptor that a status goes to.
-const STATUS_FILENO: i32 = 3;
+// What a status is written to: descriptor 3, which std has no other name for.
+const STATUS_PATH: &str = "/proc/self/fd/3";
 
 // For a user the last two statuses are one: not read or not written.
 fn told(status: u8) -> u8
@@ -37,19 +43,74 @@ fn told(status: u8) -> u8
     if status < UNREAD { status } else { UNREAD }
 }
 
-// A program has no exit status of its own: it writes the status to descriptor 3 as a digit, and the command that started it ends with
-// that. The answer is the digit.
-pub fn tell(status: u8) -> u8
+fn write_status<R: Files>(rt: &R, digit: u8) -> io::Result<()> {
+    let mut file = OpenOptions::new().append(true).open(rt, STATUS_PATH)?;
+    write!(file, "{digit}")
+}
+
+// A program writes its status to descriptor 3 as a digit, and the command that started it ends with that. The answer is the digit. If
+// there is no such descriptor, nobody asks for the status.
+pub fn tell<R: Files>(rt: &R, status: u8) -> u8
     ensures { result ≡ min status unread }
 {
     let digit = told(status);
-    io::print_decimal(STATUS_FILENO, digit as u64);
+    let _ = write_status(rt, digit);
     digit
 }
 
 // ---- messages
 
-// The most bytes of a message before errno's text: `most_message`.
+// Standard error, which takes any bytes: a name need not be text.
+pub trait Errors {
+    fn write_error(&self, bytes: &[u8]) -> io::Result<()>;
+}
+
+impl Errors for HostRuntime {
+    fn write_error(&self, bytes: &[u8]) -> io::Result<()> {
+        Print::write_all(&self.stderr(), bytes)
+    }
+}
+
+// The errors of the system that are found here: a text that is no argument, one that is longer than its buffer, and a name that is no
+// UTF-8, which std opens no file by.
+const EINVAL: i32 = 22;
+
+const ENAMETOOLONG: i32 = 36;
+
+const EILSEQ: i32 = 84;
+
+// The most bytes of the system's words for an error.
+const REASON_BYTES: usize = 128;
+
+// How many bytes of std's text for an error are the system's words: the number of the error stands behind them.
+fn words_len(text: &[u8]) -> usize
+    ensures { result ≤ length text.now }
+{
+    let Ok(whole) = str::from_utf8(text) else {
+        return text.len();
+    };
+    match whole.rsplit_once(" (os error ") {
+        Some((words, _)) => words.len().min(text.len()),
+        None => text.len(),
+    }
+}
+
+// Writes std's text for an error to the front of a lent buffer, and answers how many bytes of that are free.
+fn put_error(mut text: &mut [u8], error: Error) -> usize {
+    let _ = write!(text, "{error}");
+    text.len()
+}
+
+// Says the system's words for an error, and ends the line.
+fn say_reason<R: Errors>(rt: &R, error: Error) {
+    let mut text = [0u8; REASON_BYTES];
+    let free = put_error(&mut text, error);
+    let size = words_len(&text[..REASON_BYTES.saturating_sub(free)]);
+    let _ = rt.write_error(&text[..size]);
+    let _ = rt.write_error(b"\n");
+}
+
+// The most bytes of a message before the reason: `most_message`.
 const MESSAGE_BYTES: usize = 4160;
 
 // Two texts, one behind the other, at the front of a lent buffer; the answer is their length.
@@ -61,48 +122,51 @@ fn put_both(text: &mut [u8], program: &[u8], what: &[u8]) -> usize
     bits::put_text(text, at, what)
 }
 
-// The message by way of a lent buffer, where it stands whole before errno is read, so that no write comes between.
-fn fail_through(text: &mut [u8], program: &[u8], what: &[u8])
+// The message by way of a lent buffer.
+fn fail_through<R: Errors>(rt: &R, text: &mut [u8], program: &[u8], what: &[u8], error: Error)
     requires { length program.now + length what.now ≤ length text.old }
 {
     let end = put_both(text, program, what);
-    os::fail(&text[0..end]);
+    let _ = rt.write_error(&text[0..end]);
+    let _ = rt.write_error(b": ");
+    say_reason(rt, error);
 }
 
-// Says on standard error that something failed, and why: the program's name with a colon and a space, what failed, and errno's text.
-fn fail(program: &[u8], what: &[u8])
+// Says on standard error that something failed, and why: the program's name with a colon and a space, what failed, and the system's words
+// for the error.
+fn fail<R: Errors>(rt: &R, program: &[u8], what: &[u8], error: Error)
     requires { length program.now + length what.now ≤ most_message }
 {
     let mut text = [0u8; MESSAGE_BYTES];
-    fail_through(&mut text, program, what);
+    fail_through(rt, &mut text, program, what, error);
 }
 
 // Says the line of a refused input, and answers the status of that. If standard error takes no more, nobody can be told.
-pub fn say_refused(line: &[u8]) -> u8
+pub fn say_refused<R: Errors>(rt: &R, line: &[u8]) -> u8
     ensures { result ≡ refused }
 {
-    io::write_all(libc::STDERR_FILENO, line);
+    let _ = rt.write_error(line);
     REFUSED
 }
 
 // Says that standard output takes no more, and answers the status of that.
-pub fn say_unwritten(program: &[u8]) -> u8
+pub fn say_unwritten<R: Errors>(rt: &R, program: &[u8], error: Error) -> u8
     requires { length program.now ≤ most_program }
     ensures { result ≡ unwritten }
 {
-    fail(program, b"standard output");
+    fail(rt, program, b"standard output", error);
     UNWRITTEN
 }
 
 // Writes a text to standard output, and answers the status: done, or unwritten, which is said.
-pub fn write(program: &[u8], text: &[u8]) -> u8
+pub fn write<R: Print + Errors>(rt: &R, program: &[u8], text: &[u8]) -> u8
     requires { length program.now ≤ most_program }
     ensures { (result ≡ done) ⊎ (result ≡ unwritten) }
 {
-    if io::write_all(libc::STDOUT_FILENO, text) {
-        return DONE;
+    match rt.write_all(text) {
+        Ok(()) => DONE,
+        Err(error) => say_unwritten(rt, program, error),
     }
-    say_unwritten(program)
 }
 
 // ---- reading
@@ -114,26 +178,19 @@ pub struct Input {
     pub size: usize,
 }
 
-// Reads to the front of `file` until that is full or the input ends. Unlike with io::read_full, a read that fails is not the end.
-fn read(fd: i32, file: &mut [u8]) -> Input
-    ensures { (result.size ≤ length file.new) × (length file.new ≡ length file.old) }
+// Reads to the front of `file` until that is full or the input ends, and answers how many bytes there are. A read that fails is not the end.
+fn read<I: Read>(input: &mut I, file: &mut [u8]) -> io::Result<usize>
+    ensures { IfOk result (λ n. n ≤ length file.new) × (length file.new ≡ length file.old) }
 {
     let mut size: usize = 0;
     while size < file.len() {
-        let got = libc::read(fd, &mut file[size..]);
-        let more = io::count(got, &file[size..]);
-        if more == 0 {
-            return Input {
-                good: got == 0,
-                size: size,
-            };
+        match input.read(&mut file[size..]) {
+            Ok(0) => return Ok(size),
+            Ok(more) => size += more,
+            Err(error) => return Err(error),
         }
-        size += more;
     }
-    Input {
-        good: true,
-        size: size,
-    }
+    Ok(size)
 }
 
 // Whether a name stands for standard input.
@@ -144,50 +201,78 @@ fn is_standard(name: &[u8]) -> bool {
     name[0] == b'-'
 }
 
+// What a read of `what` gave. If it failed, standard error says so.
+fn input_of<R: Errors>(rt: &R, program: &[u8], what: &[u8], got: io::Result<usize>) -> Input
+    requires { length program.now + length what.now ≤ most_message }
+    ensures { MatchResult got (λ n. result.size ≡ n) (λ _. result.size ≡ 0) }
+{
+    match got {
+        Ok(size) => Input {
+            good: true,
+            size: size,
+        },
+        Err(error) => {
+            fail(rt, program, what, error);
+            Input {
+                good: false,
+                size: 0,
+            }
+        }
+    }
+}
+
 // Reads standard input.
-fn read_standard(program: &[u8], file: &mut [u8]) -> Input
+fn read_standard<R: io::Input + Errors>(rt: &R, program: &[u8], file: &mut [u8]) -> Input
     requires { length program.now ≤ most_program }
     ensures { (result.size ≤ length file.new) × (length file.new ≡ length file.old) }
 {
-    let input = read(libc::STDIN_FILENO, file);
-    if !input.good {
-        fail(program, b"standard input");
+    let got = read(&mut rt.reader(), file);
+    input_of(rt, program, b"standard input", got)
+}
+
+// A name as text, which std has all names of files as.
+fn text_of(name: &[u8]) -> io::Result<&str> {
+    match str::from_utf8(name) {
+        Ok(text) => Ok(text),
+        Err(_) => Err(Error::from_raw_os_error(EILSEQ)),
     }
-    input
 }
 
 // Opens a file, reads it and closes it.
-fn read_file(program: &[u8], name: &[u8], file: &mut [u8]) -> Input
+fn open_and_read<R: Files>(rt: &R, name: &[u8], file: &mut [u8]) -> io::Result<usize>
+    ensures { IfOk result (λ n. n ≤ length file.new) × (length file.new ≡ length file.old) }
+{
+    let mut opened = File::open(rt, text_of(name)?)?;
+    read(&mut opened, file)
+}
+
+// Reads a file.
+fn read_file<R: Files + Errors>(rt: &R, program: &[u8], name: &[u8], file: &mut [u8]) -> Input
     requires { (length program.now ≤ most_program) × (length name.now ≤ most_name) }
     ensures { (result.size ≤ length file.new) × (length file.new ≡ length file.old) }
 {
-    let fd = os::open_read(name);
-    if fd < 0 {
-        fail(program, name);
-        return Input {
-            good: false,
-            size: 0,
-        };
-    }
-    let input = read(fd, file);
-    if !input.good {
-        fail(program, name);
-    }
-    libc::close(fd);
-    input
+    let got = open_and_read(rt, name, file);
+    input_of(rt, program, name, got)
 }
 
 // Reads the input that a name stands for. If it cannot be read, standard error says so.
-pub fn read_named(program: &[u8], name: &[u8], file: &mut [u8]) -> Input
+pub fn read_named<R: Files + io::Input + Errors>(
+    rt: &R,
+    program: &[u8],
+    name: &[u8],
+    file: &mut [u8],
+) -> Input
     requires { (length program.now ≤ most_program) × (length name.now ≤ most_name) }
     ensures { (result.size ≤ length file.new) × (length file.new ≡ length file.old) }
 {
     if is_standard(name) {
-        read_standard(program, file)
+        read_standard(rt, program, file)
     } else {
-        read_file(program, name, file)
+        read_file(rt, program, name, file)
     }
 }
+
+// ---- arguments
 
 // The argument that says what is asked of the inputs, and the first that names one.
 pub const ASKED: usize = 1;
@@ -201,21 +286,59 @@ pub struct Name {
     pub size: usize,
 }
 
+// Whether there is an argument i: one that is longer than no room at all is there, too.
+fn is_given<R: Env>(rt: &R, i: usize) -> bool {
+    match rt.arg(i, &mut []) {
+        Ok(_) => true,
+        Err(FillError::TooLong) => true,
+        Err(FillError::NotPresent) => false,
+    }
+}
+
+// How many arguments there are, with the program's own name, which is the first.
+pub fn argument_count<R: Env>(rt: &R) -> usize {
+    for i in 0..usize::MAX {
+        if !is_given(rt, i) {
+            return i;
+        }
+    }
+    usize::MAX
+}
+
+// Puts argument i at the front of `name`, and answers its length, or 0 if there is none or it is longer than the buffer.
+pub fn short_argument<R: Env>(rt: &R, i: usize, name: &mut [u8]) -> usize
+    ensures { (result ≤ length name.new) × (length name.new ≡ length name.old) }
+{
+    match rt.arg(i, name) {
+        Ok(size) => size,
+        Err(_) => 0,
+    }
+}
+
+// The system's error for an argument that is not given whole.
+fn argument_error(error: FillError) -> Error {
+    Error::from_raw_os_error(match error {
+        FillError::NotPresent => EINVAL,
+        FillError::TooLong => ENAMETOOLONG,
+    })
+}
+
 // Puts argument i at the front of `name`. If it is longer than a name can be, standard error says so with its first bytes.
-pub fn argument(program: &[u8], i: usize, name: &mut [u8]) -> Name
+pub fn argument<R: Env + Errors>(rt: &R, program: &[u8], i: usize, name: &mut [u8]) -> Name
     requires { (length program.now ≤ most_program) × (length name.old ≤ most_name) }
     ensures { (result.size ≤ length name.new) × (length name.new ≡ length name.old) }
 {
-    let size = os::arg(i, name);
-    if os::errno() != 0 {
-        fail(program, name);
-        return Name {
-            good: false,
-            size: 0,
-        };
-    }
-    Name {
-        good: true,
-        size: size,
+    match rt.arg(i, name) {
+        Ok(size) => Name {
+            good: true,
+            size: size,
+        },
+        Err(error) => {
+            fail(rt, program, name, argument_error(error));
+            Name {
+                good: false,
+                size: 0,
+            }
+        }
     }
 }

@@ -10,7 +10,8 @@ ghost use Rattle.rerun.specs.Replay.{replay};
 ghost use Rattle.listings.specs.Buffers.{Printing};
 ghost use Rattle.listings.specs.Endings.{ended_by, Ended};
 
-use inputs::{DONE, REFUSED};
+use inputs::{DONE, Errors, REFUSED};
+use std::io;
 
 // How a recording of this refusal number ended.
 fn status_of(number: u8) -> u8
@@ -23,32 +24,38 @@ fn status_of(number: u8) -> u8
 }
 
 // Writes the text that stands at the front of the buffer, and answers how a recording of this refusal number ended.
-pub fn write_front(program: &[u8], out: &[u8], size: usize, number: u8) -> u8
+pub fn write_front<R: Print + Errors>(
+    rt: &R,
+    program: &[u8],
+    out: &[u8],
+    size: usize,
+    number: u8,
+) -> u8
     requires { (length program.now ≤ most_program) × (size ≤ length out.now) }
     ensures { Ended number result }
 {
-    let status = inputs::write(program, &out[0..size]);
+    let status = inputs::write(rt, program, &out[0..size]);
     inputs::graver(status, status_of(number))
 }
 
 // Prints a listing, with reasons if `why` asks for them.
-pub fn list(program: &[u8], s: &[u8], why: bool, out: &mut [u8]) -> u8
+pub fn list<R: Print + Errors>(rt: &R, program: &[u8], s: &[u8], why: bool, out: &mut [u8]) -> u8
     requires { (length program.now ≤ most_program) × Printing out.old }
     ensures { Ended (replay s.now).number result }
 {
-    let ending = printing::print(s, why, out);
+    let ending = printing::print(&mut io::writer(rt), s, why, out);
     let status = ending.status;
     if status == 2 {
-        return inputs::say_unwritten(program);
+        return inputs::say_unwritten(rt, program, printing::error_of(ending));
     }
     status
 }
 
 // Prints the heading with a name, under which the answer for its recording stands.
-pub fn head(program: &[u8], name: &[u8], out: &mut [u8]) -> u8
+pub fn head<R: Print + Errors>(rt: &R, program: &[u8], name: &[u8], out: &mut [u8]) -> u8
     requires { (length program.now ≤ most_program) × (length name.now ≤ most_name) × Printing out.old }
     ensures { Ended 0 result }
 {
     let size = reports::put_heading(out, name);
-    write_front(program, out, size, 0)
+    write_front(rt, program, out, size, 0)
 }

@@ -1,6 +1,6 @@
-// A listing on standard output: its text is `listing`'s, collected in one lent buffer and handed over when no piece fits any more
-// and at the end. All programs that print listings do it here. It rests on `listing` and what that rests on, and on the kit's `io` and
-// `libc`. When a part is handed over may change without moving a contract; the parts joined, and the answers 0, 1 and 2, may not.
+// A listing on a program's output: its text is `listing`'s, collected in one lent buffer and handed over when no piece fits any more
+// and at the end. All programs that print listings do it here. It rests on `listing` and what that rests on, and on std's writers.
+// When a part is handed over may change without moving a contract; the parts joined, and the answers 0, 1 and 2, may not.
 #![tactic(auto)]
 
 mod sending;
@@ -18,6 +18,7 @@ use listing::Printed;
 use recording::Answer;
 use rerun::{Run, Turn};
 pub use sending::Sent;
+use std::io::{Error, Write};
 
 // ---- the text
 
@@ -60,7 +61,7 @@ fn fill(
     }
 }
 
-// ---- standard output
+// ---- the output
 
 // How a replay ended, by whether all was written, and the refusal number or 0.
 fn status(good: bool, number: u8) -> u8
@@ -92,44 +93,74 @@ fn ending_of(sent: Sent, number: u8) -> Ending
     }
 }
 
+// Why the output took no more, if it did not.
+pub fn error_of(ending: Ending) -> Error {
+    sending::error(ending.sent)
+}
+
 // Writes what waits at the front of the buffer, which is the rest of the listing.
-fn write_rest(s: &[u8], why: bool, sent: Sent, out: &[u8], at: usize, number: u8) -> Ending
+fn write_rest<W: Write>(
+    output: &mut W,
+    s: &[u8],
+    why: bool,
+    sent: Sent,
+    out: &[u8],
+    at: usize,
+    number: u8,
+) -> Ending
     requires waiting { Waiting why s.now sent (take at out.now) (listing_of why s.now) × ((replay s.now).number ≡ number) }
     requires at_in_bounds { (at ≤ length out.now) × Buffer (length out.now) × (sent.gone < most_gone) }
     ensures { Told why s.now result }
 {
-    ending_of(sending::flush(s, why, sent, &out[..at]), number)
+    ending_of(sending::flush(output, s, why, sent, &out[..at]), number)
 }
 
 // Puts the closing at a place from which any piece fits, and writes the rest of the listing.
-fn write_closing(s: &[u8], why: bool, sent: Sent, turn: Turn, out: &mut [u8], at: usize) -> Ending
+fn write_closing<W: Write>(
+    output: &mut W,
+    s: &[u8],
+    why: bool,
+    sent: Sent,
+    turn: Turn,
+    out: &mut [u8],
+    at: usize,
+) -> Ending
     requires closes { Closes why s.now sent turn (take at out.old) }
     requires most_piece_in_bounds { (at + most_piece ≤ length out.old) × Buffer (length out.old) × (sent.gone < most_gone) }
     ensures { Told why s.now result }
 {
     let end = rerun::answer_of(turn);
     let w = listing::closing(end, out, at);
-    write_rest(s, why, sent, out, w.at, turn.number)
+    write_rest(output, s, why, sent, out, w.at, turn.number)
 }
 
 // The same from any place: where the closing may not fit, what waits is written first.
-fn print_closing(s: &[u8], why: bool, sent: Sent, turn: Turn, out: &mut [u8], at: usize) -> Ending
+fn print_closing<W: Write>(
+    output: &mut W,
+    s: &[u8],
+    why: bool,
+    sent: Sent,
+    turn: Turn,
+    out: &mut [u8],
+    at: usize,
+) -> Ending
     requires closes { Closes why s.now sent turn (take at out.old) }
     requires at_in_bounds { (at ≤ length out.old) × Buffer (length out.old) × (sent.gone + at < most_gone) }
     ensures { Told why s.now result }
 {
     if listing::has_room(out.len(), at) {
-        return write_closing(s, why, sent, turn, out, at);
+        return write_closing(output, s, why, sent, turn, out, at);
     }
-    let next = sending::flush(s, why, sent, &out[..at]);
+    let next = sending::flush(output, s, why, sent, &out[..at]);
     if !sending::written(next) {
         return ending_of(next, 0);
     }
-    write_closing(s, why, next, turn, out, 0)
+    write_closing(output, s, why, next, turn, out, 0)
 }
 
 // The listing of a file that the reader accepted, whose opening waits.
-fn print_rows(
+fn print_rows<W: Write>(
+    output: &mut W,
     s: &[u8],
     run: Run,
     board: &mut [u32; 64],
@@ -146,7 +177,7 @@ fn print_rows(
     while p.full {
         let turn = p.turn;
         let at = p.at;
-        sent = sending::flush(s, why, sent, &out[..at]);
+        sent = sending::flush(output, s, why, sent, &out[..at]);
         if !sending::written(sent) {
             return ending_of(sent, 0);
         }
@@ -154,11 +185,11 @@ fn print_rows(
         p = fill(s, next, board, out, 0, why);
     }
     let turn = p.turn;
-    print_closing(s, why, sent, turn, out, p.at)
+    print_closing(output, s, why, sent, turn, out, p.at)
 }
 
 // Prints the listing of a recording, with reasons if `why` asks for them, by way of the lent buffer, and answers how it ended.
-pub fn print(s: &[u8], why: bool, out: &mut [u8]) -> Ending
+pub fn print<W: Write>(output: &mut W, s: &[u8], why: bool, out: &mut [u8]) -> Ending
     requires { Buffer (length out.old) }
     ensures { Told why s.now result }
 {
@@ -171,9 +202,10 @@ pub fn print(s: &[u8], why: bool, out: &mut [u8]) -> Ending
         Answer::Accepted { rows, first, width } => {
             let mut board = [0u32; 64];
             let run = rerun::begin(st, rows, first, width, &mut board);
-            print_rows(s, run, &mut board, out, at, why)
+            print_rows(output, s, run, &mut board, out, at, why)
         }
         Answer::Refused { number, place: _ } => write_rest(
+            output,
             s,
             why,
             sending::nothing(),

@@ -3,11 +3,15 @@
 ghost use Rattle.std.specs.Prelude.{◌≡◌, true, ◌+◌, ◌^◌, ◌<◌, length};
 ghost use Rattle.printing.specs.Sent.{NextPart};
 
-// What was handed over: whether all of it was written, and how many bytes of the listing have gone.
+use std::io::{Error, ErrorKind, Write};
+
+// What was handed over: whether all of it was written, and how many bytes of the listing have gone; and the error of the write that failed,
+// which says nothing as long as all was written.
 #[derive(Clone, Copy)]
 pub struct Sent {
     good: bool,
     gone: usize,
+    error: Error,
 }
 
 // Nothing yet.
@@ -17,6 +21,7 @@ pub fn nothing() -> Sent
     Sent {
         good: true,
         gone: 0,
+        error: Error::from(ErrorKind::Other),
     }
 }
 
@@ -27,15 +32,30 @@ pub fn written(sent: Sent) -> bool
     sent.good
 }
 
-// Writes the next part of the listing of `s`, with reasons or without, to standard output. After a write that failed there is no next part.
-pub fn flush(s: &[u8], why: bool, sent: Sent, part: &[u8]) -> Sent
+// The error of the write that failed.
+pub fn error(sent: Sent) -> Error
+    ensures { result ≡ sent.error }
+{
+    sent.error
+}
+
+// Writes the next part of the listing of `s`, with reasons or without. After a write that failed there is no next part.
+pub fn flush<W: Write>(output: &mut W, s: &[u8], why: bool, sent: Sent, part: &[u8]) -> Sent
     requires good_value { (sent.good ≡ true) × NextPart why s.now sent.gone part.now }
     requires part_bound { sent.gone + length part.now < 2 ^ 64 }
     ensures { result.gone ≡ sent.gone + length part.now }
 {
-    let good = io::write_all(1, part);
-    Sent {
-        good: good,
-        gone: sent.gone + part.len(),
+    let gone = sent.gone + part.len();
+    match output.write_all(part) {
+        Ok(()) => Sent {
+            good: true,
+            gone: gone,
+            error: sent.error,
+        },
+        Err(error) => Sent {
+            good: false,
+            gone: gone,
+            error: error,
+        },
     }
 }

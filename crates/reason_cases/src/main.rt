@@ -7,6 +7,7 @@
 ghost use Rattle.std.specs.Prelude.{◌≤◌, length};
 
 use queries::Reply;
+use std::io::Write;
 
 // Where the state, the words and the effect number stand behind the settings of a case, and its bytes.
 const STATE: usize = 101;
@@ -34,37 +35,39 @@ fn ask(case: &[u8; CASE_BYTES]) -> Reply {
 }
 
 // Writes the line of an answer; false if nothing can be written.
-fn print(number: u8, place: usize, reason: &[u8]) -> bool
+fn print<W: Write>(output: &mut W, number: u8, place: usize, reason: &[u8]) -> bool
     requires { length reason.now ≤ 8 }
 {
     let mut head = [0u8; REFUSAL_BYTES];
     cases::put_refusal(&mut head, number, place);
     let mut line = [0u8; LINE_BYTES];
-    cases::print_line(&head, reason, b'\n', &mut line)
+    cases::print_line(output, &head, reason, b'\n', &mut line)
 }
 
 // Answers a case; false if nothing can be written.
-fn answer(case: &[u8; CASE_BYTES]) -> bool {
+fn answer<W: Write>(output: &mut W, case: &[u8; CASE_BYTES]) -> bool {
     let reply = ask(case);
     match reply {
         Reply::Because(reason) => {
             let mut bytes = [0u8; REASON_BYTES];
             reason_bytes::put_numbers(&mut bytes, 0, reason);
-            print(0, 0, &bytes)
+            print(output, 0, 0, &bytes)
         }
-        Reply::Refused { number, place } => print(number, place, b""),
+        Reply::Refused { number, place } => print(output, number, place, b""),
     }
 }
 
 // Answers at most a million cases, so that the program ends.
-fn main() {
+fn main(rt: HostRuntime) {
+    let mut input = rt.stdin();
+    let mut output = rt.stdout();
     let mut case = [0u8; CASE_BYTES];
     let mut done: usize = 0;
     while done < 1000000 {
-        if !streams::next_case(&mut case) {
+        if !streams::next_case(&mut input, &mut output, &mut case) {
             return;
         }
-        if !answer(&case) {
+        if !answer(&mut output, &case) {
             return;
         }
         done += 1;

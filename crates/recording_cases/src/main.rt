@@ -7,20 +7,21 @@ ghost use Rattle.std.specs.Prelude.{◌≡◌, ◌+◌, ◌≤◌, length};
 
 use recording::{Answer, Step};
 use settings::{Row, Settings, Words};
+use std::io::Write;
 use writing::Written;
 
 // Writes the hexadecimal digits of some bytes.
-fn print_hex(s: &[u8]) -> bool
+fn print_hex<W: Write>(output: &mut W, s: &[u8]) -> bool
     requires { length s.now ≤ 160 }
 {
     let mut line = [0u8; 320];
     cases::put_hex(s, &mut line, 0);
     let n = 2 * s.len();
-    io::write_all(1, &line[0..n])
+    output.write_all(&line[0..n]).is_ok()
 }
 
-fn print_end() -> bool {
-    io::write_all(1, b"\n")
+fn print_end<W: Write>(output: &mut W) -> bool {
+    output.write_all(b"\n").is_ok()
 }
 
 // ---- the reader's answer: 116 bytes
@@ -60,7 +61,8 @@ fn put_numbers(out: &mut [u8], number: u8, place: usize, rows: u16, first: usize
     bits::put32(out, 112, (width % 4294967296) as u32);
 }
 
-fn print_head(
+fn print_head<W: Write>(
+    output: &mut W,
     number: u8,
     place: usize,
     st: Settings,
@@ -71,8 +73,8 @@ fn print_head(
     let mut out = [0u8; 116];
     put_numbers(&mut out, number, place, rows, first, width);
     put_settings(&mut out, st);
-    print_hex(&out);
-    print_end()
+    print_hex(output, &out);
+    print_end(output)
 }
 
 // ---- a row: its place, its hold and its words, 28 bytes
@@ -114,30 +116,30 @@ fn put_row(out: &mut [u8], at: usize, row: Row)
 }
 
 // Prints the row at a place, and answers the place after it.
-fn print_row(s: &[u8], at: usize) -> usize {
+fn print_row<W: Write>(output: &mut W, s: &[u8], at: usize) -> usize {
     let step = recording::row_step(s, at);
     let Step::Row(row, next) = step else {
         return at;
     };
     let mut out = [0u8; 28];
     put_row(&mut out, at, row);
-    print_hex(&out);
-    print_end();
+    print_hex(output, &out);
+    print_end(output);
     next
 }
 
-fn print_rows(s: &[u8], first: usize, rows: u16) {
+fn print_rows<W: Write>(output: &mut W, s: &[u8], first: usize, rows: u16) {
     let mut at = first;
     let mut left = rows;
     while 0 < left {
-        at = print_row(s, at);
+        at = print_row(output, s, at);
         left -= 1;
     }
 }
 
 // ---- the bytes written back
 
-fn print_piece(w: Written, out: &[u8]) -> bool
+fn print_piece<W: Write>(output: &mut W, w: Written, out: &[u8]) -> bool
     requires { length out.now ≡ 160 }
 {
     let Written::Bytes(n) = w else {
@@ -146,19 +148,19 @@ fn print_piece(w: Written, out: &[u8]) -> bool
     if 160 < n {
         return false;
     }
-    print_hex(&out[0..n])
+    print_hex(output, &out[0..n])
 }
 
-fn print_opening(st: Settings, rows: u16) -> bool {
+fn print_opening<W: Write>(output: &mut W, st: Settings, rows: u16) -> bool {
     let mut out = [0u8; 160];
     let w = writing::write_opening(st, rows, &mut out);
-    print_piece(w, &out)
+    print_piece(output, w, &out)
 }
 
-fn print_written_row(st: Settings, row: Row) -> bool {
+fn print_written_row<W: Write>(output: &mut W, st: Settings, row: Row) -> bool {
     let mut out = [0u8; 160];
     let w = writing::write_row(st, row, &mut out);
-    print_piece(w, &out)
+    print_piece(output, w, &out)
 }
 
 // How many rows are found by a walk. A walk reads the file at each step, so later rows are found by their place.
@@ -174,24 +176,30 @@ fn row_of(s: &[u8], i: u16, at: usize) -> Step {
 }
 
 // Prints row i as the writer gives it, and answers the place after it; prints nothing where there is no row i.
-fn print_row_back(st: Settings, s: &[u8], i: u16, at: usize) -> usize {
+fn print_row_back<W: Write>(output: &mut W, st: Settings, s: &[u8], i: u16, at: usize) -> usize {
     let step = row_of(s, i, at);
     let Step::Row(row, next) = step else {
         return at;
     };
-    print_written_row(st, row);
+    print_written_row(output, st, row);
     next
 }
 
 // Prints all rows as the writer gives them, and asks for one row past the last, which must print nothing.
-fn print_rows_back(st: Settings, s: &[u8], first: usize, rows: u16) -> usize {
+fn print_rows_back<W: Write>(
+    output: &mut W,
+    st: Settings,
+    s: &[u8],
+    first: usize,
+    rows: u16,
+) -> usize {
     let mut at = first;
     let mut i = 0;
     while i < rows {
-        at = print_row_back(st, s, i, at);
+        at = print_row_back(output, st, s, i, at);
         i += 1;
     }
-    print_row_back(st, s, rows, at)
+    print_row_back(output, st, s, rows, at)
 }
 
 // ---- a whole replay: seven numbers of 4 bytes
@@ -207,7 +215,7 @@ fn put_replayed(out: &mut [u8], numbers: [u32; 7])
     }
 }
 
-fn print_replay(s: &[u8]) -> bool {
+fn print_replay<W: Write>(output: &mut W, s: &[u8]) -> bool {
     let r = rerun::replay(s);
     let numbers = [
         r.number as u32,
@@ -220,42 +228,44 @@ fn print_replay(s: &[u8]) -> bool {
     ];
     let mut out = [0u8; 28];
     put_replayed(&mut out, numbers);
-    print_hex(&out);
-    print_end()
+    print_hex(output, &out);
+    print_end(output)
 }
 
 // ---- one recording
 
 // Prints what answers a recording; false if nothing can be written.
-fn answer(s: &[u8]) -> bool {
+fn answer<W: Write>(output: &mut W, s: &[u8]) -> bool {
     exactness::each_is_a_byte(s);
     let reading = recording::read(s);
     let st = reading.settings;
     let a = reading.answer;
     match a {
         Answer::Accepted { rows, first, width } => {
-            print_head(0, 0, st, rows, first, width);
-            print_rows(s, first, rows);
-            print_opening(st, rows);
-            print_rows_back(st, s, first, rows);
-            print_end()
+            print_head(output, 0, 0, st, rows, first, width);
+            print_rows(output, s, first, rows);
+            print_opening(output, st, rows);
+            print_rows_back(output, st, s, first, rows);
+            print_end(output)
         }
-        Answer::Refused { number, place } => print_head(number, place, st, 0, 0, 0),
+        Answer::Refused { number, place } => print_head(output, number, place, st, 0, 0, 0),
     };
-    print_replay(s)
+    print_replay(output, s)
 }
 
 // Answers at most a million recordings, so that the program ends. A stream has none above 49,262 bytes.
-fn main() {
+fn main(rt: HostRuntime) {
+    let mut input = rt.stdin();
+    let mut output = rt.stdout();
     let mut file = [0u8; 49262];
     let mut done: usize = 0;
     while done < 1000000 {
-        let next = streams::next_sized(&mut file);
+        let next = streams::next_sized(&mut input, &mut output, &mut file);
         let n = next.size;
         if !next.more {
             return;
         }
-        if !answer(&file[0..n]) {
+        if !answer(&mut output, &file[0..n]) {
             return;
         }
         done += 1;

@@ -9,8 +9,10 @@ ghost use Rattle.std.specs.Prelude.{◌≡◌, ◌+◌, ◌≤◌, length};
 ghost use Rattle.reports.specs.Reports.{most_name, InputRoom};
 ghost use Rattle.listings.specs.Buffers.{Printing};
 
-use inputs::{ASKED, DONE, FIRST_NAME, UNREAD, UNWRITTEN};
+use inputs::{ASKED, DONE, Errors, FIRST_NAME, UNREAD, UNWRITTEN};
 use recording::Answer;
+use std::env::Env;
+use std::rt::Files;
 
 // What is asked of each recording.
 #[derive(Clone, Copy)]
@@ -30,14 +32,14 @@ const ONE_NAME: usize = 3;
 // ---- one recording
 
 // A listing under a heading with its name. Without the heading nobody could tell whose listing it is, so it then is not written.
-fn list_named(name: &[u8], s: &[u8], out: &mut [u8]) -> u8
+fn list_named<R: Print + Errors>(rt: &R, name: &[u8], s: &[u8], out: &mut [u8]) -> u8
     requires { (length name.now ≤ most_name) × Printing out.old }
 {
-    let status = listings::head(&PROGRAM, name, out);
+    let status = listings::head(rt, &PROGRAM, name, out);
     if status != DONE {
         return status;
     }
-    listings::list(&PROGRAM, s, false, out)
+    listings::list(rt, &PROGRAM, s, false, out)
 }
 
 fn number_of(answer: Answer) -> u8 {
@@ -51,65 +53,80 @@ fn number_of(answer: Answer) -> u8 {
     }
 }
 
-fn check(name: &[u8], s: &[u8], out: &mut [u8]) -> u8
+fn check<R: Print + Errors>(rt: &R, name: &[u8], s: &[u8], out: &mut [u8]) -> u8
     requires { (length name.now ≤ most_name) × Printing out.old }
 {
     let reading = recording::read(s);
     let answer = reading.answer;
     let size = reports::put_check(out, name, answer);
-    listings::write_front(&PROGRAM, out, size, number_of(answer))
+    listings::write_front(rt, &PROGRAM, out, size, number_of(answer))
 }
 
-fn summarize(name: &[u8], s: &[u8], out: &mut [u8]) -> u8
+fn summarize<R: Print + Errors>(rt: &R, name: &[u8], s: &[u8], out: &mut [u8]) -> u8
     requires { (length name.now ≤ most_name) × Printing out.old }
 {
     let replayed = rerun::replay(s);
     let size = summaries::put_summary(out, name, replayed);
-    listings::write_front(&PROGRAM, out, size, replayed.number)
+    listings::write_front(rt, &PROGRAM, out, size, replayed.number)
 }
 
-fn explain(name: &[u8], s: &[u8], out: &mut [u8]) -> u8
+fn explain<R: Print + Errors>(rt: &R, name: &[u8], s: &[u8], out: &mut [u8]) -> u8
     requires { (length name.now ≤ most_name) × Printing out.old }
 {
     let explained = findings::explain(s);
     let size = reports::put_explained(out, name, explained);
-    listings::write_front(&PROGRAM, out, size, explained.number)
+    listings::write_front(rt, &PROGRAM, out, size, explained.number)
 }
 
 // Answers what is asked of a recording. If several are named, a listing has its name above it.
-fn answer(asked: Asked, several: bool, name: &[u8], s: &[u8], out: &mut [u8]) -> u8
+fn answer<R: Print + Errors>(
+    rt: &R,
+    asked: Asked,
+    several: bool,
+    name: &[u8],
+    s: &[u8],
+    out: &mut [u8],
+) -> u8
     requires { (length name.now ≤ most_name) × Printing out.old }
 {
     match asked {
         Asked::Listing => {
             if several {
-                list_named(name, s, out)
+                list_named(rt, name, s, out)
             } else {
-                listings::list(&PROGRAM, s, false, out)
+                listings::list(rt, &PROGRAM, s, false, out)
             }
         }
-        Asked::Check => check(name, s, out),
-        Asked::Summary => summarize(name, s, out),
-        Asked::Explanation => explain(name, s, out),
+        Asked::Check => check(rt, name, s, out),
+        Asked::Summary => summarize(rt, name, s, out),
+        Asked::Explanation => explain(rt, name, s, out),
     }
 }
 
 // ---- named recordings
 
 // Answers the recording of a name. If it cannot be read, `inputs` has said so, and it has no line and no heading.
-fn answer_named(asked: Asked, several: bool, name: &[u8], file: &mut [u8], out: &mut [u8]) -> u8
+fn answer_named<R: Files + Input + Print + Errors>(
+    rt: &R,
+    asked: Asked,
+    several: bool,
+    name: &[u8],
+    file: &mut [u8],
+    out: &mut [u8],
+) -> u8
     requires { InputRoom name.now file.old × Printing out.old }
 {
-    let input = inputs::read_named(&PROGRAM, name, file);
+    let input = inputs::read_named(rt, &PROGRAM, name, file);
     if !input.good {
         return UNREAD;
     }
     let size = input.size;
-    answer(asked, several, name, &file[0..size], out)
+    answer(rt, asked, several, name, &file[0..size], out)
 }
 
 // Answers the recording that argument i names.
-fn answer_argument(
+fn answer_argument<R: Files + Env + Input + Print + Errors>(
+    rt: &R,
     asked: Asked,
     several: bool,
     i: usize,
@@ -119,23 +136,29 @@ fn answer_argument(
 ) -> u8
     requires { InputRoom name.old file.old × Printing out.old }
 {
-    let argument = inputs::argument(&PROGRAM, i, name);
+    let argument = inputs::argument(rt, &PROGRAM, i, name);
     if !argument.good {
         return UNREAD;
     }
     let size = argument.size;
-    answer_named(asked, several, &name[0..size], file, out)
+    answer_named(rt, asked, several, &name[0..size], file, out)
 }
 
 // Answers all recordings that are named by arguments; a failed output ends the run.
-fn answer_all(asked: Asked, name: &mut [u8], file: &mut [u8], out: &mut [u8]) -> u8
+fn answer_all<R: Files + Env + Input + Print + Errors>(
+    rt: &R,
+    asked: Asked,
+    name: &mut [u8],
+    file: &mut [u8],
+    out: &mut [u8],
+) -> u8
     requires { InputRoom name.old file.old × Printing out.old }
 {
-    let count = os::arg_count();
+    let count = inputs::argument_count(rt);
     let mut gravest = DONE;
     let mut i: usize = FIRST_NAME;
     while i < count {
-        let status = answer_argument(asked, ONE_NAME < count, i, name, file, out);
+        let status = answer_argument(rt, asked, ONE_NAME < count, i, name, file, out);
         if status == UNWRITTEN {
             return status;
         }
@@ -161,7 +184,7 @@ fn asked_by(word: &[u8]) -> Asked {
 }
 
 // The first line of summaries, which names the fields; other answers have none.
-fn begin(asked: Asked, out: &mut [u8]) -> u8
+fn begin<R: Print + Errors>(rt: &R, asked: Asked, out: &mut [u8]) -> u8
     requires { Printing out.old }
 {
     match asked {
@@ -169,46 +192,57 @@ fn begin(asked: Asked, out: &mut [u8]) -> u8
         Asked::Check => DONE,
         Asked::Summary => {
             let size = summaries::put_summary_header(out);
-            listings::write_front(&PROGRAM, out, size, 0)
+            listings::write_front(rt, &PROGRAM, out, size, 0)
         }
         Asked::Explanation => DONE,
     }
 }
 
 // Answers all named recordings, or standard input if none is named.
-fn answer_each(asked: Asked, name: &mut [u8], file: &mut [u8], out: &mut [u8]) -> u8
+fn answer_each<R: Files + Env + Input + Print + Errors>(
+    rt: &R,
+    asked: Asked,
+    name: &mut [u8],
+    file: &mut [u8],
+    out: &mut [u8],
+) -> u8
     requires { InputRoom name.old file.old × Printing out.old }
 {
-    let status = begin(asked, out);
+    let status = begin(rt, asked, out);
     if status != DONE {
         return status;
     }
-    if os::arg_count() <= FIRST_NAME {
-        return answer_named(asked, false, b"-", file, out);
+    if inputs::argument_count(rt) <= FIRST_NAME {
+        return answer_named(rt, asked, false, b"-", file, out);
     }
-    answer_all(asked, name, file, out)
+    answer_all(rt, asked, name, file, out)
 }
 
 // What the first argument asks. If there is none, or it is longer than the buffer, a listing is asked.
-fn asked_first(name: &mut [u8]) -> Asked {
-    let size = os::arg(ASKED, name);
+fn asked_first<R: Env>(rt: &R, name: &mut [u8]) -> Asked {
+    let size = inputs::short_argument(rt, ASKED, name);
     asked_by(&name[0..size])
 }
 
 // Answers what is asked, and tells the status. Without an argument nobody reads it, so it is not told.
-fn run(name: &mut [u8], file: &mut [u8], out: &mut [u8])
+fn run<R: Files + Env + Input + Print + Errors>(
+    rt: &R,
+    name: &mut [u8],
+    file: &mut [u8],
+    out: &mut [u8],
+)
     requires { InputRoom name.old file.old × Printing out.old }
 {
-    let asked = asked_first(name);
-    let status = answer_each(asked, name, file, out);
-    if ASKED < os::arg_count() {
-        inputs::tell(status);
+    let asked = asked_first(rt, name);
+    let status = answer_each(rt, asked, name, file, out);
+    if ASKED < inputs::argument_count(rt) {
+        inputs::tell(rt, status);
     }
 }
 
-fn main() {
-    let mut name = io::buffer();
+fn main(rt: HostRuntime) {
+    let mut name = [0u8; 4096];
     let mut file = [0u8; 49259];
-    let mut out = io::large_buffer();
-    run(&mut name, &mut file, &mut out);
+    let mut out = [0u8; 65536];
+    run(&rt, &mut name, &mut file, &mut out);
 }

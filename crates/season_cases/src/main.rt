@@ -7,6 +7,7 @@ ghost use Rattle.std.specs.Prelude.{◌≤◌, length};
 ghost use Rattle.season_bytes.specs.Bytes.{report_length};
 
 use season::Added;
+use std::io::Write;
 
 // The bytes of a report.
 const REPORT_BYTES: usize = 904;
@@ -34,39 +35,41 @@ fn answer_bytes(a: Added) -> [u8; ANSWER_BYTES] {
 }
 
 // Writes the line of an answer; false if nothing can be written.
-fn print(a: Added) -> bool {
+fn print<W: Write>(output: &mut W, a: Added) -> bool {
     let mut line = [b'\n'; DIGITS + 1];
     cases::put_hex(&answer_bytes(a), &mut line, 0);
-    io::write_all(1, &line)
+    output.write_all(&line).is_ok()
 }
 
 // Adds the recording that stands behind a report to it, and writes the answer.
-fn answer_whole(case: &[u8]) -> bool
+fn answer_whole<W: Write>(output: &mut W, case: &[u8]) -> bool
     requires { report_length ≤ length case.now }
 {
     let before = season_bytes::report_at(case);
-    print(before.add(&case[REPORT_BYTES..]))
+    print(output, before.add(&case[REPORT_BYTES..]))
 }
 
 // Answers a case; false if it is too short for a report, or nothing can be written.
-fn answer(case: &[u8]) -> bool {
+fn answer<W: Write>(output: &mut W, case: &[u8]) -> bool {
     if case.len() < REPORT_BYTES {
         return false;
     }
-    answer_whole(case)
+    answer_whole(output, case)
 }
 
 // Answers at most a million cases, so that the program ends. A stream has none above 50,166 bytes.
-fn main() {
+fn main(rt: HostRuntime) {
+    let mut input = rt.stdin();
+    let mut output = rt.stdout();
     let mut case = [0u8; 50166];
     let mut done: usize = 0;
     while done < 1000000 {
-        let next = streams::next_sized(&mut case);
+        let next = streams::next_sized(&mut input, &mut output, &mut case);
         let n = next.size;
         if !next.more {
             return;
         }
-        if !answer(&case[0..n]) {
+        if !answer(&mut output, &case[0..n]) {
             return;
         }
         done += 1;

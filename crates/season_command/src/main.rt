@@ -10,9 +10,11 @@ ghost use Rattle.reports.specs.Reports.{most_report, InputRoom, Roomy};
 ghost use Rattle.season_table.specs.Files.{Over};
 ghost use Rattle.season_command.specs.Growth.{Begun, Countable, Grown};
 
-use inputs::{ASKED, DONE, FIRST_NAME, UNREAD};
+use inputs::{ASKED, DONE, Errors, FIRST_NAME, UNREAD};
 use recording::Answer;
 use season_table::Table;
+use std::env::Env;
+use std::rt::Files;
 
 // The table over the files so far, and how the gravest of all that were named ended.
 #[derive(Clone, Copy)]
@@ -27,7 +29,7 @@ const PROGRAM: [u8; 8] = *b"season: ";
 // ---- one recording
 
 // How adding a recording ended. If it is refused, that is said with its name.
-fn say_refusal(name: &[u8], number: u8, place: usize, out: &mut [u8]) -> u8
+fn say_refusal<R: Errors>(rt: &R, name: &[u8], number: u8, place: usize, out: &mut [u8]) -> u8
     requires { Roomy name.now out.old }
 {
     if number == 0 {
@@ -38,18 +40,18 @@ fn say_refusal(name: &[u8], number: u8, place: usize, out: &mut [u8]) -> u8
         place: place,
     };
     let size = reports::put_check(out, name, answer);
-    inputs::say_refused(&out[0..size])
+    inputs::say_refused(rt, &out[0..size])
 }
 
 // Adds a recording.
-fn add(before: Adding, name: &[u8], s: &[u8], out: &mut [u8]) -> Adding
+fn add<R: Errors>(rt: &R, before: Adding, name: &[u8], s: &[u8], out: &mut [u8]) -> Adding
     requires { Roomy name.now out.old × Countable before.table }
     ensures { Grown before.table result.table }
 {
     let table = before.table;
     let report = table.report;
     let added = report.add(s);
-    let status = say_refusal(name, added.number, added.place, out);
+    let status = say_refusal(rt, name, added.number, added.place, out);
     Adding {
         table: table.with_file(added),
         gravest: inputs::graver(before.gravest, status),
@@ -71,20 +73,27 @@ fn unread(before: Adding) -> Adding
 // ---- named recordings
 
 // Adds the recording of a name.
-fn add_named(before: Adding, name: &[u8], file: &mut [u8], out: &mut [u8]) -> Adding
+fn add_named<R: Files + Input + Errors>(
+    rt: &R,
+    before: Adding,
+    name: &[u8],
+    file: &mut [u8],
+    out: &mut [u8],
+) -> Adding
     requires { InputRoom name.now file.old × (most_report ≤ length out.old) × Countable before.table }
     ensures { Grown before.table result.table }
 {
-    let input = inputs::read_named(&PROGRAM, name, file);
+    let input = inputs::read_named(rt, &PROGRAM, name, file);
     if !input.good {
         return unread(before);
     }
     let size = input.size;
-    add(before, name, &file[0..size], out)
+    add(rt, before, name, &file[0..size], out)
 }
 
 // Adds the recording that argument i names.
-fn add_argument(
+fn add_argument<R: Files + Env + Input + Errors>(
+    rt: &R,
     before: Adding,
     i: usize,
     name: &mut [u8],
@@ -94,12 +103,12 @@ fn add_argument(
     requires { InputRoom name.old file.old × (most_report ≤ length out.old) × Countable before.table }
     ensures { Grown before.table result.table }
 {
-    let argument = inputs::argument(&PROGRAM, i, name);
+    let argument = inputs::argument(rt, &PROGRAM, i, name);
     if !argument.good {
         return unread(before);
     }
     let size = argument.size;
-    add_named(before, &name[0..size], file, out)
+    add_named(rt, before, &name[0..size], file, out)
 }
 
 // No file yet.
@@ -114,15 +123,20 @@ fn nothing() -> Adding
 }
 
 // Adds all recordings that are named by arguments.
-fn add_all(name: &mut [u8], file: &mut [u8], out: &mut [u8]) -> Adding
+fn add_all<R: Files + Env + Input + Errors>(
+    rt: &R,
+    name: &mut [u8],
+    file: &mut [u8],
+    out: &mut [u8],
+) -> Adding
     requires { InputRoom name.old file.old × (most_report ≤ length out.old) }
     ensures { Over result.table }
 {
-    let count = os::arg_count();
+    let count = inputs::argument_count(rt);
     let mut adding = nothing();
     let mut i: usize = FIRST_NAME;
     while i < count {
-        let next = add_argument(adding, i, name, file, out);
+        let next = add_argument(rt, adding, i, name, file, out);
         adding = next;
         i += 1;
     }
@@ -130,42 +144,52 @@ fn add_all(name: &mut [u8], file: &mut [u8], out: &mut [u8]) -> Adding
 }
 
 // Adds all named recordings, or standard input if none is named.
-fn add_each(name: &mut [u8], file: &mut [u8], out: &mut [u8]) -> Adding
+fn add_each<R: Files + Env + Input + Errors>(
+    rt: &R,
+    name: &mut [u8],
+    file: &mut [u8],
+    out: &mut [u8],
+) -> Adding
     requires { InputRoom name.old file.old × (most_report ≤ length out.old) }
     ensures { Over result.table }
 {
-    if os::arg_count() <= FIRST_NAME {
-        return add_named(nothing(), b"-", file, out);
+    if inputs::argument_count(rt) <= FIRST_NAME {
+        return add_named(rt, nothing(), b"-", file, out);
     }
-    add_all(name, file, out)
+    add_all(rt, name, file, out)
 }
 
 // ---- the table
 
 // Prints the table, and answers how the whole run ended.
-fn print(adding: Adding, out: &mut [u8]) -> u8
+fn print<R: Print + Errors>(rt: &R, adding: Adding, out: &mut [u8]) -> u8
     requires { Over adding.table × (most_report ≤ length out.old) }
 {
     let table = adding.table;
     let size = season_table::put_table(out, table);
-    let status = inputs::write(&PROGRAM, &out[0..size]);
+    let status = inputs::write(rt, &PROGRAM, &out[0..size]);
     inputs::graver(status, adding.gravest)
 }
 
 // Adds what is named, prints the table, and tells the status. Without an argument nobody reads it, so it is not told.
-fn run(name: &mut [u8], file: &mut [u8], out: &mut [u8])
+fn run<R: Files + Env + Input + Print + Errors>(
+    rt: &R,
+    name: &mut [u8],
+    file: &mut [u8],
+    out: &mut [u8],
+)
     requires { InputRoom name.old file.old × (most_report ≤ length out.old) }
 {
-    let adding = add_each(name, file, out);
-    let status = print(adding, out);
-    if ASKED < os::arg_count() {
-        inputs::tell(status);
+    let adding = add_each(rt, name, file, out);
+    let status = print(rt, adding, out);
+    if ASKED < inputs::argument_count(rt) {
+        inputs::tell(rt, status);
     }
 }
 
-fn main() {
-    let mut name = io::buffer();
+fn main(rt: HostRuntime) {
+    let mut name = [0u8; 4096];
     let mut file = [0u8; 49259];
-    let mut out = io::large_buffer();
-    run(&mut name, &mut file, &mut out);
+    let mut out = [0u8; 65536];
+    run(&rt, &mut name, &mut file, &mut out);
 }

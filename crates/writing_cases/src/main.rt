@@ -6,6 +6,7 @@
 ghost use Rattle.std.specs.Prelude.{◌≤◌, length};
 
 use settings::Row;
+use std::io::Write;
 use writing::Written;
 
 // The refusal number, place and length of a written piece: 7 bytes.
@@ -17,24 +18,24 @@ fn head_of(w: Written) -> [u8; 7] {
 }
 
 // Writes the digits of a piece's answer and of its buffer, and the character after them.
-fn print(w: Written, buf: &[u8], last: u8) -> bool
+fn print<W: Write>(output: &mut W, w: Written, buf: &[u8], last: u8) -> bool
     requires { length buf.now ≤ 160 }
 {
     let mut line = [0u8; 1076];
-    cases::print_line(&head_of(w), buf, last, &mut line)
+    cases::print_line(output, &head_of(w), buf, last, &mut line)
 }
 
-fn print_opening(case: &[u8; 129], buf: &mut [u8]) -> bool
+fn print_opening<W: Write>(output: &mut W, case: &[u8; 129], buf: &mut [u8]) -> bool
     requires { length buf.old ≤ 160 }
 {
     let st = cases::settings_at(case, 0);
     let rows = bits::get16(case, 101);
     cases::fill(buf);
     let w = writing::write_opening(st, rows, buf);
-    print(w, buf, b' ')
+    print(output, w, buf, b' ')
 }
 
-fn print_row(case: &[u8; 129], buf: &mut [u8]) -> bool
+fn print_row<W: Write>(output: &mut W, case: &[u8; 129], buf: &mut [u8]) -> bool
     requires { length buf.old ≤ 160 }
 {
     let st = cases::settings_at(case, 0);
@@ -42,33 +43,35 @@ fn print_row(case: &[u8; 129], buf: &mut [u8]) -> bool
     let words = layout::words_at(case, 107);
     cases::fill(buf);
     let w = writing::write_row(st, Row { hold, words }, buf);
-    print(w, buf, b'\n')
+    print(output, w, buf, b'\n')
 }
 
 // Answers a case in a buffer of exactly its room.
-fn answer_in(case: &[u8; 129], buf: &mut [u8]) -> bool
+fn answer_in<W: Write>(output: &mut W, case: &[u8; 129], buf: &mut [u8]) -> bool
     requires { length buf.old ≤ 160 }
 {
-    print_opening(case, buf);
-    print_row(case, buf)
+    print_opening(output, case, buf);
+    print_row(output, case, buf)
 }
 
 // Writes the line that answers a case; false if nothing can be written.
-fn answer(case: &[u8; 129]) -> bool {
+fn answer<W: Write>(output: &mut W, case: &[u8; 129]) -> bool {
     let mut space = [0u8; 160];
     let room = cases::room_at(case, 127, 160);
-    answer_in(case, &mut space[0..room])
+    answer_in(output, case, &mut space[0..room])
 }
 
 // Answers at most a million cases, so that the program ends.
-fn main() {
+fn main(rt: HostRuntime) {
+    let mut input = rt.stdin();
+    let mut output = rt.stdout();
     let mut case = [0u8; 129];
     let mut done: usize = 0;
     while done < 1000000 {
-        if !streams::next_case(&mut case) {
+        if !streams::next_case(&mut input, &mut output, &mut case) {
             return;
         }
-        if !answer(&case) {
+        if !answer(&mut output, &case) {
             return;
         }
         done += 1;

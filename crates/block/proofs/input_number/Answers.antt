@@ -4,7 +4,6 @@ use Rattle.settings.specs.declared.Known.{Known}
 use Rattle.settings.specs.Right.{row_number}
 use Rattle.settings.proofs.Refusals.{or_else_first, or_else_next}
 use Rattle.block.specs.Scan.{input_number}
-use borrow.Author.Rules.{rules}
 use Rattle.block.proofs.input_number.Goals as goal
 
 pub returns-then-settings-ne0 : goal.returns-then-settings-ne0

@@ -1,6 +1,5 @@
 -- `block::load` meets its contract: the array holds what the settings and the slots give.
 use mathlib.Core.Path.{ap, ◌∙◌}
-use borrow.Author.Rules.{rules}
 use Rattle.cells.specs.Loaded.{loaded_into}
 use Rattle.plans.specs.Plans.{wired_into}
 use Rattle.block.proofs.Loads.{loaded}

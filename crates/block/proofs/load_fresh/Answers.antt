@@ -1,6 +1,5 @@
 -- `block::load_fresh` meets its contract: the array holds what the settings give, and no more.
 use mathlib.Core.Path.{ap, ◌∙◌}
-use borrow.Author.Rules.{rules}
 use Rattle.plans.specs.Plans.{wired_into}
 use Rattle.block.proofs.Loads.{loaded_fresh}
 use Rattle.block.proofs.load_fresh.Goals as goal

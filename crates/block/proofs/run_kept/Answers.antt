@@ -1,5 +1,4 @@
 -- `block::run_kept` meets its contract: the stroke is the run of single scans from the state that the words show.
-use borrow.Author.Rules.{rules}
 use Rattle.block.proofs.Runs.{strokes, kept}
 use Rattle.block.proofs.run_kept.Goals as goal
 

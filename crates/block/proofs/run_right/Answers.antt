@@ -1,19 +1,13 @@
 -- `block::run_right` meets its contract: the stroke is the run of single scans from the state, and its records are those of the definitions.
-use mathlib.Core.List.{List}
 use mathlib.Core.Path.{◌≡◌, refl, ap, ◌∙◌}
-use Prim.Native.Nat.{ℕ, ◌≤◌}
 use borrow.Author.Rules.{rules}
 use lib.ListN.{length}
 use lib.Seq.{sets}
 use Rattle.bits.proofs.Lists.{length_mapped}
 use Rattle.effects.specs.Records.{bytes}
-use Rattle.settings.specs.declared.Row.{Row}
-use Rattle.settings.specs.declared.Settings.{Settings}
 use Rattle.wiring.proofs.Held.{few as few_planned}
-use Rattle.wiring.specs.Wiring.{Ran as Stroke-ran}
 use Rattle.block.specs.declared.State.{State}
 use Rattle.block.specs.Held.{run, granted_held}
-use Rattle.block.specs.Run.{Loaded, kept_state, Runs}
 use Rattle.block.proofs.Answers.{few}
 use Rattle.block.proofs.Loads.{shows_state, runs_loaded}
 use Rattle.block.proofs.Runs.{strokes, laid, narrow_after, answers}

@@ -1,6 +1,5 @@
 -- `block::scans_number` meets its contract, from what its callees ensure and the tests on the way.
 use borrow.Author.Tests.{le-leb, lt-leb}
-use borrow.Author.Rules.{rules}
 use Rattle.block.proofs.scans_number.Goals as goal
 
 pub returns-then-done-hold : goal.returns-then-done-hold

@@ -1,6 +1,5 @@
 -- `block::state_number` meets its contract, from what its callees ensure and the tests on the way.
 use Rattle.block.specs.State.{state_number}
-use borrow.Author.Rules.{rules}
 use Rattle.block.proofs.state_number.Goals as goal
 
 pub returns-then-x-slots_ok : goal.returns-then-x-slots_ok

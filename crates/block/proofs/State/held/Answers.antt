@@ -3,12 +3,11 @@
 use mathlib.Core.Path.{◌≡◌, ap, sym, ◌∙◌}
 use Prim.Native.Nat.{ℕ, ◌*◌, ◌≤◌}
 use native.Mathlib.Omega.{arith}
-use borrow.Author.Rules.{rules}
 use lib.ListN.{length, replicate}
 use lib.Seq.{length-sets}
 use Rattle.effects.specs.Records.{record_length, most_row_bytes}
 use Rattle.block.specs.declared.Held.{Held}
-use Rattle.block.specs.Scan.{input_number, at_front}
+use Rattle.block.specs.Scan.{at_front}
 use Rattle.block.specs.Held.{run, granted_held, refused_held, held_number, held_of, held_into}
 use Rattle.settings.proofs.Answers.{answers_refused, answers_no_room, answers_granted}
 use Rattle.block.proofs.Answers.{copied}

@@ -1,6 +1,5 @@
 -- `block::State::scan` meets its contract: it is a held run of hold 1.
 use mathlib.Core.Path.{◌∙◌}
-use borrow.Author.Rules.{rules}
 use Rattle.block.proofs.Scans.{scan_is_held, scan_into_held}
 use Rattle.block.proofs.State.scan.Goals as goal
 

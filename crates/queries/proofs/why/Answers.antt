@@ -6,8 +6,7 @@ use lib.ListN.{length}
 use Rattle.bits.proofs.Lists.{length_mapped}
 use Rattle.settings.specs.Refusals.{or_else}
 use Rattle.queries.proofs.Answers.{Found, refused_is, numbered_from_one, has_a_slot, because_is}
-use Rattle.queries.proofs.why.Statement.{statement}
-use Rattle.queries.proofs.why.Tie as tie
+use Rattle.queries.proofs.why.Goals as goal
 
 sixteen : (s : tie.Start) → length s.args.x.slots ≡ 16
 sixteen s = search (rules, length_mapped)
@@ -21,29 +20,15 @@ found k =
       number = k.first-number.ensures ∙ ap (or_else s.scan.result.number) k.before.present-number.ensures;
     }
 
-returns : tie.Need-returns
-returns c = refused_is (found c.before) c.if1.true
+pub returns-then-number-ne0 : goal.returns-then-number-ne0
+returns-then-number-ne0 c = refused_is (found c) c.if-number-ne0.true
 
-sub_reason_across : tie.Need-overflow-sub-reason-across
-sub_reason_across c = numbered_from_one (found c.before.before) c.before.if1.false
+pub overflow_sub-effect : goal.overflow_sub-effect
+overflow_sub-effect c = numbered_from_one (found c) c.if-number-ne0.false
 
-reason_across_requires : tie.Need-reason-across-requires
-reason_across_requires c κs = has_a_slot (found c.before.before) c.before.if1.false
+pub reason_across-requires : goal.reason_across-requires
+reason_across-requires c = has_a_slot (found c) c.if-number-ne0.false
 
-returns-2 : tie.Need-returns-2
-returns-2 c =
-    let k = c.before.before.before in
-    because_is (found k) c.before.before.if1.false (sixteen k.before.before.before.before.before) _ c.reason-across.ensures
-
-pub why_spec : {M : Type 1} → statement M
-why_spec =
-    tie.close
-    (tie.spec
-    (λ c. search rules)
-    (λ c κs. search rules)
-    (λ c κs. search rules)
-    (λ c κs. search rules)
-    returns
-    sub_reason_across
-    reason_across_requires
-    returns-2)
+pub returns : goal.returns
+returns c =
+    because_is (found c) c.if-number-ne0.false (sixteen c) _ c.reason_across.ensures
