@@ -1,4 +1,5 @@
 -- `room::records_number` meets its contract: the most that can be due fits, or the records that are due are counted.
+-- ## The most records
 use mathlib.Core.Path.{◌≡◌, sym, ap, ◌∙◌}
 use Prim.Native.Nat.{ℕ, ◌*◌, ◌≤◌}
 use native.Mathlib.Nat.{mul-le-mul, mul-le-mul_left}
@@ -16,10 +17,7 @@ use Rattle.rerun.specs.Replay.{replay}
 use Rattle.rerun.proofs.Files.{most-effects, few_rows}
 use Rattle.rerun.proofs.Theorems.{two_records_an_effect_and_row}
 use Rattle.rerun.proofs.Turns.{counted_all}
-use Rattle.room.proofs.records_number.Statement.{statement}
-use Rattle.room.proofs.records_number.Tie as tie
-
--- ## The most records
+use Rattle.room.proofs.records_number.Goals as goal
 
 count-is : (s : tie.Start) → s.args.run.plan.count ≡ (reading s.args.s.now).settings.count
 unfolding plan_of
@@ -47,11 +45,6 @@ bytes_small s n h = mul-le-mul {n₂ = record_length} {m₂ = most_records * 204
 
 -- ## The answers
 
-returns : tie.Need-returns
-returns c =
-    let s = c.before.before.before.before.before in
-    sym (room_enough (s.args.each * due s) s.args.room (omega (arith, mul-le-mul_left s.args.each (enough s), c.if1.true)))
-
 abbrev start_of : tie.After-go → tie.Start
 start_of k = let tested = k.before.before.before.before in tested.before.before.before.before.before
 
@@ -59,40 +52,25 @@ start_of k = let tested = k.before.before.before.before in tested.before.before.
 counted : (k : tie.After-go) → k.go.result.run.records ≡ due (start_of k)
 counted k = counted_all k.go.ensures (start_of k).requires.0.many
 
-mul_if2 : tie.Need-overflow-mul-if2
-mul_if2 c =
-    let k = c.before.before.before in
-    let s = start_of k in
-    let n = k.go.result.run.records in
-    omega (arith, bytes_small s n (omega (arith, counted k, enough s)))
-
 number_is : (k : tie.After-go) → let s = start_of k in room_number (s.args.each * k.go.result.run.records) s.args.room ≡ room_number (s.args.each * due s) s.args.room
 number_is k = let s = start_of k in ap (λ (n : ℕ). room_number (s.args.each * n) s.args.room) (counted k)
 
-returns-2 : tie.Need-returns-2
-returns-2 c =
-    let k = c.before.before.before.before in
-    let a = (start_of k).args in
-    sym (room_enough (a.each * k.go.result.run.records) a.room c.if2.true) ∙ number_is k
+pub returns-then-each-most : goal.returns-then-each-most
+returns-then-each-most c =
+    sym (room_enough (c.args.each * due c) c.args.room (omega (arith, mul-le-mul_left c.args.each (enough c), c.if-each-most.true)))
 
-returns_3 : tie.Need-returns-3
-returns_3 c =
-    let k = c.before.before.before.before in
-    let a = (start_of k).args in
-    sym (room_short (a.each * k.go.result.run.records) a.room c.if2.false) ∙ number_is k
+pub overflow_mul-each-2 : goal.overflow_mul-each-2
+overflow_mul-each-2 c =
+    let s = start_of c in
+    let n = c.go-end.result.run.records in
+    omega (arith, bytes_small s n (omega (arith, counted c, enough s)))
 
-pub records_number_spec : {M : Type 1} → statement M
-records_number_spec =
-    tie.close
-    (tie.spec
-    (λ c. omega (arith, few c.before.before.before))
-    (λ c. search rules)
-    (λ c. omega (arith, most_small c.before.before.before.before))
-    (λ c. let s = c.before.before.before.before in omega (arith, bytes_small s (most s) (omega arith)))
-    returns
-    (λ c. search rules)
-    (λ c κs. search rules)
-    (λ c. search rules)
-    mul_if2
-    returns-2
-    returns_3)
+pub returns-then-each-last : goal.returns-then-each-last
+returns-then-each-last c =
+    let a = (start_of c).args in
+    sym (room_enough (a.each * c.go-end.result.run.records) a.room c.if-each-last.true) ∙ number_is c
+
+pub returns : goal.returns
+returns c =
+    let a = (start_of c).args in
+    sym (room_short (a.each * c.go-end.result.run.records) a.room c.if-each-last.false) ∙ number_is c

@@ -1,0 +1,12 @@
+-- `numbers::put_three` meets its contract: one number behind two.
+use mathlib.Core.Path.{refl, ap, ◌∙◌}
+use mathlib.Core.List.{[], ◌∷◌}
+use lib.Seq.{sets}
+use borrow.Author.Rules.{rules}
+use Rattle.numbers.proofs.Stores.{one_number, numbers_then}
+use Rattle.numbers.proofs.put_three.Goals as goal
+
+pub returns : goal.returns
+returns c =
+    let g = c.args in
+    numbers_then g.out.now _ _ g.at _ (g.a ∷ g.b ∷ []) (g.c ∷ []) c.put_two.ensures (c.put64.ensures ∙ ap (sets _ _) (one_number g.c)) refl
