@@ -1,9 +1,9 @@
 -- `room::records_number` meets its contract: the most that can be due fits, or the records that are due are counted.
--- ## The most records
 use mathlib.Core.Path.{◌≡◌, sym, ap, ◌∙◌}
 use Prim.Native.Nat.{ℕ, ◌*◌, ◌≤◌}
 use native.Mathlib.Nat.{mul-le-mul, mul-le-mul_left}
 use native.Mathlib.Omega.{arith}
+use mathlib.Core.List.{List}
 use lib.ListN.{length}
 use borrow.Author.Rules.{rules}
 use Rattle.effects.specs.Records.{record_length, most_records}
@@ -14,63 +14,66 @@ use Rattle.settings.specs.Refusals.{room_number}
 use Rattle.settings.proofs.Refusals.{room_enough, room_short}
 use Rattle.recording.specs.Reader.{reading}
 use Rattle.rerun.specs.Replay.{replay}
+use Rattle.rerun.specs.Turn.{Going}
+use Rattle.rerun.specs.declared.Run.{Run}
 use Rattle.rerun.proofs.Files.{most-effects, few_rows}
 use Rattle.rerun.proofs.Theorems.{two_records_an_effect_and_row}
 use Rattle.rerun.proofs.Turns.{counted_all}
 use Rattle.room.proofs.records_number.Goals as goal
 
-count-is : (s : tie.Start) → s.args.run.plan.count ≡ (reading s.args.s.now).settings.count
-unfolding plan_of
-count-is s = ap (λ (p : Plan). p.count) s.requires.0.wired.plan-is
+-- ## The most records
 
-few : (s : tie.Start) → s.args.run.plan.count ≤ most_effects
-few s = omega (arith, most-effects s.args.s.now s.requires.0.accepted, count-is s)
+module _ (s : List ℕ) (run : Run) (board : List ℕ) (going : Going s run board) where
+  count_is : run.plan.count ≡ (reading s).settings.count
+  unfolding plan_of
+  count_is = ap (λ (p : Plan). p.count) going.wired.plan-is
 
-abbrev due : tie.Start → ℕ
-due s = length (replay s.args.s.now).replay.events
+  few : run.plan.count ≤ most_effects
+  few = omega (arith, most-effects s going.accepted, count_is)
 
-abbrev most : tie.Start → ℕ
-most s = 2 * s.args.run.plan.count * s.args.run.row_count
+  enough : length (replay s).replay.events ≤ 2 * run.plan.count * run.row_count
+  enough = rw (count_is, going.many) (two_records_an_effect_and_row s going.accepted)
 
-enough : (s : tie.Start) → due s ≤ most s
-enough s = rw (count-is s, s.requires.0.many) (two_records_an_effect_and_row s.args.s.now s.requires.0.accepted)
+  -- all numbers are small
+  most_small : 2 * run.plan.count * run.row_count ≤ most_records * 2048
+  most_small =
+      mul-le-mul {n₂ = most_records} {m₂ = 2048} (omega (arith, few)) (omega (arith, few_rows s going.accepted, going.many))
 
--- all numbers are small
-most_small : (s : tie.Start) → most s ≤ most_records * 2048
-most_small s =
-    mul-le-mul {n₂ = most_records} {m₂ = 2048} (omega (arith, few s)) (omega (arith, few_rows s.args.s.now s.requires.0.accepted, s.requires.0.many))
-
-bytes_small : (s : tie.Start) (n : ℕ) → n ≤ most s → s.args.each * n ≤ record_length * (most_records * 2048)
-bytes_small s n h = mul-le-mul {n₂ = record_length} {m₂ = most_records * 2048} s.requires.2 (omega (arith, h, most_small s))
+  bytes_small : (each n : ℕ) → each ≤ record_length → n ≤ 2 * run.plan.count * run.row_count → each * n ≤ record_length * (most_records * 2048)
+  bytes_small each n e h = mul-le-mul {n₂ = record_length} {m₂ = most_records * 2048} e (omega (arith, h, most_small))
 
 -- ## The answers
 
-abbrev start_of : tie.After-go → tie.Start
-start_of k = let tested = k.before.before.before.before in tested.before.before.before.before.before
+pub overflow_mul-most : goal.overflow_mul-most
+overflow_mul-most c = omega (arith, few _ _ _ c.requires.0)
 
--- the records that were counted are those that are due
-counted : (k : tie.After-go) → k.go.result.run.records ≡ due (start_of k)
-counted k = counted_all k.go.ensures (start_of k).requires.0.many
+pub overflow_mul-most-2 : goal.overflow_mul-most-2
+overflow_mul-most-2 c = omega (arith, most_small _ _ _ c.requires.0)
 
-number_is : (k : tie.After-go) → let s = start_of k in room_number (s.args.each * k.go.result.run.records) s.args.room ≡ room_number (s.args.each * due s) s.args.room
-number_is k = let s = start_of k in ap (λ (n : ℕ). room_number (s.args.each * n) s.args.room) (counted k)
+pub overflow_mul-each : goal.overflow_mul-each
+overflow_mul-each c =
+    let a = c.args in
+    omega (arith, bytes_small _ _ _ c.requires.0 a.each (2 * a.run.plan.count * a.run.row_count) c.requires.2 (omega arith))
 
 pub returns-then-each-most : goal.returns-then-each-most
 returns-then-each-most c =
-    sym (room_enough (c.args.each * due c) c.args.room (omega (arith, mul-le-mul_left c.args.each (enough c), c.if-each-most.true)))
+    let a = c.args in
+    sym (room_enough (a.each * length (replay a.s.now).replay.events) a.room (omega (arith, mul-le-mul_left a.each (enough _ _ _ c.requires.0), c.if-each-most.true)))
 
 pub overflow_mul-each-2 : goal.overflow_mul-each-2
 overflow_mul-each-2 c =
-    let s = start_of c in
-    let n = c.go-end.result.run.records in
-    omega (arith, bytes_small s n (omega (arith, counted c, enough s)))
+    let a = c.args in
+    let counted = counted_all c.go-end.ensures c.requires.0.many in
+    omega (arith, bytes_small _ _ _ c.requires.0 a.each c.go-end.result.run.records c.requires.2 (omega (arith, counted, enough _ _ _ c.requires.0)))
 
 pub returns-then-each-last : goal.returns-then-each-last
 returns-then-each-last c =
-    let a = (start_of c).args in
-    sym (room_enough (a.each * c.go-end.result.run.records) a.room c.if-each-last.true) ∙ number_is c
+    let a = c.args in
+    sym (room_enough (a.each * c.go-end.result.run.records) a.room c.if-each-last.true)
+    ∙ ap (λ (n : ℕ). room_number (a.each * n) a.room) (counted_all c.go-end.ensures c.requires.0.many)
 
 pub returns : goal.returns
 returns c =
-    let a = (start_of c).args in
-    sym (room_short (a.each * c.go-end.result.run.records) a.room c.if-each-last.false) ∙ number_is c
+    let a = c.args in
+    sym (room_short (a.each * c.go-end.result.run.records) a.room c.if-each-last.false)
+    ∙ ap (λ (n : ℕ). room_number (a.each * n) a.room) (counted_all c.go-end.ensures c.requires.0.many)
