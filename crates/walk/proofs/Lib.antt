@@ -1,4 +1,2 @@
-pub mod Lent
-pub mod Asked
 pub mod Rows
 pub mod Theorems

@@ -65,9 +65,9 @@ module _ (s : Bor (List ℕ)) where
       let m : min n count ≡ count = omega (arith, l) in
       rw m (ended_past count (omega arith))
 
-  step_row : (n : ℕ) → leb count n ≡ false → let x = next_of (after n) in
+  row_is : (n : ℕ) → leb count n ≡ false → let x = next_of (after n) in
       (ended x ≡ false) × (step_row x ≡ get_or rows n no_row) × (next_place x ≡ row_place s.now (suc n))
-  step_row n q =
+  row_is n q =
       let l = leb-false count n q in
       let m : min n count ≡ n = omega (arith, l) in
       rw m (row_at_its_place s.now n l)
@@ -80,15 +80,15 @@ module _ (s : Bor (List ℕ)) where
   moves n false q =
       let l = leb-false count n q in
       let m : min (suc n) count ≡ suc n = omega (arith, l) in
-      rw ((step_row n q).0, (step_row n q).2, m)
+      rw ((row_is n q).0, (row_is n q).2, m)
 
   pub ends : (n : ℕ) (b : Bool) → leb count n ≡ b → ended (next_of (after n)) ≡ leb count n
   ends n true q = rw (step_ended n q, q)
-  ends n false q = rw ((step_row n q).0, q)
+  ends n false q = rw ((row_is n q).0, q)
 
   pub row_of : (n : ℕ) (b : Bool) → leb count n ≡ b → step_row (next_of (after n)) ≡ get_or rows n no_row
   row_of n true q = rw (step_ended n q) (sym (get_or-eq_default rows no_row {n = n} (rw length-rows_of (leb-true count n q))))
-  row_of n false q = (step_row n q).1
+  row_of n false q = (row_is n q).1
 
   -- the step after n others gives what stands at the place of row n
   same_step : (n : ℕ) (b : Bool) → leb count n ≡ b → next_of (after n) ≡ nth_of s.now n
@@ -119,7 +119,7 @@ module _ (s : Bor (List ℕ)) where
   one_more n i false q h =
       let l = leb-false count i q in
       let rest = given n (moved_on (after i)) in
-      (λ j. cond ((step_row i q).0 j) rest ((step_row i q).1 j ∷ rest))
+      (λ j. cond ((row_is i q).0 j) rest ((row_is i q).1 j ∷ rest))
       ∙ ap {B = List Row} (λ (xs : List Row). get_or rows i no_row ∷ xs) h
       ∙ ap (take (suc n)) (sym (drop-cons rows i no_row (rw length-rows_of l)))
 

@@ -87,7 +87,7 @@ fn begin(bytes: &[u8]) -> Begun
     }
 }
 
-// ---- on a walk, proved by hand
+// ---- on a walk
 
 // Starts a walk at the first row. On bytes that the reader refuses, it gives the refusal and a walk at 0, which has ended.
 pub fn start<'a>(bytes: &'a [u8]) -> Started<'a>
@@ -114,7 +114,7 @@ impl<'a> Walk<'a> {
     }
 }
 
-// ---- with plain parameters: a caller's proof needs no walk by hand
+// ---- with plain parameters
 
 // Row n of a recording, counted from 0, or ended: what a walk gives after n other steps.
 pub fn nth(bytes: &[u8], n: u16) -> Step
