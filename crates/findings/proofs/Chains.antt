@@ -1,7 +1,6 @@
 -- A chain of tests, each with the fault that it names: it stops at a test that fails, and goes on past one that holds.
 use mathlib.Core.Path.{◌≡◌, sym, ◌∙◌}
-use mathlib.Core.Bool.{Bool, true, false, not}
-use borrow.Author.Tests.{not-true, not-false}
+use mathlib.Core.Bool.{Bool, true, false}
 use Rattle.findings.specs.declared.Fault.{Fault}
 use Rattle.findings.specs.Faults.{or_next}
 
@@ -12,8 +11,8 @@ pub goes_on : (ok : Bool) (fault next r : Fault) → ok ≡ true → r ≡ next 
 goes_on ok fault next r e h = rw e h
 
 -- what a test that was made says of the one that is meant
-pub fails : (made ok : Bool) → made ≡ ok → not made ≡ true → ok ≡ false
-fails made ok e h = sym e ∙ not-true made h
+pub fails : (made ok : Bool) → made ≡ ok → made ≡ false → ok ≡ false
+fails made ok e h = sym e ∙ h
 
-pub holds : (made ok : Bool) → made ≡ ok → not made ≡ false → ok ≡ true
-holds made ok e h = sym e ∙ not-false made h
+pub holds : (made ok : Bool) → made ≡ ok → made ≡ true → ok ≡ true
+holds made ok e h = sym e ∙ h

@@ -144,8 +144,8 @@ module _ (s : List ℕ) (at k : ℕ) where
       let x = effect_at s at in
       three (leb 1 x.association) (ltb x.association (2 ^ causes_in s)) ∙ only (effect_ok known.causes x) k 3 e
 
-  pub row_number : test_of Rows (known_of (settings_at s 6)) s at ≡ suc k → fault_number (fault_at Rows s at) ≡ suc k
-  row_number e = row_fault_number (causes_in s) (effects_in s) (options_in s) (row_at (width_of Rows) s at) ∙ ap (λ (n : ℕ). or_else n 9) e
+  pub row-number : test_of Rows (known_of (settings_at s 6)) s at ≡ suc k → fault_number (fault_at Rows s at) ≡ suc k
+  row-number e = row_fault_number (causes_in s) (effects_in s) (options_in s) (row_at (width_of Rows) s at) ∙ ap (λ (n : ℕ). or_else n 9) e
 
 pub late_number : (s : List ℕ) (at : ℕ) → test_of Rows (known_of (settings_at s 6)) s at ≡ 0 → fault_number (fault_at Rows s at) ≡ 9
 late_number s at e = row_fault_number (causes_in s) (effects_in s) (options_in s) (row_at (width_of Rows) s at) ∙ ap (λ (n : ℕ). or_else n 9) e

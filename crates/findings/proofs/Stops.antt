@@ -25,7 +25,7 @@ use Rattle.findings.specs.Faults.{fault_at, fault_number, fault_test}
 use Rattle.findings.specs.Findings.{finding_in, finding_number, finding_place, finding_test}
 use Rattle.findings.proofs.Spots.{in_block, in_effects, in_rows, past}
 use Rattle.findings.proofs.Named.{block_named, effect_named, row_named}
-use Rattle.findings.proofs.Numbers.{block-number, effect-number, row_number, late_number}
+use Rattle.findings.proofs.Numbers.{block-number, effect-number, row-number, late_number}
 
 -- a finding says this refusal number and this place, and the test that it names fails
 abbrev pub Says : List ℕ → (n p : ℕ) → Finding → Type 0
@@ -143,7 +143,7 @@ module _ (s : List ℕ) where
     same_known = ap (λ (x : ℕ). known_of (settings_at s x)) (block_room s e t.block).0
 
     rows_numbered : (p m : ℕ) → test_of Rows (known_of (settings_at s e)) s p ≡ suc m → fault_number (fault_at Rows s p) ≡ suc m
-    rows_numbered p m h = row_number s p m (ap (λ (k : Known). test_of Rows k s p) (sym same_known) ∙ h)
+    rows_numbered p m h = row-number s p m (ap (λ (k : Known). test_of Rows k s p) (sym same_known) ∙ h)
 
     rows-stop : (n p : ℕ) → Stops Rows (known_of (settings_at s e)) s r n p → Says s n p (finding_in (spot_of s p) s p)
     rows-stop n p = in-section Rows s r r-is rows_here (known_of (settings_at s e)) (record { number = rows_numbered; named = λ q m h. row_named s q }) n p (passes_inside Effects (known_of_block s) s e r t.effects)

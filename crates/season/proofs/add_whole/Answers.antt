@@ -1,0 +1,35 @@
+-- `season::add_whole` meets its contract: the stretches that the events close, those still open, and the report's sums.
+use mathlib.Core.Path.{◌≡◌, refl, ap, ◌∙◌}
+use lib.ListN.{length}
+use borrow.Author.Rules.{rules}
+use Rattle.bits.proofs.Lists.{length_mapped}
+use Rattle.settings.specs.declared.Settings.{Settings}
+use Rattle.recording.specs.Answers.{number, place}
+use Rattle.rerun.proofs.Turns.{few_effects}
+use Rattle.tally.specs.Tally.{sum_count}
+use Rattle.season.proofs.Answers.{closable, joined_is, whole_added}
+use Rattle.season.proofs.Loop.{tallying_begins}
+use Rattle.season.proofs.add_whole.Goals as goal
+
+pub begin-run-requires : goal.begin-run-requires
+begin-run-requires c =
+    let a = c.args in
+    (few_effects a.s.now a.st a.rows a.first a.width c.requires.0 c.requires.1, refl)
+
+pub count_rows-end-requires : goal.count_rows-end-requires
+count_rows-end-requires c =
+    tallying_begins (rw c.requires.1 at c.begin-run.ensures) c.requires.0 c.requires.2
+
+pub close_all-requires : goal.close_all-requires
+close_all-requires c =
+    let all = c.count_rows-end.ensures in
+    closable c.args.s.now (ap number c.requires.0) _ all.counts _ _ _ (ap (λ (z : Settings). z.count) c.requires.1) all.scans all.exercised
+
+pub returns : goal.returns
+returns c =
+    let long : length c.args.r.sums ≡ sum_count = search (rules, length_mapped) in
+    let file = c.args.s.now in
+    let all = c.count_rows-end.ensures in
+    c.join.ensures
+    ∙ joined_is file (ap number c.requires.0) _ all.counts _ _ _ (ap (λ (z : Settings). z.count) c.requires.1) all.scans all.exercised _ c.close_all.ensures c.args.r long
+    ∙ whole_added c.args.r file (ap place c.requires.0) c.requires.2

@@ -1,0 +1,21 @@
+-- `season::count_piece` meets its contract, by the laws of `Loop`.
+use native.Mathlib.Omega.{arith}
+use borrow.Author.Rules.{rules}
+use Rattle.season.proofs.Loop.{piece_ready, records_grow, waiting, piece_counted}
+use Rattle.season.proofs.count_piece.Goals as goal
+
+pub go-turn-requires : goal.go-turn-requires
+go-turn-requires c =
+    piece_ready c.requires.0 c.piece_end-until.ensures _ (omega arith)
+
+pub overflow_sub-next : goal.overflow_sub-next
+overflow_sub-next c =
+    records_grow c.requires.0 c.piece_end-until.ensures c.go-turn.ensures (omega arith)
+
+pub count_events-requires : goal.count_events-requires
+count_events-requires c =
+    waiting c.requires.0 c.piece_end-until.ensures c.go-turn.ensures (omega arith)
+
+pub returns : goal.returns
+returns c =
+    piece_counted c.requires.0 c.piece_end-until.ensures c.go-turn.ensures (omega arith) _ c.count_events.ensures

@@ -1,0 +1,6 @@
+-- `standing::reason_now` meets its contract, from what its callees ensure.
+use borrow.Author.Rules.{rules}
+use Rattle.standing.proofs.reason_now.Goals as goal
+
+pub returns : goal.returns
+returns c = rw (c.reason_by.ensures, c.signs_of.ensures)

@@ -1,0 +1,21 @@
+-- `standing::tell_all` meets its contract. The loop's invariant: with the events that are left, of any whose records these are, the slots
+-- would be those after all of them.
+use mathlib.Core.Path.{◌≡◌, refl, sym, ◌∙◌}
+use mathlib.Core.List.{List}
+use Prim.Native.Nat.{◌*◌, ◌-◌, ◌≤◌}
+use native.Mathlib.Omega.{arith}
+use lib.ListN.{length, drop, get_or}
+use Rattle.rules.specs.Limits.{most_effects}
+use Rattle.effects.specs.declared.Event.{Event}
+use Rattle.effects.specs.Records.{record_length, StandFrom}
+use Rattle.effects.proofs.Records.{no_event, nth, one_event, numbered_at}
+use Rattle.standing.specs.Stands.{told_all}
+use Rattle.standing.proofs.Records.{left_told, none_left}
+use Rattle.standing.proofs.tell_all.Given as goal
+
+abbrev pub invariant-loop-i : goal.invariant-loop-i
+invariant-loop-i l = (l.i ≤ l.n)
+    × ((es : List Event) → length es ≡ l.n → StandFrom l.records 0 es → told_all l.scan (drop l.i es) l.ys ≡ told_all l.scan es l.initial.ys)
+
+abbrev pub decreases-loop-i : goal.decreases-loop-i
+decreases-loop-i l = l.n - l.i
