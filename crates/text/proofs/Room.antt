@@ -81,7 +81,7 @@ module _ (c : Column) (narrow : Narrow c.sight) (associations : List ℕ) where
         seq = rw f.seq at (num_lt 2 s at b);
         scan = rw f.scan at (num_lt 4 s (at + 2) b);
         effect = rw f.effect at (num_lt 1 s (at + 6) b);
-        first_out = rw f.first_out at (num_lt 2 s (at + 10) b);
+        first_out = rw f.first-out at (num_lt 2 s (at + 10) b);
       })
 
   pub lines_at_most : (s : List ℕ) → Bytes s → (at : ℕ) (es : List Event) → StandFrom s at es → length (column_lines c associations es) ≤ most_line * length es
