@@ -8,13 +8,13 @@ use borrow.Author.Rules.{rules}
 use Rattle.findings.proofs.explain.Goals as goal
 
 pub stop_of-stop-requires : goal.stop_of-stop-requires
-stop_of-stop-requires c = sym (ap (λ (x : Reading). x.answer) c.read-reading.ensures) ∙ c.answer-1.given.1
+stop_of-stop-requires c = sym (ap (λ (x : Reading). x.answer) c.read-reading.ensures) ∙ c.in-Accepted.is
 
 pub returns-in-Accepted : goal.returns-in-Accepted
 unfolding explained
 returns-in-Accepted c =
     let s = c.args.s.now in
-    let is = sym (ap (λ (x : Reading). x.answer) c.read-reading.ensures) ∙ c.answer-1.given.1 in
+    let is = sym (ap (λ (x : Reading). x.answer) c.read-reading.ensures) ∙ c.in-Accepted.is in
     let stop = c.stop_of-stop.ensures in
     c.explained_at.ensures ∙ (λ j. explanation s (stop j).number (stop j).place (sym (ap row_count_of is) j))
 
@@ -22,6 +22,6 @@ pub returns-in-Refused : goal.returns-in-Refused
 unfolding explained
 returns-in-Refused c =
     let s = c.args.s.now in
-    let is = sym (ap (λ (x : Reading). x.answer) c.read-reading.ensures) ∙ c.answer-in-Refused-1.given.1 in
+    let is = sym (ap (λ (x : Reading). x.answer) c.read-reading.ensures) ∙ c.in-Refused.is in
     let run = sym (refused_replay s _ _ is) in
     c.explained_at-in-Refused.ensures ∙ (λ j. explanation s (run j).number (run j).place (sym (ap row_count_of is) j))

@@ -4,11 +4,11 @@ use borrow.Author.Rules.{rules}
 use Rattle.findings.proofs.finding_in.Goals as goal
 
 pub returns-in-Count : goal.returns-in-Count
-returns-in-Count c = rw c.spot-1.given.1 c.count_finding.ensures
+returns-in-Count c = rw c.in-Count.is c.count_finding.ensures
 
 pub returns-in-Entry : goal.returns-in-Entry
-returns-in-Entry c = rw c.spot-in-Entry-1.given.1 c.entry_finding.ensures
+returns-in-Entry c = rw c.in-Entry.is c.entry_finding.ensures
 
 pub returns-in-Past : goal.returns-in-Past
 unfolding finding_in
-returns-in-Past c = rw c.enum_told-1.given.1
+returns-in-Past c = rw c.in-Past.is

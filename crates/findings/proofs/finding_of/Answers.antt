@@ -11,4 +11,4 @@ returns-then-number-eq0 c = rw c.if-number-eq0.true
 
 pub returns : goal.returns
 unfolding finding_of
-returns c = rw c.spot_of_lem.ensures at c.finding_in.ensures ∙ sym (granted_refused _ _ _ c.if-number-eq0.false)
+returns c = rw c.spot_of.ensures at c.finding_in.ensures ∙ sym (granted_refused _ _ _ c.if-number-eq0.false)

@@ -22,5 +22,5 @@ after_last-requires c =
     let b = rw c.requires.1 at c.begin-run.ensures in
     (c.go-turn.ensures.going, one_left b c.requires.0 (omega (arith, some-row c.args.s.now (ap number c.requires.0), ap row_count_of c.requires.0)) c.requires.2 c.go-turn.ensures, c.requires.2)
 
-pub overflow_sub-go : goal.overflow_sub-go
-overflow_sub-go c = omega (arith, some-row c.args.s.now (ap number c.requires.0), ap row_count_of c.requires.0)
+pub overflow_sub-rows : goal.overflow_sub-rows
+overflow_sub-rows c = omega (arith, some-row c.args.s.now (ap number c.requires.0), ap row_count_of c.requires.0)
