@@ -1,8 +1,7 @@
 -- The lines of `bin/replay --summary`, as bytes: fields with a comma between. docs/FORMAT.md, "A line for each file"; document 01 has no
 -- word on them. LF ends every line.
-use Rattle.std.specs.Prelude.{ℕ, ◌+◌, ◌*◌, Bool, cond, ◌||◌, eqb, ltb, length}
+use Rattle.std.specs.Prelude.{ℕ, suc, ◌+◌, ◌*◌, Bool, cond, ◌||◌, eqb, ltb, length}
 use mathlib.Core.List.{List, [], ◌∷◌, ◌++◌, flat_map}
-use Rattle.bytes.specs.Bytes.{index_of}
 use Rattle.bits.specs.Decimal.{ascii, decimal}
 use Rattle.rerun.specs.declared.Replayed.{Replayed}
 use Rattle.reports.specs.Reports.{most_name}
@@ -11,6 +10,11 @@ use Rattle.reports.specs.Reports.{most_name}
 
 abbrev pub quote : ℕ
 quote = 34
+
+-- where a byte first stands, or the length where it does not
+abbrev pub index_of : (byte : ℕ) → List ℕ → ℕ
+index_of byte [] = 0
+index_of byte (b ∷ bs) = cond (eqb b byte) 0 (suc (index_of byte bs))
 
 abbrev pub has : List ℕ → ℕ → Bool
 has name byte = ltb (index_of byte name) (length name)

@@ -20,7 +20,7 @@ const QUOTE: u8 = 34;
 fn has_byte(name: &[u8], byte: u8) -> bool
     ensures { result ≡ has name.now byte }
 {
-    bytes::scan::find(name, 0, name.len(), byte) < name.len()
+    name.contains(&byte)
 }
 
 // Whether a name has to stand in quotes.
