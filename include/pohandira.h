@@ -3,7 +3,7 @@
  * C++. The functions of the library are proved.
  * "Document 01" is the owner's requirement; docs/FORMAT.md says all of it: the recording byte by byte, the rules, the event records and the
  * refusals. Season totals are "document 02", L1, Bad causes L3, and reasons L4, which it says too.
- * The static library is target/staticlib/libpohandira.a (`rt staticlib pohandira`), for x86-64 Linux.
+ * The static library is libpohandira.a, for x86-64 Linux: tests/library builds it into target/staticlib/, and bin/install installs it.
  *
  * What is asked of the caller, and nothing else: no pointer is null, even where its length is 0; the bytes that a pointer and
  * its length name can be read, or written for an output; and no two of the buffers overlap. Any bytes at all get an answer.
