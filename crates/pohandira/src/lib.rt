@@ -1,5 +1,5 @@
-// The library that other languages link, by the C ABI: its version, a check, a count, a whole replay and the reasons of a recording, and
-// season totals over many. Each of these takes bytes and lent buffers, keeps nothing, and answers any bytes. What crosses is in
+// What other languages call, by `pohandira_c`: the version, a check, a count, a whole replay and the reasons of a recording, and season
+// totals over many. Each of these takes bytes and lent buffers, keeps nothing, and answers any bytes. What crosses is in
 // specs/Crossing, for season totals in season_bytes/specs/Bytes and for reasons in why_bytes/specs/Bytes; include/pohandira.h says it in C.
 // It rests on `rerun` for the replay, on `room` for refusal number 10, on `numbers` for the bytes of what crosses, on `season_bytes` for the
 // totals and on `why_bytes` for the reasons. The numbers that cross, their order and their 8 bytes may not change without moving a contract.
@@ -30,8 +30,7 @@ const MAJOR_WORTH: u32 = 1000000;
 const MINOR_WORTH: u32 = 1000;
 
 // The version as one number. A caller compares it with that of the header it was compiled with, since what crosses may grow.
-#[unsafe(no_mangle)]
-pub extern "C" fn pohandira_version() -> u32
+pub fn pohandira_version() -> u32
     ensures { result ≡ version }
 {
     MAJOR * MAJOR_WORTH + MINOR * MINOR_WORTH + PATCH
@@ -40,8 +39,7 @@ pub extern "C" fn pohandira_version() -> u32
 // ---- a check
 
 // Checks a recording: answers its refusal number, and writes 24 bytes to `answer`: refusal number, place, rows.
-#[unsafe(no_mangle)]
-pub extern "C" fn pohandira_check(recording: &[u8], answer: &mut [u8]) -> u8
+pub fn pohandira_check(recording: &[u8], answer: &mut [u8]) -> u8
     ensures value { result ≡ check_number recording.now (length answer.old) }
     ensures answer_after { answer.new ≡ check_into recording.now answer.old }
 {
@@ -61,8 +59,7 @@ pub extern "C" fn pohandira_check(recording: &[u8], answer: &mut [u8]) -> u8
 
 // Replays a recording and keeps no record: answers its refusal number, and writes to `totals` the 56 bytes that a replay with room for
 // all records gives. So a caller learns how many records there are before it lends room for them.
-#[unsafe(no_mangle)]
-pub extern "C" fn pohandira_count(recording: &[u8], totals: &mut [u8]) -> u8
+pub fn pohandira_count(recording: &[u8], totals: &mut [u8]) -> u8
     ensures value { result ≡ count_number recording.now (length totals.old) }
     ensures totals_after { totals.new ≡ count_into recording.now totals.old }
 {
@@ -119,8 +116,7 @@ fn replay_accepted(
 
 // Replays a recording: answers its refusal number, and writes all records to `records` and 56 bytes to `totals`: records, rows, scans,
 // live, exercised, refusal number, place.
-#[unsafe(no_mangle)]
-pub extern "C" fn pohandira_replay(recording: &[u8], records: &mut [u8], totals: &mut [u8]) -> u8
+pub fn pohandira_replay(recording: &[u8], records: &mut [u8], totals: &mut [u8]) -> u8
     ensures value { result ≡ replay_number recording.now (length records.old) (length totals.old) }
     ensures records_after { records.new ≡ records_into recording.now (length totals.old) records.old }
     ensures totals_after { totals.new ≡ totals_into recording.now (length records.old) totals.old }
@@ -143,8 +139,7 @@ pub extern "C" fn pohandira_replay(recording: &[u8], records: &mut [u8], totals:
 
 // Adds a recording to a report: answers its refusal number, and on 0 `report` begins with the 904 bytes of the report after it. On any
 // refusal no byte is touched.
-#[unsafe(no_mangle)]
-pub extern "C" fn pohandira_season(recording: &[u8], report: &mut [u8]) -> u8
+pub fn pohandira_season(recording: &[u8], report: &mut [u8]) -> u8
     ensures value { result ≡ into_number recording.now report.old }
     ensures report_after { report.new ≡ season_into recording.now report.old }
 {
@@ -155,8 +150,7 @@ pub extern "C" fn pohandira_season(recording: &[u8], report: &mut [u8]) -> u8
 
 // Finds the reason of each event of a recording: answers its refusal number, and on 0 `reasons` begins with 8 bytes for each record of a
 // replay, in their order. On any refusal no byte is touched.
-#[unsafe(no_mangle)]
-pub extern "C" fn pohandira_reasons(recording: &[u8], reasons: &mut [u8]) -> u8
+pub fn pohandira_reasons(recording: &[u8], reasons: &mut [u8]) -> u8
     ensures value { result ≡ reasons_number recording.now (length reasons.old) }
     ensures reasons_after { reasons.new ≡ reasons_into recording.now reasons.old }
 {
@@ -165,8 +159,7 @@ pub extern "C" fn pohandira_reasons(recording: &[u8], reasons: &mut [u8]) -> u8
 
 // Finds the reason of each effect's state after the last scan of a recording: answers its refusal number, and on 0 `reasons` begins with 8
 // bytes for each effect, in their order. On any refusal no byte is touched.
-#[unsafe(no_mangle)]
-pub extern "C" fn pohandira_now(recording: &[u8], reasons: &mut [u8]) -> u8
+pub fn pohandira_now(recording: &[u8], reasons: &mut [u8]) -> u8
     ensures value { result ≡ now_number recording.now (length reasons.old) }
     ensures reasons_after { reasons.new ≡ now_into recording.now reasons.old }
 {
