@@ -122,7 +122,7 @@ use Rattle.wiring.specs.Wiring.{Stroked}
 use Rattle.rerun.specs.Turn.{Totals}
 use Rattle.settings.proofs.Right.{hold_some}
 use Rattle.block.proofs.Answers.{row_right}
-use Rattle.demands.specs.Contracts.{Unique, UniqueWhereAsked, none, both}
+use Rattle.demands.specs.OneAnswer.{Unique, UniqueWhereAsked, none, both}
 use Rattle.demands.proofs.Unique.{by_equations, by_equation}
 use Rattle.demands.proofs.Determined.{same_array, same_mark, same_end, same-plan, same_wired, same-run, going_run, going_array, lent, struck_by, same_turn, same_printed, same_exercised}
 

@@ -8,7 +8,7 @@ use denote.Triple.Clauses.{AtExit}
 use denote.Triple.Entry.{Args, Res}
 use Rattle.walk.specs.Walks.{start_of, next_of, moved_on}
 use Rattle.walk.proofs as walk
-use Rattle.demands.specs.Contracts.{Unique, Gives, none}
+use Rattle.demands.specs.OneAnswer.{Unique, Gives, none}
 use Rattle.demands.specs.Answers.{EntryPoints, Answers}
 
 -- ## In general: a contract that is an equation for the result, and one for what is left

@@ -47,7 +47,7 @@ use Rattle.queries.specs.Queries.{reply_of}
 use Rattle.why_bytes.specs.Bytes.{reasons_number, reasons_into, now_number, now_into}
 use Rattle.season.specs.Season.{empty, added_to}
 use Rattle.season_bytes.specs.Bytes.{into_number, season_into}
-use Rattle.demands.specs.Contracts.{Gives, Returns, both}
+use Rattle.demands.specs.OneAnswer.{Gives, Returns, both}
 
 -- κ0, κ1, κ2 and κ3 are the lifetimes of what is lent
 pub record EntryPoints (κ0 : Lfts 0) (κ1 : Lfts 1) (κ2 : Lfts 2) (κ3 : Lfts 3) : Type 0 where

@@ -1,4 +1,4 @@
-pub mod Contracts
+pub mod OneAnswer
 pub mod Answers
 pub mod Order
 pub mod Back

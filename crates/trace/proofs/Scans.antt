@@ -1,6 +1,6 @@
 -- The events of scans are the changes of each effect's states: of one scan, of a hold.
 use mathlib.Core.Path.{◌≡◌, refl, ap, ap₂, sym, ◌∙◌}
-use mathlib.Core.Bool.{Bool, true, false, cond, not}
+use mathlib.Core.Bool.{Bool, true, false, cond}
 use mathlib.Core.List.{List, [], ◌∷◌, ◌++◌, append_assoc, append-nil}
 use Prim.Native.Nat.{ℕ, zero, suc, ◌+◌, ◌*◌, ◌<◌}
 use native.Mathlib.Nat.{not-suc-le-zero}
@@ -20,7 +20,7 @@ use Rattle.settings.specs.Refusals.{granted}
 use Rattle.block.specs.declared.State.{State}
 use Rattle.block.specs.declared.Scanned.{Scanned}
 use Rattle.block.specs.Scan.{after, events, scan_number, scan_of, granted_scan, refused_scan}
-use Rattle.block.specs.Held.{later, words_at, Stepped, single, step, stepped, run}
+use Rattle.block.specs.Held.{later, words_at, Stepped, single, step, stepped}
 use Rattle.trace.specs.Effect.{Change, only_if, change_of, own, change, changes, last_of}
 use Rattle.trace.specs.States.{state_at, states_at, states_of}
 use Rattle.trace.proofs.Changes.{own-append, no_change}

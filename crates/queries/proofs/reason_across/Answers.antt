@@ -1,5 +1,4 @@
 -- `queries::reason_across` meets its contract: what is read of the words for effect i is what is read of its signals.
-use borrow.Author.Rules.{rules}
 use Rattle.reasons.proofs.Given.{signs_of_an_effect}
 use Rattle.queries.specs.Across.{reason_across}
 use Rattle.queries.proofs.reason_across.Goals as goal

@@ -1,7 +1,6 @@
 -- `rerun::after_row` meets its contract: its sums fit, and are those of the definition.
 -- from where the live scans are summed, back to where the effects' words are ready for the next row
 use native.Mathlib.Omega.{arith}
-use borrow.Author.Rules.{rules}
 use Rattle.rerun.proofs.after_row.Goals as goal
 
 pub overflow_add-result-4 : goal.overflow_add-result-4

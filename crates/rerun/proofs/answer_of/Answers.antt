@@ -1,6 +1,5 @@
 -- `rerun::answer_of` meets its contract, in both cases.
 use mathlib.Core.Path.{sym, ◌∙◌}
-use borrow.Author.Rules.{rules}
 use Rattle.settings.proofs.Refusals.{granted_none, granted_refused}
 use Rattle.rerun.specs.Replay.{refusal}
 use Rattle.rerun.specs.Turn.{counts_in}

@@ -1,6 +1,5 @@
 -- `rerun::begin` meets its contract, from what its callees ensure of the settings and the fresh state.
 use mathlib.Core.Path.{refl, ap}
-use borrow.Author.Rules.{rules}
 use Rattle.cells.specs.declared.Plan.{Plan}
 use Rattle.plans.specs.Plans.{plan_of}
 use Rattle.rerun.proofs.begin.Goals as goal

@@ -1,7 +1,5 @@
 -- `rerun::go` meets its contract: `Passed` is the loop's invariant, and the laws of `Passing` are those of its turns.
-use Prim.Native.Nat.{◌-◌}
 use native.Mathlib.Omega.{arith}
-use borrow.Author.Rules.{rules}
 use Rattle.rerun.proofs.Passing as passing
 use Rattle.rerun.proofs.Passing.{Passed}
 use Rattle.rerun.proofs.go.Goals as goal

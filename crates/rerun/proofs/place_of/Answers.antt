@@ -1,5 +1,4 @@
 -- `rerun::place_of` meets its contract, in both cases.
-use borrow.Author.Rules.{rules}
 use Rattle.rerun.proofs.place_of.Goals as goal
 
 pub returns-then-keep : goal.returns-then-keep

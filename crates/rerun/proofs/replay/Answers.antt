@@ -1,6 +1,5 @@
 -- `rerun::replay` meets its contract: an accepted file has its rows replayed, and a refused one has none.
 use mathlib.Core.Path.{sym, ap, ◌∙◌}
-use borrow.Author.Rules.{rules}
 use Rattle.recording.specs.declared.Reading.{Reading}
 use Rattle.rerun.proofs.Turns.{refused_answer}
 use Rattle.rerun.proofs.replay.Goals as goal

@@ -1,7 +1,6 @@
 -- `rerun::replay_accepted` meets its contract: it begins, and goes through all rows.
 use mathlib.Core.Path.{refl, sym, ap, ◌∙◌}
 use native.Mathlib.Omega.{arith}
-use borrow.Author.Rules.{rules}
 use Rattle.recording.specs.Answers.{row_count_of}
 use Rattle.rerun.proofs.Turns.{few_effects, ready_all, answered_all}
 use Rattle.rerun.proofs.replay_accepted.Goals as goal

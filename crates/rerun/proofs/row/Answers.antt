@@ -1,8 +1,4 @@
 -- `rerun::row` meets its contract: the row that stands at the run's place is the next one, and its turn is that of the definition.
-use borrow.Author.Rules.{rules}
-use lib.ListN.{length}
-use Rattle.block.specs.Run.{Runs}
-use Rattle.recording.specs.Reader.{reading}
 use Rattle.rerun.proofs.Turns.{row_there, refused_done, row_runs, sums, ran_done}
 use Rattle.rerun.proofs.row.Goals as goal
 

@@ -1,11 +1,8 @@
 -- `rerun::stop_of` meets its contract. The loop's invariant is `Reached`: the holds so far are the scans done.
 use mathlib.Core.Path.{ap}
-use Prim.Native.Nat.{◌-◌, ◌≤◌, ◌<◌}
 use native.Mathlib.Omega.{arith}
-use borrow.Author.Rules.{rules}
 use Rattle.recording.specs.Answers.{row_count_of}
-use Rattle.recording.specs.Reader.{reading}
-use Rattle.rerun.proofs.Stops.{Reached, begins, ends, row_there, stops, few_scans, goes_on}
+use Rattle.rerun.proofs.Stops.{begins, ends, row_there, stops, few_scans, goes_on}
 use Rattle.rerun.proofs.stop_of.Goals as goal
 
 pub loop-passed-init : goal.loop-passed-init
