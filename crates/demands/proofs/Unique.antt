@@ -7,7 +7,8 @@ use contract.Lifetimes.{Lfts}
 use denote.Triple.Clauses.{AtExit}
 use denote.Triple.Entry.{Args, Res}
 use Rattle.walk.specs.Walks.{start_of, next_of, moved_on}
-use Rattle.walk.proofs as walk
+use Rattle.walk.specs.contracts.start as start_contract
+use Rattle.walk.specs.contracts.Walk.next as next_contract
 use Rattle.demands.specs.OneAnswer.{Unique, Gives, none}
 use Rattle.demands.specs.Answers.{EntryPoints, Answers}
 
@@ -80,9 +81,9 @@ pub answers : Answers
 answers = record { entry_points = entry_points; walk_calls = λ 𝓛 mem run κ1 κ2. record { start = λ a r e. (refl, refl); next = λ a r e. (refl, refl) } }
 
 -- the clauses of a walk allow one answer only
-pub walk_start : (κs : Lfts 1) → Unique (λ (a : Args walk.start.signature κs) (r : Res walk.start.signature κs) (e : AtExit walk.start.ended κs). r ≡ start_of a.0) none
+pub walk_start : (κs : Lfts 1) → Unique (λ (a : Args start_contract.signature κs) (r : Res start_contract.signature κs) (e : AtExit start_contract.ended κs). r ≡ start_of a.0) none
 walk_start κs = by_equation _ _ (λ a r e h. h)
 
 pub walk-next : (κs : Lfts 2)
-    → Unique (λ (a : Args walk.Walk.next.signature κs) (r : Res walk.Walk.next.signature κs) (e : AtExit walk.Walk.next.ended κs). (r ≡ next_of a.0.now) × (e.0.now ≡ moved_on a.0.now)) (λ e. e.0.now)
+    → Unique (λ (a : Args next_contract.signature κs) (r : Res next_contract.signature κs) (e : AtExit next_contract.ended κs). (r ≡ next_of a.0.now) × (e.0.now ≡ moved_on a.0.now)) (λ e. e.0.now)
 walk-next κs = by_equations _ (λ e. e.0.now) _ _ (λ a r e h. h)

@@ -20,6 +20,8 @@ use Rattle.block.proofs as block
 use Rattle.recording.proofs as recording
 use Rattle.writing.proofs as writing
 use Rattle.walk.proofs as walk
+use Rattle.walk.specs.contracts.start as start_contract
+use Rattle.walk.specs.contracts.Walk.next as next_contract
 use Rattle.rerun.proofs as rerun
 use Rattle.listing.proofs as listing
 use Rattle.season.proofs as season
@@ -120,9 +122,9 @@ pub record EntryPoints (κ0 : Lfts 0) (κ1 : Lfts 1) (κ2 : Lfts 2) (κ3 : Lfts 
 -- `start` and `next` have no `Asked` and `Learnt`, because a walk holds a reference. In every model of the logic their clauses ask
 -- nothing and are the plain facts that follow
 pub record WalkCalls {M : Type 1} {𝓤 : Ura M} (𝓛 : Logic 𝓤) (mem : Memory → SProp 𝓤) (run : Routine → Fun 𝓤) (κ1 : Lfts 1) (κ2 : Lfts 2) : Type 2 where
-  pub start : (a : Args walk.start.signature κ1) (r : Res walk.start.signature κ1) (e : AtExit walk.start.ended κ1) → let c = walk.start.clauses 𝓛 mem run κ1 a in
+  pub start : (a : Args start_contract.signature κ1) (r : Res start_contract.signature κ1) (e : AtExit start_contract.ended κ1) → let c = start_contract.clauses 𝓛 mem run κ1 a in
       (c.requires tt ≡ emp 𝓤) × (c.ensures tt r e ≡ fact 𝓤 (r ≡ start_of a.0))
-  pub next : (a : Args walk.Walk.next.signature κ2) (r : Res walk.Walk.next.signature κ2) (e : AtExit walk.Walk.next.ended κ2) → let c = walk.Walk.next.clauses 𝓛 mem run κ2 a in
+  pub next : (a : Args next_contract.signature κ2) (r : Res next_contract.signature κ2) (e : AtExit next_contract.ended κ2) → let c = next_contract.clauses 𝓛 mem run κ2 a in
       (c.requires tt ≡ emp 𝓤) × (c.ensures tt r e ≡ fact 𝓤 ((r ≡ next_of a.0.now) × (e.0.now ≡ moved_on a.0.now)))
 
 -- what every entry point gives, whatever is lent, and for however long

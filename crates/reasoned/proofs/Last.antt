@@ -1,13 +1,11 @@
 -- The reason of an effect after the last scan of a hold: what is read of the row is the same in every scan, so the row, the state before that
 -- scan and the slot after it tell the reason.
 use mathlib.Core.Path.{◌≡◌, refl, ap, sym, ◌∙◌}
-use mathlib.Core.List.{List}
 use Prim.Native.Nat.{ℕ, zero, suc, ◌*◌, ◌≤◌, ◌<◌}
 use native.Mathlib.Omega.{arith}
 use lib.ListN.{length, get_or}
 use Rattle.bits.proofs.Lists.{length-tabulate, get_or-tabulate}
 use Rattle.rules.specs.Signals.{Signals}
-use Rattle.rules.specs.declared.Slot.{Slot}
 use Rattle.rules.specs.Rules.{no_slot, no_signals, next}
 use Rattle.effects.specs.Records.{record_length}
 use Rattle.effects.proofs.Laws.{step-at, length-steps}
@@ -22,8 +20,6 @@ use Rattle.block.specs.Held.{later, words_at, Stepped, single, step, stepped}
 use Rattle.block.proofs.Stepping.{later_again}
 use Rattle.trace.specs.States.{state_at}
 use Rattle.trace.proofs.Scans.{Accepts, accepted_single}
-use Rattle.reasons.specs.declared.Reason.{Reason}
-use Rattle.reasons.specs.declared.Signs.{Signs}
 use Rattle.reasons.specs.Given.{signs_of}
 use Rattle.reasons.specs.Reasons.{reason_by}
 use Rattle.reasoned.specs.Reasoned.{reason_at, scan_reasons, hold_reasons}

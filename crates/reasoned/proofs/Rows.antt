@@ -15,8 +15,7 @@ use Rattle.recording.specs.Reader.{reading}
 use Rattle.rerun.specs.declared.Run.{Run}
 use Rattle.rerun.specs.Turn.{Going}
 use Rattle.rerun.proofs.Turns.{row_there, row_read}
-use Rattle.reasons.specs.declared.Signs.{Signs}
-use Rattle.reasons.specs.Given.{signs_of, sight_of, signs_in}
+use Rattle.reasons.specs.Given.{sight_of, signs_in}
 use Rattle.reasons.proofs.Given.{signs_of_an_effect}
 use Rattle.reasoned.specs.Told.{NextRow, signs_for}
 

@@ -3,7 +3,7 @@
 use mathlib.Core.Path.{◌≡◌, refl, ap, ap₂, sym, ◌∙◌}
 use mathlib.Core.Bool.{Bool, true, false, cond}
 use mathlib.Core.List.{List, [], ◌∷◌, ◌++◌, map, append_assoc, append-nil}
-use Prim.Native.Nat.{ℕ, zero, suc, ◌+◌, ◌-◌, ◌<◌}
+use Prim.Native.Nat.{ℕ, zero, suc, ◌+◌, ◌<◌}
 use native.Mathlib.Nat.{add-zero}
 use native.Mathlib.Omega.{arith}
 use lib.ListN.{length, get_or}
@@ -11,7 +11,6 @@ use Rattle.bits.proofs.Lists.{length-tabulate, get_or-tabulate}
 use Rattle.rules.specs.Signals.{Signals}
 use Rattle.rules.specs.declared.Slot.{Slot}
 use Rattle.rules.specs.Rules.{moved, after, no_signals}
-use Rattle.effects.specs.declared.Event.{Event}
 use Rattle.effects.specs.Scan.{events_from, only, event, wrapped}
 use Rattle.settings.specs.declared.Settings.{Settings}
 use Rattle.settings.specs.declared.Words.{Words}
@@ -26,7 +25,7 @@ use Rattle.reasons.specs.Given.{signs_of}
 use Rattle.reasons.specs.Reasons.{reason_by, reason_of}
 use Rattle.reasons.proofs.Changed.{change_reads_no_timer}
 use Rattle.reasoned.specs.Reasoned.{Reasoned, only_if, reasoned_from, reasoned_scan, reasoned_hold}
-use Rattle.reasoned.specs.Told.{signs_for, with_reason}
+use Rattle.reasoned.specs.Told.{with_reason}
 
 -- ## One scan
 

@@ -16,7 +16,6 @@ use Rattle.block.proofs.RightStates.{right_state_few}
 use Rattle.recording.specs.declared.Answer.TheVariants as A
 use Rattle.recording.specs.Answers.{row_count_of}
 use Rattle.recording.specs.Reader.{reading}
-use Rattle.recording.specs.Accepted.{Accepted}
 use Rattle.rerun.specs.declared.Run.{Run}
 use Rattle.rerun.specs.declared.Turn.{Turn}
 use Rattle.rerun.specs.Replay.{Replay, Outcome, whole, started, replay, first_rows}

@@ -1,6 +1,6 @@
 -- How the rows of a recording are counted, a piece after the other, and how its sums are joined to those of a report. No entry point's
 -- contract cites this page.
-use Rattle.std.specs.Prelude.{ℕ, ◌+◌, ◌*◌, ◌-◌, ◌≤◌, ◌<◌, ◌≡◌, List, get_or}
+use Rattle.std.specs.Prelude.{ℕ, ◌+◌, ◌*◌, ◌≤◌, ◌<◌, ◌≡◌, List, get_or}
 use Rattle.effects.specs.Records.{most_row_bytes}
 use Rattle.settings.specs.Refusals.{unless, granted}
 use Rattle.rerun.specs.declared.Run.{Run}

@@ -1,7 +1,6 @@
 -- `findings::after_section` meets its contract: a count has 16 bits, so that no sum wraps.
 use native.Mathlib.Omega.{arith}
 use Rattle.findings.proofs.Spots.{most_bytes}
-use borrow.Author.Rules.{rules}
 use Rattle.findings.proofs.after_section.Goals as goal
 
 pub overflow_mul-result : goal.overflow_mul-result
@@ -12,6 +11,6 @@ overflow_add-result-2 c = let m = most_bytes c.args.kind c.width_of.result c.cou
 
 pub returns : goal.returns
 returns c = let m = most_bytes c.args.kind c.width_of.result c.count_at.result c.width_of.ensures (omega arith) in record {
-      value = rw (← c.count_at.ensures, ← c.width_of.ensures);
-      upper_bound = omega (arith, m.0);
-    }
+  value = rw (← c.count_at.ensures, ← c.width_of.ensures);
+  upper_bound = omega (arith, m.0);
+}

@@ -1,6 +1,5 @@
 -- `findings::count_at` meets its contract: from the test on the way.
 use borrow.Author.Tests.{le-leb, lt-leb}
-use borrow.Author.Rules.{rules}
 use Rattle.findings.proofs.count_at.Goals as goal
 
 pub returns-then-at-s : goal.returns-then-at-s

@@ -1,6 +1,5 @@
 -- `findings::count_finding` meets its contract: from the test on the way.
 use Rattle.findings.specs.Findings.{finding_in}
-use borrow.Author.Rules.{rules}
 use Rattle.findings.proofs.count_finding.Goals as goal
 
 pub returns-then-is_there : goal.returns-then-is_there

@@ -3,7 +3,6 @@ use mathlib.Core.Path.{refl}
 use borrow.Author.Tests.{lt-leb, le-leb}
 use Rattle.findings.specs.Faults.{effect_fault}
 use Rattle.findings.proofs.Chains.{stops, goes_on, fails, holds}
-use borrow.Author.Rules.{rules}
 use Rattle.findings.proofs.effect_fault.Goals as goal
 
 pub returns-then-e-lt1 : goal.returns-then-e-lt1

@@ -4,7 +4,6 @@ use Prim.Native.Nat.{◌+◌}
 use lib.ListN.{length}
 use borrow.Author.Tests.{leb-true}
 use Rattle.findings.specs.Findings.{finding_in}
-use borrow.Author.Rules.{rules}
 use Rattle.findings.proofs.entry_finding.Goals as goal
 
 pub fault_at-fault-requires : goal.fault_at-fault-requires

@@ -4,7 +4,6 @@ use Rattle.recording.specs.declared.Reading.{Reading}
 use Rattle.recording.specs.Answers.{row_count_of}
 use Rattle.rerun.proofs.Files.{refused_replay}
 use Rattle.findings.specs.Findings.{explanation, explained}
-use borrow.Author.Rules.{rules}
 use Rattle.findings.proofs.explain.Goals as goal
 
 pub stop_of-stop-requires : goal.stop_of-stop-requires

@@ -1,5 +1,4 @@
 -- `findings::explained_at` meets its contract: its finding is what its callee ensures.
-use borrow.Author.Rules.{rules}
 use Rattle.findings.proofs.explained_at.Goals as goal
 
 pub returns : goal.returns

@@ -1,6 +1,5 @@
 -- `findings::fault_at` meets its contract: from what its callees ensure, section by section.
 use native.Mathlib.Omega.{arith}
-use borrow.Author.Rules.{rules}
 use Rattle.findings.proofs.fault_at.Goals as goal
 
 pub get8-requires : goal.get8-requires

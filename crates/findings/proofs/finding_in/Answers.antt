@@ -1,6 +1,5 @@
 -- `findings::finding_in` meets its contract: each arm answers for its own case.
 use Rattle.findings.specs.Findings.{finding_in}
-use borrow.Author.Rules.{rules}
 use Rattle.findings.proofs.finding_in.Goals as goal
 
 pub returns-in-Count : goal.returns-in-Count

@@ -2,7 +2,6 @@
 use mathlib.Core.Path.{sym, ◌∙◌}
 use Rattle.settings.proofs.Refusals.{granted_refused}
 use Rattle.findings.specs.Findings.{finding_of}
-use borrow.Author.Rules.{rules}
 use Rattle.findings.proofs.finding_of.Goals as goal
 
 pub returns-then-number-eq0 : goal.returns-then-number-eq0

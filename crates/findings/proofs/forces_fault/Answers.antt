@@ -2,7 +2,6 @@
 use borrow.Author.Tests.{lt-leb, le-leb}
 use Rattle.findings.specs.Faults.{forces_fault}
 use Rattle.findings.proofs.Chains.{stops, goes_on, fails, holds}
-use borrow.Author.Rules.{rules}
 use Rattle.findings.proofs.forces_fault.Goals as goal
 
 pub returns-then-w-gt1 : goal.returns-then-w-gt1

@@ -4,7 +4,6 @@ use Prim.Native.Nat.{◌^◌, ◌<◌, ◌≤◌}
 use native.Mathlib.Omega.{arith}
 use lib.Pow.{pow_mono}
 use borrow.Author.Tests.{lt-ltb}
-use borrow.Author.Rules.{rules}
 use Rattle.findings.proofs.has_only.Goals as goal
 
 pub returns-else-n-lt-WORD_BITS : goal.returns-else-n-lt-WORD_BITS

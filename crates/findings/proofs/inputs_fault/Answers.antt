@@ -1,7 +1,6 @@
 -- `findings::inputs_fault` meets its contract: each return has passed the tests before it.
 use Rattle.findings.specs.Faults.{inputs_fault}
 use Rattle.findings.proofs.Chains.{stops, goes_on, fails, holds}
-use borrow.Author.Rules.{rules}
 use Rattle.findings.proofs.inputs_fault.Goals as goal
 
 pub returns-then-not-within : goal.returns-then-not-within

@@ -1,5 +1,4 @@
 -- `findings::is_permitted` meets its contract: from what its callees ensure.
-use borrow.Author.Rules.{rules}
 use Rattle.findings.proofs.is_permitted.Goals as goal
 
 pub returns : goal.returns

@@ -5,7 +5,6 @@ use native.Mathlib.Omega.{arith}
 use lib.ListN.{length}
 use borrow.Author.Tests.{lt-leb}
 use Rattle.findings.proofs.Spots.{there_by_difference}
-use borrow.Author.Rules.{rules}
 use Rattle.findings.proofs.is_there.Goals as goal
 
 pub returns-then-s-w : goal.returns-then-s-w

@@ -1,7 +1,6 @@
 -- `findings::resets_fault` meets its contract: each return has passed the tests before it.
 use Rattle.findings.specs.Faults.{resets_fault}
 use Rattle.findings.proofs.Chains.{stops, goes_on, fails, holds}
-use borrow.Author.Rules.{rules}
 use Rattle.findings.proofs.resets_fault.Goals as goal
 
 pub returns-then-not-has_only : goal.returns-then-not-has_only

@@ -3,7 +3,6 @@ use mathlib.Core.Path.{refl}
 use Rattle.rules.specs.Limits.{between, most_hold}
 use Rattle.findings.specs.Faults.{row_fault}
 use Rattle.findings.proofs.Chains.{stops, goes_on, fails, holds}
-use borrow.Author.Rules.{rules}
 use Rattle.findings.proofs.row_fault.Goals as goal
 
 pub returns-then-not-row : goal.returns-then-not-row

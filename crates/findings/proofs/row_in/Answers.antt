@@ -1,5 +1,4 @@
 -- `findings::row_in` meets its contract: the width is the table's.
-use borrow.Author.Rules.{rules}
 use Rattle.findings.proofs.row_in.Goals as goal
 
 pub returns : goal.returns

@@ -3,7 +3,6 @@ use Prim.Native.Nat.{◌+◌, ◌-◌}
 use native.Mathlib.Omega.{arith}
 use borrow.Author.Tests.{lt-ltb, le-ltb}
 use Rattle.findings.proofs.Spots.{passed_below}
-use borrow.Author.Rules.{rules}
 use Rattle.findings.proofs.spot_in.Goals as goal
 
 pub returns-then-p-first : goal.returns-then-p-first

@@ -1,7 +1,6 @@
 -- `findings::spot_of` meets its contract: from the places after the sections and the tests on the way.
 use mathlib.Core.Path.{sym, ◌∙◌}
 use Rattle.findings.proofs.Spots.{in_block, in_effects, in_rows, past}
-use borrow.Author.Rules.{rules}
 use Rattle.findings.proofs.spot_of.Goals as goal
 
 pub returns-then-p-effects : goal.returns-then-p-effects

@@ -3,7 +3,6 @@ use mathlib.Core.Path.{refl, sym, ap, ◌∙◌}
 use mathlib.Core.List.{[], ◌∷◌}
 use native.Mathlib.Omega.{arith}
 use lib.ListN.{length}
-use borrow.Author.Rules.{rules}
 use Rattle.settings.specs.Refusals.{or_else}
 use Rattle.settings.proofs.Refusals.{room_enough, room_short, or_else_alone}
 use Rattle.numbers.specs.Numbers.{check_bytes, numbers}

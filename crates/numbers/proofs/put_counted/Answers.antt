@@ -2,7 +2,6 @@
 use mathlib.Core.Path.{refl, sym, ap, ◌∙◌}
 use native.Mathlib.Omega.{arith}
 use lib.ListN.{length}
-use borrow.Author.Rules.{rules}
 use Rattle.settings.specs.Refusals.{or_else}
 use Rattle.settings.proofs.Refusals.{room_enough, room_short, or_else_alone}
 use Rattle.numbers.specs.Numbers.{totals_bytes, numbers, crossing}

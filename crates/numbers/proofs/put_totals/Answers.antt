@@ -3,7 +3,6 @@ use mathlib.Core.Path.{refl, ◌∙◌}
 use mathlib.Core.List.{[], ◌∷◌}
 use Prim.Native.Nat.{◌*◌}
 use native.Mathlib.Omega.{arith}
-use borrow.Author.Rules.{rules}
 use Rattle.numbers.specs.Numbers.{number_bytes, numbers, crossing}
 use Rattle.numbers.proofs.Stores.{length-numbers, numbers_then, fits, stays}
 use Rattle.numbers.proofs.put_totals.Goals as goal

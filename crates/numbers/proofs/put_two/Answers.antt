@@ -2,7 +2,6 @@
 use mathlib.Core.Path.{refl, ap, ◌∙◌}
 use mathlib.Core.List.{[], ◌∷◌}
 use lib.Seq.{sets}
-use borrow.Author.Rules.{rules}
 use Rattle.numbers.proofs.Stores.{one_number, numbers_then}
 use Rattle.numbers.proofs.put_two.Goals as goal
 

@@ -1,6 +1,5 @@
 -- `reasoned::sight_at` meets its contract: the row at the run's place is the next one.
 use mathlib.Core.Path.{◌∙◌}
-use borrow.Author.Rules.{rules}
 use Rattle.reasons.specs.Given.{sight_of}
 use Rattle.reasoned.proofs.sight_at.Goals as goal
 

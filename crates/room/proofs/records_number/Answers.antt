@@ -5,7 +5,6 @@ use native.Mathlib.Nat.{mul-le-mul, mul-le-mul_left}
 use native.Mathlib.Omega.{arith}
 use mathlib.Core.List.{List}
 use lib.ListN.{length}
-use borrow.Author.Rules.{rules}
 use Rattle.effects.specs.Records.{record_length, most_records}
 use Rattle.cells.specs.declared.Plan.{Plan}
 use Rattle.plans.specs.Plans.{plan_of}

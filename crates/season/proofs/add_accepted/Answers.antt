@@ -1,6 +1,5 @@
 -- `season::add_accepted` meets its contract: 9 before anything is counted.
 use mathlib.Core.Path.{ap, sym, ◌∙◌}
-use borrow.Author.Rules.{rules}
 use Rattle.recording.specs.Answers.{place}
 use Rattle.rerun.specs.declared.Stop.{Stop}
 use Rattle.season.proofs.Answers.{refused_added}

@@ -1,6 +1,5 @@
 -- `season::count_piece` meets its contract, by the laws of `Loop`.
 use native.Mathlib.Omega.{arith}
-use borrow.Author.Rules.{rules}
 use Rattle.season.proofs.Loop.{piece_ready, records_grow, waiting, piece_counted}
 use Rattle.season.proofs.count_piece.Goals as goal
 

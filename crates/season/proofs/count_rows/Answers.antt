@@ -1,8 +1,5 @@
 -- `season::count_rows` meets its contract. The loop's invariant is `Tallying`: the count is that of the events of the rows so far.
-use Prim.Native.Nat.{◌-◌}
 use native.Mathlib.Omega.{arith}
-use Rattle.tally.specs.Tally.{count_of}
-use Rattle.season.specs.Rows.{Tallying}
 use Rattle.season.proofs.Loop.{all-counted}
 use Rattle.season.proofs.count_rows.Goals as goal
 

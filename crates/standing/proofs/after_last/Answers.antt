@@ -1,6 +1,5 @@
 -- `standing::after_last` meets its contract, by the laws of `Rows` and `Last`.
 use native.Mathlib.Omega.{arith}
-use borrow.Author.Rules.{rules}
 use Rattle.reasoned.proofs.Rows.{next_row}
 use Rattle.standing.proofs.Rows.{few_planned, narrow, row_ready, records_grow, recorded}
 use Rattle.standing.proofs.Last.{more, stands}

@@ -1,8 +1,6 @@
 -- `standing::at_end` meets its contract: the rows before the last are run, and then the last.
 use mathlib.Core.Path.{refl, ap}
-use Prim.Native.Nat.{◌≤◌}
 use native.Mathlib.Omega.{arith}
-use borrow.Author.Rules.{rules}
 use Rattle.recording.specs.Answers.{number, row_count_of}
 use Rattle.rerun.proofs.Turns.{few_effects}
 use Rattle.standing.proofs.Last.{some-row, ready_before, one_left}

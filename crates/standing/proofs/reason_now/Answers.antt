@@ -1,5 +1,4 @@
 -- `standing::reason_now` meets its contract, from what its callees ensure.
-use borrow.Author.Rules.{rules}
 use Rattle.standing.proofs.reason_now.Goals as goal
 
 pub returns : goal.returns

@@ -1,5 +1,4 @@
 -- `standing::tell` meets its contract.
-use borrow.Author.Rules.{rules}
 use borrow.Author.Tests.{le-leb, lt-leb}
 use Rattle.standing.proofs.tell.Goals as goal
 

@@ -1,16 +1,12 @@
 -- `standing::tell_all` meets its contract. The loop's invariant: with the events that are left, of any whose records these are, the slots
 -- would be those after all of them.
-use mathlib.Core.Path.{◌≡◌, refl, sym, ◌∙◌}
+use mathlib.Core.Path.{◌≡◌}
 use mathlib.Core.List.{List}
-use Prim.Native.Nat.{◌*◌, ◌-◌, ◌≤◌}
-use native.Mathlib.Omega.{arith}
-use lib.ListN.{length, drop, get_or}
-use Rattle.rules.specs.Limits.{most_effects}
+use Prim.Native.Nat.{◌-◌, ◌≤◌}
+use lib.ListN.{length, drop}
 use Rattle.effects.specs.declared.Event.{Event}
-use Rattle.effects.specs.Records.{record_length, StandFrom}
-use Rattle.effects.proofs.Records.{no_event, nth, one_event, numbered_at}
+use Rattle.effects.specs.Records.{StandFrom}
 use Rattle.standing.specs.Stands.{told_all}
-use Rattle.standing.proofs.Records.{left_told, none_left}
 use Rattle.standing.proofs.tell_all.Given as goal
 
 abbrev pub invariant-loop-i : goal.invariant-loop-i

@@ -5,7 +5,6 @@ use Prim.Native.Nat.{ℕ, ◌+◌, ◌-◌}
 use native.Mathlib.Omega.{arith}
 use lib.ListN.{get_or}
 use lib.Seq.{get_or-set_other}
-use borrow.Author.Rules.{rules}
 use Rattle.tally.specs.Tally.{slot_of, state_sum, trip_sum, code_in, since_of, count_of}
 use Rattle.tally.proofs.count_event.Goals as goal
 

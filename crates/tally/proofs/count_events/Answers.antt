@@ -1,14 +1,14 @@
 -- `tally::count_events` meets its contract. The loop's invariant: of the events whose records these are, with those that are left the count
 -- would be whole, and they can be counted.
-use mathlib.Core.Path.{◌≡◌, refl, sym, ◌∙◌}
+use mathlib.Core.Path.{◌≡◌, sym, ◌∙◌}
 use mathlib.Core.List.{List}
-use Prim.Native.Nat.{◌*◌, ◌-◌, ◌≤◌}
+use Prim.Native.Nat.{◌*◌}
 use native.Mathlib.Omega.{arith}
-use lib.ListN.{length, drop, get_or}
+use lib.ListN.{length, get_or}
 use Rattle.effects.specs.declared.Event.{Event}
 use Rattle.effects.specs.Records.{record_length, StandFrom}
 use Rattle.effects.proofs.Records.{no_event, nth, one_event}
-use Rattle.tally.specs.Tally.{count_of, counted, AllCountable}
+use Rattle.tally.specs.Tally.{count_of}
 use Rattle.tally.proofs.Counting.{left_counted, left_countable, none_left}
 use Rattle.tally.proofs.count_events.Goals as goal
 

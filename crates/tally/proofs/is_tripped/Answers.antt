@@ -1,7 +1,6 @@
 -- `tally::is_tripped` meets its contract.
 use mathlib.Core.Path.{sym, ap, ◌∙◌}
 use native.Mathlib.Omega.{arith}
-use borrow.Author.Rules.{rules}
 use Rattle.bits.specs.Words.{one}
 use Rattle.tally.proofs.is_tripped.Goals as goal
 

@@ -1,0 +1,7 @@
+-- `summaries::is_quoted` meets its contract: four bytes, each looked for.
+use native.Mathlib.Omega.{arith}
+use borrow.Author.Rules.{rules}
+use Rattle.summaries.proofs.is_quoted.Goals as goal
+
+pub returns : goal.returns
+returns c = simp (c.has_byte-4.ensures, c.has_byte-3.ensures, c.has_byte-2.ensures, c.has_byte.ensures)
