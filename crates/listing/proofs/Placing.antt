@@ -1,24 +1,18 @@
 -- A piece at a place of a lent buffer: what is answered where the buffer is full, and where it is not.
 use mathlib.Core.Path.{◌≡◌, refl, sym, ◌∙◌}
-use mathlib.Core.Bool.{Bool, true, false, not}
+use mathlib.Core.Bool.{Bool, true, false}
 use mathlib.Core.List.{List}
-use Prim.Native.Nat.{ℕ, zero, suc, ◌+◌, ◌-◌, ◌*◌, ◌≤◌, ◌<◌}
+use Prim.Native.Nat.{ℕ, ◌+◌, ◌-◌, ◌≤◌, ◌<◌}
 use native.Mathlib.Omega.{arith}
-use borrow.Author.Tests.{not-true, not-false, leb-true, leb-false, le-leb, lt-leb}
+use borrow.Author.Tests.{leb-true, leb-false, le-leb, lt-leb}
 use lib.Dec.{leb}
 use lib.ListN.{length}
-use lib.Seq.{sets, length-sets}
-use Rattle.effects.specs.declared.Event.{Event}
-use Rattle.effects.specs.Records.{record_length, bytes, StandFrom, most_records, most_row_bytes}
-use Rattle.effects.proofs.Records.{front_bytes}
-use Rattle.settings.specs.Refusals.{granted}
+use lib.Seq.{sets}
 use Rattle.rerun.specs.declared.Run.{Run}
 use Rattle.rerun.specs.declared.Turn.{Turn}
-use Rattle.rerun.specs.Replay.{first_rows, row_run}
 use Rattle.rerun.specs.Turn.{Going, RowDone}
 use Rattle.listing.specs.declared.Piece.{Piece}
 use Rattle.text.specs.Room.{most_piece}
-use Rattle.text.specs.Text.{lines}
 use Rattle.listing.specs.Printed.{has_room, placed, written, row_lines, PrintedRow}
 use Rattle.bits.proofs.Puts.{Put}
 
@@ -38,32 +32,32 @@ less_a_piece n at h = go (leb at (n - most_piece)) refl
 -- ## The answers
 
 module _ (out : List ℕ) (at : ℕ) (b : Bool) (is : b ≡ has_room (length out) at) where
-  pub fits : not b ≡ false → at + most_piece ≤ length out
-  fits h = leb-true (at + most_piece) (length out) (sym is ∙ not-false b h)
+  pub fits : b ≡ true → at + most_piece ≤ length out
+  fits h = leb-true (at + most_piece) (length out) (sym is ∙ h)
 
   module _ (text : List ℕ) where
-    pub full : not b ≡ true → (◌≡◌ {A = Piece} (record { full = true; at = at }) (written (length out) at text)) × (out ≡ placed out at text)
-    full h = let e = sym is ∙ not-true b h in (rw e, rw e)
+    pub full : b ≡ false → (◌≡◌ {A = Piece} (record { full = true; at = at }) (written (length out) at text)) × (out ≡ placed out at text)
+    full h = let e = sym is ∙ h in (rw e, rw e)
 
-    pub whole : not b ≡ false → (out' : List ℕ) (r : ℕ) → r ≡ at + length text → out' ≡ sets out at text
+    pub whole : b ≡ true → (out' : List ℕ) (r : ℕ) → r ≡ at + length text → out' ≡ sets out at text
         → (◌≡◌ {A = Piece} (record { full = false; at = r }) (written (length out) at text)) × (out' ≡ placed out at text)
-    whole h out' r p q = let e = sym is ∙ not-false b h in (rw (e, p), rw e q)
+    whole h out' r p q = let e = sym is ∙ h in (rw (e, p), rw e q)
 
   -- ## A row
 
   module _ {s : List ℕ} {run : Run} {why : Bool} where
     -- where the buffer is full, the row is not run
-    pub full_row : {array : List ℕ} → Going s run array → not b ≡ true
+    pub full_row : {array : List ℕ} → Going s run array → b ≡ false
         → PrintedRow why s run at out (record { full = true; at = at; turn = record { number = 0; records = 0; run = run } }) array out
     full_row g h =
-        let e = sym is ∙ not-true b h in
+        let e = sym is ∙ h in
         record { full_is = rw e; at-is = rw e; within = λ l. l; text = rw e; number_is = rw e; records_are = rw e; going = g; rows_are = rw e }
 
     -- where there is room, the row is run, and results in u
-    pub whole_row : {space space' array' out' : List ℕ} {u : Turn} {r : ℕ} → RowDone s run space u array' space' → not b ≡ false
+    pub whole_row : {space space' array' out' : List ℕ} {u : Turn} {r : ℕ} → RowDone s run space u array' space' → b ≡ true
         → Put out out' at r (row_lines why s run.rows) → r ≤ length out → PrintedRow why s run at out (record { full = false; at = r; turn = u }) array' out'
     whole_row d h p l =
-        let e = sym is ∙ not-false b h in
+        let e = sym is ∙ h in
         record {
           full_is = rw e;
           at-is = rw e p.0;

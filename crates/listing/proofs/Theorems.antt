@@ -14,7 +14,7 @@ use Rattle.recording.specs.Answers.{number, place, row_count_of}
 use Rattle.recording.specs.Reader.{reading}
 use Rattle.recording.specs.Accepted.{Accepted}
 use Rattle.rerun.specs.declared.Turn.{Turn}
-use Rattle.rerun.specs.Replay.{Replay, Outcome, whole, started, replay, answered, first_rows, row_run, events_of}
+use Rattle.rerun.specs.Replay.{Replay, Outcome, replay, answered, first_rows, row_run, events_of}
 use Rattle.rerun.specs.Turn.{answer_of}
 use Rattle.rerun.proofs.Files.{by_rows, all_the_rows, counted, next-number, no_rows, none_refused_before, refused_gives_nothing}
 use Rattle.rerun.proofs.Theorems.{events_are_the_rows_joined}

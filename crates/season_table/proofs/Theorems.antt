@@ -79,7 +79,7 @@ files_are_counted t (s ∷ ss) =
 
 few_effects : (t : Table) → t.effects ≤ most_effects → (ss : List (List ℕ)) → (table_from t ss).effects ≤ most_effects
 few_effects t h [] = h
-few_effects t h (s ∷ ss) = few_effects _ (effects_stay_few t (added_to t.report s) h (added_few t.report s)) ss
+few_effects t h (s ∷ ss) = few_effects (with_file t (added_to t.report s)) (effects_stay_few t (added_to t.report s) h (added_few t.report s)) ss
 
 one_behind : (t : Table) (ss : List (List ℕ)) (s : List ℕ) → table_from t (ss ++ (s ∷ [])) ≡ with_file (table_from t ss) (added_to (table_from t ss).report s)
 one_behind t [] s = refl

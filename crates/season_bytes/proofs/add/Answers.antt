@@ -1,0 +1,28 @@
+-- `season_bytes::add` meets its contract: 10 after what refuses the recording itself; else the season's refusal, or the report after it.
+use mathlib.Core.Path.{ap, ◌∙◌}
+use Rattle.season.specs.declared.Report.{Report}
+use Rattle.season.specs.Season.{added_to}
+use Rattle.season_bytes.proofs.Answers.{too_few, refused_in_room, added_in_room}
+use Rattle.season_bytes.proofs.add.Goals as goal
+
+pub returns-then-bytes-lt-REPORT_BYTES : goal.returns-then-bytes-lt-REPORT_BYTES
+returns-then-bytes-lt-REPORT_BYTES c =
+    let a = c.args in
+    let w = too_few a.s.now a.bytes.now _ c.if-bytes-lt-REPORT_BYTES.true c.without_room.ensures in
+    record { value = w.0; bytes_after = w.1 }
+
+pub returns-then-added-ne0 : goal.returns-then-added-ne0
+returns-then-added-ne0 c =
+    let a = c.args in
+    -- the recording was added to the report that was read
+    let was_added = c.add-added.ensures ∙ ap (λ (r : Report). added_to r a.s.now) c.report_at-before.ensures in
+    let w = refused_in_room a.s.now a.bytes.now c.if-bytes-lt-REPORT_BYTES.false _ was_added c.if-added-ne0.true in
+    record { value = w.0; bytes_after = w.1 }
+
+pub returns : goal.returns
+returns c =
+    let a = c.args in
+    -- the recording was added to the report that was read
+    let was_added = c.add-added.ensures ∙ ap (λ (r : Report). added_to r a.s.now) c.report_at-before.ensures in
+    let w = added_in_room a.s.now a.bytes.now c.if-bytes-lt-REPORT_BYTES.false _ was_added c.if-added-ne0.false _ c.put_report.ensures in
+    record { value = w.0; bytes_after = w.1 }
