@@ -244,6 +244,7 @@ fn put_link<R: Env>(rt: &R, i: usize, path: &mut [u8; LINK_BYTES]) -> usize
     ensures { result ≤ length path.new }
 {
     match rt.var(LINKS, &mut path[..FOLDER_BYTES]) {
+        Ok(0) => 0,
         Ok(size) => {
             let end = bits::put_text(path, size, b"/");
             bits::put_decimal(path, end, i as u64)

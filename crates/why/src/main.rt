@@ -68,7 +68,8 @@ fn answer_under<R: Print + Errors>(
 
 // ---- named recordings
 
-// Answers the recording of a name, which is argument i, under a heading if several are named. If it cannot be read, `inputs` has said so, and it has no heading.
+// Answers the recording of a name, which is argument i, under a heading if several are named. If it cannot be read, `inputs` has said so, and
+// it has no heading.
 fn answer_named<R: Files + Env + Input + Print + Errors>(
     rt: &R,
     asked: Asked,
