@@ -71,8 +71,8 @@ impl Errors for HostRuntime {
     }
 }
 
-// The errors of the system that are found here: a text that is no argument, one that is longer than its buffer, and a name that is no
-// UTF-8, which std opens no file by.
+// The errors of the system that are found here: an argument that is not there, one that is longer than its buffer, and a name that is no
+// UTF-8 and has no link.
 const EINVAL: i32 = 22;
 
 const ENAMETOOLONG: i32 = 36;
@@ -230,35 +230,80 @@ fn read_standard<R: io::Input + Errors>(rt: &R, program: &[u8], file: &mut [u8])
     input_of(rt, program, b"standard input", got)
 }
 
-// A name as text, which std has all names of files as.
-fn text_of(name: &[u8]) -> io::Result<&str> {
+// The variable of the environment that names a folder of links. std opens a file by a name that is UTF-8 alone; a file of another name is
+// opened by the link that is named as its argument is numbered. The command that starts the program makes the links.
+const LINKS: &str = "POHANDIRA_LINKS";
+
+// The most bytes of a link's name: those of its folder, a slash, and a number.
+const LINK_BYTES: usize = 4117;
+
+const FOLDER_BYTES: usize = 4096;
+
+// Puts the name of the link for argument i at the front of a lent buffer, and answers its length, or 0 if there are no links.
+fn put_link<R: Env>(rt: &R, i: usize, path: &mut [u8; LINK_BYTES]) -> usize
+    ensures { result ≤ length path.new }
+{
+    match rt.var(LINKS, &mut path[..FOLDER_BYTES]) {
+        Ok(0) => 0,
+        Ok(size) => {
+            let end = bits::put_text(path, size, b"/");
+            bits::put_decimal(path, end, i as u64)
+        }
+        Err(_) => 0,
+    }
+}
+
+// Opens the file of argument i by its link.
+fn open_link<R: Files + Env>(rt: &R, i: usize) -> io::Result<R::File> {
+    let mut path = [0u8; LINK_BYTES];
+    let size = put_link(rt, i, &mut path);
+    match str::from_utf8(&path[..size]) {
+        Ok(text) if size > 0 => File::open(rt, text),
+        _ => Err(Error::from_raw_os_error(EILSEQ)),
+    }
+}
+
+// Opens the file that argument i names.
+fn open<R: Files + Env>(rt: &R, i: usize, name: &[u8]) -> io::Result<R::File> {
     match str::from_utf8(name) {
-        Ok(text) => Ok(text),
-        Err(_) => Err(Error::from_raw_os_error(EILSEQ)),
+        Ok(text) => File::open(rt, text),
+        Err(_) => open_link(rt, i),
     }
 }
 
 // Opens a file, reads it and closes it.
-fn open_and_read<R: Files>(rt: &R, name: &[u8], file: &mut [u8]) -> io::Result<usize>
+fn open_and_read<R: Files + Env>(
+    rt: &R,
+    i: usize,
+    name: &[u8],
+    file: &mut [u8],
+) -> io::Result<usize>
     ensures { IfOk result (λ n. n ≤ length file.new) × (length file.new ≡ length file.old) }
 {
-    let mut opened = File::open(rt, text_of(name)?)?;
+    let mut opened = open(rt, i, name)?;
     read(&mut opened, file)
 }
 
 // Reads a file.
-fn read_file<R: Files + Errors>(rt: &R, program: &[u8], name: &[u8], file: &mut [u8]) -> Input
+fn read_file<R: Files + Env + Errors>(
+    rt: &R,
+    program: &[u8],
+    i: usize,
+    name: &[u8],
+    file: &mut [u8],
+) -> Input
     requires { (length program.now ≤ most_program) × (length name.now ≤ most_name) }
     ensures { (result.size ≤ length file.new) × (length file.new ≡ length file.old) }
 {
-    let got = open_and_read(rt, name, file);
+    let got = open_and_read(rt, i, name, file);
     input_of(rt, program, name, got)
 }
 
-// Reads the input that a name stands for. If it cannot be read, standard error says so.
-pub fn read_named<R: Files + io::Input + Errors>(
+// Reads the input that a name stands for, which is argument i or stands for none. If it cannot be read, standard error says so.
+pub fn read_named<R: Files + Env + io::Input + Errors>(
     rt: &R,
     program: &[u8],
+    i: usize,
     name: &[u8],
     file: &mut [u8],
 ) -> Input
@@ -268,7 +313,7 @@ pub fn read_named<R: Files + io::Input + Errors>(
     if is_standard(name) {
         read_standard(rt, program, file)
     } else {
-        read_file(rt, program, name, file)
+        read_file(rt, program, i, name, file)
     }
 }
 

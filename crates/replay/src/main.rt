@@ -29,6 +29,9 @@ const PROGRAM: [u8; 8] = *b"replay: ";
 // How many arguments there are where one name is given.
 const ONE_NAME: usize = 3;
 
+// The place of standard input among the arguments where none names it.
+const NO_NAME: usize = 0;
+
 // ---- one recording
 
 // A listing under a heading with its name. Without the heading nobody could tell whose listing it is, so it then is not written.
@@ -105,18 +108,19 @@ fn answer<R: Print + Errors>(
 
 // ---- named recordings
 
-// Answers the recording of a name. If it cannot be read, `inputs` has said so, and it has no line and no heading.
-fn answer_named<R: Files + Input + Print + Errors>(
+// Answers the recording of a name, which is argument i. If it cannot be read, `inputs` has said so, and it has no line and no heading.
+fn answer_named<R: Files + Env + Input + Print + Errors>(
     rt: &R,
     asked: Asked,
     several: bool,
+    i: usize,
     name: &[u8],
     file: &mut [u8],
     out: &mut [u8],
 ) -> u8
     requires { InputRoom name.now file.old × Printing out.old }
 {
-    let input = inputs::read_named(rt, &PROGRAM, name, file);
+    let input = inputs::read_named(rt, &PROGRAM, i, name, file);
     if !input.good {
         return UNREAD;
     }
@@ -141,7 +145,7 @@ fn answer_argument<R: Files + Env + Input + Print + Errors>(
         return UNREAD;
     }
     let size = argument.size;
-    answer_named(rt, asked, several, &name[0..size], file, out)
+    answer_named(rt, asked, several, i, &name[0..size], file, out)
 }
 
 // Answers all recordings that are named by arguments; a failed output ends the run.
@@ -213,7 +217,7 @@ fn answer_each<R: Files + Env + Input + Print + Errors>(
         return status;
     }
     if inputs::argument_count(rt) <= FIRST_NAME {
-        return answer_named(rt, asked, false, b"-", file, out);
+        return answer_named(rt, asked, false, NO_NAME, b"-", file, out);
     }
     answer_all(rt, asked, name, file, out)
 }

@@ -26,6 +26,9 @@ struct Adding {
 // The name that messages begin with.
 const PROGRAM: [u8; 8] = *b"season: ";
 
+// The place of standard input among the arguments where none names it.
+const NO_NAME: usize = 0;
+
 // ---- one recording
 
 // How adding a recording ended. If it is refused, that is said with its name.
@@ -72,10 +75,11 @@ fn unread(before: Adding) -> Adding
 
 // ---- named recordings
 
-// Adds the recording of a name.
-fn add_named<R: Files + Input + Errors>(
+// Adds the recording of a name, which is argument i.
+fn add_named<R: Files + Env + Input + Errors>(
     rt: &R,
     before: Adding,
+    i: usize,
     name: &[u8],
     file: &mut [u8],
     out: &mut [u8],
@@ -83,7 +87,7 @@ fn add_named<R: Files + Input + Errors>(
     requires { InputRoom name.now file.old × (most_report ≤ length out.old) × Countable before.table }
     ensures { Grown before.table result.table }
 {
-    let input = inputs::read_named(rt, &PROGRAM, name, file);
+    let input = inputs::read_named(rt, &PROGRAM, i, name, file);
     if !input.good {
         return unread(before);
     }
@@ -108,7 +112,7 @@ fn add_argument<R: Files + Env + Input + Errors>(
         return unread(before);
     }
     let size = argument.size;
-    add_named(rt, before, &name[0..size], file, out)
+    add_named(rt, before, i, &name[0..size], file, out)
 }
 
 // No file yet.
@@ -154,7 +158,7 @@ fn add_each<R: Files + Env + Input + Errors>(
     ensures { Over result.table }
 {
     if inputs::argument_count(rt) <= FIRST_NAME {
-        return add_named(rt, nothing(), b"-", file, out);
+        return add_named(rt, nothing(), NO_NAME, b"-", file, out);
     }
     add_all(rt, name, file, out)
 }

@@ -26,6 +26,9 @@ const PROGRAM: [u8; 5] = *b"why: ";
 // How many arguments there are where one name is given.
 const ONE_NAME: usize = 3;
 
+// The place of standard input among the arguments where none names it.
+const NO_NAME: usize = 0;
+
 // ---- one recording
 
 // Prints how all effects stand after the last scan.
@@ -65,18 +68,20 @@ fn answer_under<R: Print + Errors>(
 
 // ---- named recordings
 
-// Answers the recording of a name, under a heading if several are named. If it cannot be read, `inputs` has said so, and it has no heading.
-fn answer_named<R: Files + Input + Print + Errors>(
+// Answers the recording of a name, which is argument i, under a heading if several are named. If it cannot be read, `inputs` has said so, and
+// it has no heading.
+fn answer_named<R: Files + Env + Input + Print + Errors>(
     rt: &R,
     asked: Asked,
     several: bool,
+    i: usize,
     name: &[u8],
     file: &mut [u8],
     out: &mut [u8],
 ) -> u8
     requires { InputRoom name.now file.old × Printing out.old }
 {
-    let input = inputs::read_named(rt, &PROGRAM, name, file);
+    let input = inputs::read_named(rt, &PROGRAM, i, name, file);
     if !input.good {
         return UNREAD;
     }
@@ -104,7 +109,7 @@ fn answer_argument<R: Files + Env + Input + Print + Errors>(
         return UNREAD;
     }
     let size = argument.size;
-    answer_named(rt, asked, several, &name[0..size], file, out)
+    answer_named(rt, asked, several, i, &name[0..size], file, out)
 }
 
 // Answers all recordings that are named by arguments; a failed output ends the run.
@@ -155,7 +160,7 @@ fn answer_each<R: Files + Env + Input + Print + Errors>(
     requires { InputRoom name.old file.old × Printing out.old }
 {
     if inputs::argument_count(rt) <= FIRST_NAME {
-        return answer_named(rt, asked, false, b"-", file, out);
+        return answer_named(rt, asked, false, NO_NAME, b"-", file, out);
     }
     answer_all(rt, asked, name, file, out)
 }
