@@ -1,11 +1,11 @@
 -- Lines at the front of a buffer, and the room that they take.
 use mathlib.Core.Path.{◌≡◌, sym}
 use mathlib.Core.List.{List, ◌++◌, append_assoc}
-use Prim.Native.Nat.{ℕ, ◌+◌, ◌^◌, ◌≤◌, ◌<◌}
+use Prim.Native.Nat.{ℕ, ◌^◌, ◌≤◌, ◌<◌}
 use native.Mathlib.Omega.{arith}
 use lib.ListN.{length, length-append}
 use lib.Seq.{sets, length-sets}
-use Rattle.bits.specs.Decimal.{ascii, decimal}
+use Rattle.bits.specs.Decimal.{ascii}
 use Rattle.bits.proofs.Decimal.{length-decimal, length_of_64_bits}
 use Rattle.text.specs.Pieces.{total}
 use Rattle.bits.proofs.Puts.{Put}

@@ -6,7 +6,6 @@ use Rattle.reports.specs.Reports.{accepted_line}
 use Rattle.bits.proofs.Puts.{put_then}
 use Rattle.reports.proofs.Front.{front, accepted_at_most}
 use native.Mathlib.Omega.{arith}
-use borrow.Author.Rules.{rules}
 use Rattle.reports.proofs.put_accepted.Goals as goal
 
 pub put_decimal-end-requires : goal.put_decimal-end-requires

@@ -1,6 +1,4 @@
 -- `reports::put_check` meets its contract: each answer has its own line.
-use native.Mathlib.Omega.{arith}
-use borrow.Author.Rules.{rules}
 use Rattle.reports.proofs.put_check.Goals as goal
 
 pub returns-in-Accepted : goal.returns-in-Accepted

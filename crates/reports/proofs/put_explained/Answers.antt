@@ -1,5 +1,4 @@
 -- `reports::put_explained` meets its contract: a recording that nothing refuses is accepted; else there are words.
-use borrow.Author.Rules.{rules}
 use Rattle.reports.proofs.Front.{explained_accepted, explained_refused}
 use Rattle.reports.proofs.put_explained.Goals as goal
 

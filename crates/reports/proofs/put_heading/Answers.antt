@@ -5,7 +5,6 @@ use Rattle.reports.specs.Reports.{heading}
 use Rattle.bits.proofs.Puts.{put_then}
 use Rattle.reports.proofs.Front.{front, heading_at_most}
 use native.Mathlib.Omega.{arith}
-use borrow.Author.Rules.{rules}
 use Rattle.reports.proofs.put_heading.Goals as goal
 
 pub returns : goal.returns

@@ -6,7 +6,6 @@ use Rattle.reports.specs.Reports.{refused_line}
 use Rattle.bits.proofs.Puts.{put_then}
 use Rattle.reports.proofs.Front.{front, refused_at_most}
 use native.Mathlib.Omega.{arith}
-use borrow.Author.Rules.{rules}
 use Rattle.reports.proofs.put_refused.Goals as goal
 
 pub returns : goal.returns

@@ -1,7 +1,6 @@
 -- `reports::put_refused_at` meets its contract: two words with their numbers, and a space.
 use mathlib.Core.List.{◌++◌}
 use native.Mathlib.Omega.{arith}
-use borrow.Author.Rules.{rules}
 use Rattle.bits.specs.Decimal.{ascii}
 use Rattle.text.specs.Pieces.{total}
 use Rattle.bits.proofs.Puts.{put_then}

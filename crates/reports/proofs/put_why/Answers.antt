@@ -1,7 +1,6 @@
 -- `reports::put_why` meets its contract: the name, the refusal, its words and LF, one after the other.
 use mathlib.Core.List.{◌++◌}
 use native.Mathlib.Omega.{arith}
-use borrow.Author.Rules.{rules}
 use Rattle.bits.specs.Decimal.{ascii}
 use Rattle.bits.proofs.Puts.{put_then}
 use Rattle.sentences.specs.Sentences.{sentence}

@@ -1,7 +1,6 @@
 -- `sentences::put_count_end` meets its contract: each arm writes the text of its own case.
 use native.Mathlib.Omega.{arith}
 use Rattle.sentences.specs.Sentences.{count_ends}
-use borrow.Author.Rules.{rules}
 use Rattle.sentences.proofs.put_count_end.Goals as goal
 
 pub put_text-requires : goal.put_text-requires

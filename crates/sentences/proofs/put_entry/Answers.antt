@@ -1,7 +1,6 @@
 -- `sentences::put_entry` meets its contract: each arm writes the text of its own case.
 use native.Mathlib.Omega.{arith}
 use Rattle.sentences.specs.Sentences.{entry_name}
-use borrow.Author.Rules.{rules}
 use Rattle.sentences.proofs.put_entry.Goals as goal
 
 pub put_text-requires : goal.put_text-requires

@@ -3,7 +3,6 @@ use mathlib.Core.Path.{refl}
 use native.Mathlib.Omega.{arith}
 use Rattle.sentences.specs.Sentences.{sentence}
 use Rattle.sentences.proofs.Room.{count_ends_most, count_wrong_most, entry_ends_most, entry_wrong_most}
-use borrow.Author.Rules.{rules}
 use Rattle.sentences.proofs.put_finding.Goals as goal
 
 pub put_count_end-requires : goal.put_count_end-requires

@@ -4,7 +4,6 @@ use Rattle.bits.specs.Decimal.{decimal}
 use Rattle.bits.proofs.Puts.{put_then}
 use Rattle.sentences.specs.Sentences.{numbered}
 use Rattle.sentences.proofs.Room.{length-numbered}
-use borrow.Author.Rules.{rules}
 use Rattle.sentences.proofs.put_numbered.Goals as goal
 
 pub put_text-next-requires : goal.put_text-next-requires

@@ -5,7 +5,6 @@ use Rattle.bits.specs.Decimal.{ascii}
 use Rattle.bits.proofs.Puts.{put_then}
 use Rattle.sentences.specs.Sentences.{fault_text, entry_name, entry_wrong}
 use Rattle.sentences.proofs.Room.{length-wrong}
-use borrow.Author.Rules.{rules}
 use Rattle.sentences.proofs.put_wrong.Goals as goal
 
 pub put_entry-named-requires : goal.put_entry-named-requires
