@@ -1,13 +1,12 @@
 -- The text that is shown of a recording: the table of how its effects stand, or the line of its refusal.
 use mathlib.Core.Path.{◌≡◌, refl, sym, ap, ap₂, ◌∙◌}
-use mathlib.Core.List.{List, [], ◌∷◌, ◌++◌}
-use Prim.Native.Nat.{ℕ, zero, suc, ◌+◌, ◌≤◌, ◌<◌}
+use mathlib.Core.List.{List, ◌++◌}
+use Prim.Native.Nat.{ℕ, zero, suc, ◌+◌, ◌≤◌}
 use native.Mathlib.Omega.{arith}
 use lib.ListN.{length, get_or}
 use lib.Seq.{sets}
 use Rattle.bits.specs.Lists.{tabulate}
 use Rattle.bits.proofs.Lists.{get_or-tabulate}
-use Rattle.rules.specs.declared.Slot.{Slot}
 use Rattle.rules.specs.Rules.{no_slot}
 use Rattle.settings.specs.declared.Settings.{Settings}
 use Rattle.settings.proofs.Refusals.{granted_none, granted_refused}
