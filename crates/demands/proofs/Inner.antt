@@ -117,7 +117,6 @@ use Rattle.reports.proofs.put_check.Reads as reports·put-check
 use Rattle.reports.proofs.put_explained.Reads as reports·put-explained
 use Rattle.summaries.proofs.put_summary.Reads as summaries·put-summary
 use Rattle.summaries.proofs.put_summary_header.Reads as summaries·put-summary-header
-use Rattle.wiring.specs.declared.Struck.{Struck}
 use Rattle.wiring.specs.Wiring.{Stroked}
 use Rattle.rerun.specs.Turn.{Totals}
 use Rattle.settings.proofs.Right.{hold_some}

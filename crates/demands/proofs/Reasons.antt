@@ -1,11 +1,8 @@
 -- Reasons, as the page says them: each field follows from a law of `reasons`, of `reasoned` or of the order of refusals.
 use mathlib.Core.Path.{◌≡◌, refl, sym, ap, ◌∙◌}
-use mathlib.Core.Bool.{Bool, true}
-use mathlib.Core.List.{List, []}
+use mathlib.Core.List.{[]}
 use Prim.Native.Nat.{ℕ, zero, suc, ◌-◌}
-use native.Mathlib.Omega.{arith}
 use lib.ListN.{get_or}
-use Rattle.rules.specs.Limits.{between}
 use Rattle.rules.specs.Rules.{no_slot}
 use Rattle.settings.specs.declared.Settings.{Settings}
 use Rattle.settings.specs.declared.Words.{Words}
@@ -13,7 +10,6 @@ use Rattle.settings.specs.Refusals.{granted}
 use Rattle.settings.specs.Signals.{signals_of}
 use Rattle.block.specs.declared.State.{State}
 use Rattle.reasons.specs.declared.Reason.{Reason}
-use Rattle.reasons.specs.Reasons.{reason_of}
 use Rattle.reasons.proofs.Exactly.{reason_fits, fits_only}
 use Rattle.reasons.proofs.Lands.{same_reason_same_state_and_timer}
 use Rattle.reasoned.specs.Reasoned.{reason_at}

@@ -36,11 +36,11 @@ pub record Demand1 : Type 3 where
   pub row_checked_in_order : (k : Known) (row : Row) → row_number k row ≡ first_of (row_cases k row)
   -- a walk, however it was made (`Walk::next`): where the reader refuses its bytes, or its place is no row's first byte, it has ended
   -- and stays as it is
-  pub walk_has_ended : (w : Walk) → let s = now w.bytes in
+  pub walk_has_ended : (w : Walk) → let s = w.bytes.now in
       (Accepted s → ⊥) ⊎ ((i : ℕ) → i < row_count_of (reading s).answer → w.place ≡ row_place s i → ⊥) → (ended (next_of w) ≡ true) × (moved_on w ≡ w)
   -- a walk that is started on refused bytes (`start`): the reader's refusal, and a walk that has ended
-  pub start_has_ended : (s : Bor (List ℕ)) → (Accepted (now s) → ⊥) → let a = (reading (now s)).answer in
-      ((start_of s).answer ≡ a) × Refused (now s) (number a) (place a) × (ended (next_of (start_of s).walk) ≡ true)
+  pub start_has_ended : (s : Bor (List ℕ)) → (Accepted s.now → ⊥) → let a = (reading s.now).answer in
+      ((start_of s).answer ≡ a) × Refused s.now (number a) (place a) × (ended (next_of (start_of s).walk) ≡ true)
   -- the row at a place (`row_step`), of any bytes and any place: where no row begins, it has ended
   pub row_step_has_ended : (s : List ℕ) (at : ℕ) → ((i : ℕ) → i < row_count_of (reading s).answer → at ≡ row_place s i → ⊥) → ended (step_at s at) ≡ true
   -- a piece of a listing (`opening`, `closing`) in a buffer without room for any piece: the buffer is full, and no byte is touched
@@ -97,7 +97,7 @@ pub record ByTheRules (st : Settings) (w : Words) (x : State) (out : List ℕ) (
 
 pub record Demand2 : Type 0 where
   -- `Bytes` holds of every slice of bytes, each number below 256: a function that is lent a slice, and does nothing, learns it
-  pub slices_hold_bytes : (κ : Lfts 1) (s : Bor (List ℕ)) (e : _) → each-is-a-byte.Asked κ (s, tt) × (each-is-a-byte.Learnt κ (s, tt) tt e → Bytes (now s))
+  pub slices_hold_bytes : (κ : Lfts 1) (s : Bor (List ℕ)) (e : _) → each-is-a-byte.Asked κ (s, tt) × (each-is-a-byte.Learnt κ (s, tt) tt e → Bytes s.now)
   -- bytes are accepted if and only if they are a recording
   pub accepts_exactly : (s : List ℕ) → Bytes s → Accepted s ↔ Recording s
   -- the answer to a recording is the settings and the rows of which it is made
@@ -105,10 +105,10 @@ pub record Demand2 : Type 0 where
   -- row by row: the step at a row's place gives the row and the next place (`row_step`), and so do the steps of a walk (`start`, `next`)
   pub gives_its_rows : (s : List ℕ) (i : ℕ) → i < row_count_of (reading s).answer → let x = step_at s (row_place s i) in
       (ended x ≡ false) × (step_row x ≡ row_of s i) × (next_place x ≡ row_place s (suc i))
-  pub walk_gives_its_rows : (s : Bor (List ℕ)) → given (row_count_of (reading (now s)).answer) (start_of s).walk ≡ rows_of (now s)
+  pub walk_gives_its_rows : (s : Bor (List ℕ)) → given (row_count_of (reading s.now).answer) (start_of s).walk ≡ rows_of s.now
   -- after the last row a walk has ended, and stays so
-  pub ends_after_the_last : (s : Bor (List ℕ)) → let n = row_count_of (reading (now s)).answer in let w = walked n (start_of s).walk in
-      (ended (step_at (now s) (row_place (now s) n)) ≡ true) × (ended (next_of w) ≡ true) × (moved_on w ≡ w)
+  pub ends_after_the_last : (s : Bor (List ℕ)) → let n = row_count_of (reading s.now).answer in let w = walked n (start_of s).walk in
+      (ended (step_at s.now (row_place s.now n)) ≡ true) × (ended (next_of w) ≡ true) × (moved_on w ≡ w)
   -- the writer gives the opening piece and each row: a piece that is not refused stands at the front of the lent bytes; those past it stay
   pub opening_is_written : (st : Settings) (rows : ℕ) (out : List ℕ) → first_of (opening_cases st rows (length out)) ≡ 0
       → (written_length (opening_written st rows (length out)) ≡ length (opening st rows)) × (opening_after st rows out ≡ opening st rows ++ drop (length (opening st rows)) out)

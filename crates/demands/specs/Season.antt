@@ -16,7 +16,7 @@ use Rattle.trace.specs.States.{states_at, trace}
 use Rattle.season.specs.declared.Report.{Report}
 use Rattle.season.specs.declared.Added.{Added}
 use Rattle.season.specs.Season.{sum_in, added_to}
-use Rattle.season_bytes.specs.Bytes.{report_of, report_bytes, into_number, season_into}
+use Rattle.season_bytes.specs.Bytes.{report_of, report_bytes}
 
 -- What a recording adds to each sum (`sum_in`), by the states after each single scan from a fresh state (`trace`); effects count from 0 here
 pub record CountsSingleScans (s : List ℕ) : Type 0 where
