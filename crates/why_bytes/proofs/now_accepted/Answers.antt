@@ -1,0 +1,82 @@
+-- `why_bytes::now_accepted` meets its contract: 9, then 10, or the reasons of all effects.
+use mathlib.Core.Path.{sym, ap, ◌∙◌}
+use mathlib.Core.List.{List, flat_map}
+use Prim.Native.Nat.{ℕ, ◌*◌, ◌<◌, ◌≤◌}
+use native.Mathlib.Omega.{arith}
+use lib.ListN.{length}
+use lib.Seq.{sets}
+use Rattle.bits.specs.Lists.{tabulate}
+use Rattle.settings.specs.declared.Settings.{Settings}
+use Rattle.settings.proofs.Refusals.{room_short}
+use Rattle.reasons.specs.declared.Reason.{Reason}
+use Rattle.recording.specs.Answers.{number}
+use Rattle.recording.specs.Reader.{reading}
+use Rattle.rerun.specs.declared.Stop.{Stop}
+use Rattle.rerun.specs.Replay.{replay}
+use Rattle.rerun.proofs.Turns.{few_effects}
+use Rattle.reason_bytes.specs.Bytes.{numbers_of}
+use Rattle.reasoned.specs.Reasoned.{reasons_now}
+use Rattle.standing.specs.Stands.{reason_now}
+use Rattle.standing.proofs.Theorems.{the_reasons_now}
+use Rattle.why_bytes.specs.Bytes.{reason_length}
+use Rattle.why_bytes.proofs.Answers as answers
+use Rattle.why_bytes.proofs.now_accepted.Goals as goal
+
+-- ## What is answered
+
+abbrev due : List ℕ → ℕ
+due file = reason_length * (reading file).settings.count
+
+abbrev bytes : List ℕ → List ℕ
+bytes file = flat_map numbers_of (reasons_now file)
+
+-- ## The goals
+
+pub returns-then-stop-ne0 : goal.returns-then-stop-ne0
+returns-then-stop-ne0 c =
+    let file = c.args.s.now in
+    let out = c.args.out.now in
+    let number_is = ap (λ (x : Stop). x.number) c.stop_of-stop.ensures in
+    let w = answers.refused-first (replay file).number (due file) out (bytes file) _ number_is c.if-stop-ne0.true in
+    record { value = w.0; out_after = w.1 }
+
+pub returns-then-out-st : goal.returns-then-out-st
+returns-then-out-st c =
+    let file = c.args.s.now in
+    let out = c.args.out.now in
+    let number_is = ap (λ (x : Stop). x.number) c.stop_of-stop.ensures in
+    -- from where the replay is known to be whole
+    let whole = sym number_is ∙ c.if-stop-ne0.false in
+    let count-is = ap (λ (x : Settings). x.count) c.requires.1 in
+    let short : length out < due file = omega (arith, c.if-out-st.true, count-is) in
+    let w = answers.refused_room (replay file).number (due file) out (bytes file) whole 10 (sym (room_short (due file) (length out) short)) (λ z. omega (arith, z)) in
+    record { value = w.0; out_after = w.1 }
+
+pub at_end-x-requires : goal.at_end-x-requires
+at_end-x-requires c =
+    let number_is = ap (λ (x : Stop). x.number) c.stop_of-stop.ensures in
+    let whole = sym number_is ∙ c.if-stop-ne0.false in
+    (c.requires.0, c.requires.1, whole)
+
+pub put_effects-requires : goal.put_effects-requires
+put_effects-requires c =
+    let a = c.args in
+    (few_effects a.s.now a.st a.rows a.first a.width c.requires.0 c.requires.1, c.if-out-st.false)
+
+pub returns : goal.returns
+returns c =
+    let file = c.args.s.now in
+    let out = c.args.out.now in
+    let number_is = ap (λ (x : Stop). x.number) c.stop_of-stop.ensures in
+    let whole = sym number_is ∙ c.if-stop-ne0.false in
+    let count-is = ap (λ (x : Settings). x.count) c.requires.1 in
+    let enough : due file ≤ length out = omega (arith, c.if-out-st.false, count-is) in
+    let x = c.at_end-x.result in
+    let all = the_reasons_now (ap number c.requires.0) whole c.at_end-x.ensures in
+    let w =
+    answers.crosses (replay file).number (due file) out (bytes file) whole enough _
+    (c.put_effects.ensures
+    ∙ ap (λ (st : Settings). sets out 0 (flat_map numbers_of (tabulate (reason_now st x) st.count))) c.requires.1
+    ∙ ap (λ (rs : List Reason). sets out 0 (flat_map numbers_of rs)) (sym all))
+    in
+    record { value = w.0; out_after = w.1 }
