@@ -62,7 +62,8 @@ pub fn add(s: &[u8], bytes: &mut [u8]) -> u8
     }
     let before = report_at(bytes);
     let added = before.add(s);
-    if added.number != 0 {
+    let refused = added.number != 0;
+    if refused {
         return added.number;
     }
     let after = added.report;

@@ -11,12 +11,12 @@ returns-then-bytes-lt-REPORT_BYTES c =
     let w = too_few a.s.now a.bytes.now _ c.if-bytes-lt-REPORT_BYTES.true c.without_room.ensures in
     record { value = w.0; bytes_after = w.1 }
 
-pub returns-then-added-ne0 : goal.returns-then-added-ne0
-returns-then-added-ne0 c =
+pub returns-then-refused : goal.returns-then-refused
+returns-then-refused c =
     let a = c.args in
     -- the recording was added to the report that was read
     let was_added = c.add-added.ensures ∙ ap (λ (r : Report). added_to r a.s.now) c.report_at-before.ensures in
-    let w = refused_in_room a.s.now a.bytes.now c.if-bytes-lt-REPORT_BYTES.false _ was_added c.if-added-ne0.true in
+    let w = refused_in_room a.s.now a.bytes.now c.if-bytes-lt-REPORT_BYTES.false _ was_added c.if-refused.true in
     record { value = w.0; bytes_after = w.1 }
 
 pub returns : goal.returns
@@ -24,5 +24,5 @@ returns c =
     let a = c.args in
     -- the recording was added to the report that was read
     let was_added = c.add-added.ensures ∙ ap (λ (r : Report). added_to r a.s.now) c.report_at-before.ensures in
-    let w = added_in_room a.s.now a.bytes.now c.if-bytes-lt-REPORT_BYTES.false _ was_added c.if-added-ne0.false _ c.put_report.ensures in
+    let w = added_in_room a.s.now a.bytes.now c.if-bytes-lt-REPORT_BYTES.false _ was_added c.if-refused.false _ c.put_report.ensures in
     record { value = w.0; bytes_after = w.1 }

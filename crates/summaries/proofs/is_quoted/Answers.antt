@@ -1,6 +1,4 @@
 -- `summaries::is_quoted` meets its contract: four bytes, each looked for.
-use native.Mathlib.Omega.{arith}
-use borrow.Author.Rules.{rules}
 use Rattle.summaries.proofs.is_quoted.Goals as goal
 
 pub returns : goal.returns

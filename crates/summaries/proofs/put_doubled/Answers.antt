@@ -1,13 +1,11 @@
 -- `summaries::put_doubled` meets its contract. The loop's invariant: with the bytes that are left the text would be whole.
-use mathlib.Core.Path.{◌≡◌, refl, sym, ap, ◌∙◌}
-use Prim.Native.Nat.{◌+◌, ◌*◌, ◌-◌, ◌≤◌}
+use mathlib.Core.Path.{sym, ap, ◌∙◌}
 use native.Mathlib.Omega.{arith}
 use lib.ListN.{length, get_or}
 use lib.Seq.{sets, length-sets}
-use borrow.Author.Rules.{rules}
 use Rattle.bits.proofs.Numbers.{sets-append}
-use Rattle.summaries.specs.Summaries.{twice, doubled}
-use Rattle.summaries.proofs.Doubled.{left, left_turn, left_length, left-none}
+use Rattle.summaries.specs.Summaries.{twice}
+use Rattle.summaries.proofs.Doubled.{left_turn, left_length, left-none}
 use Rattle.summaries.proofs.put_doubled.Goals as goal
 
 pub loop-i-preserved : goal.loop-i-preserved

@@ -1,13 +1,10 @@
 -- `summaries::put_doubled` meets its contract. The loop's invariant: with the bytes that are left the text would be whole.
-use mathlib.Core.Path.{◌≡◌, refl, sym, ap, ◌∙◌}
+use mathlib.Core.Path.{◌≡◌}
 use Prim.Native.Nat.{◌+◌, ◌*◌, ◌-◌, ◌≤◌}
-use native.Mathlib.Omega.{arith}
-use lib.ListN.{length, get_or}
-use lib.Seq.{sets, length-sets}
-use borrow.Author.Rules.{rules}
-use Rattle.bits.proofs.Numbers.{sets-append}
-use Rattle.summaries.specs.Summaries.{twice, doubled}
-use Rattle.summaries.proofs.Doubled.{left, left_turn, left_length, left-none}
+use lib.ListN.{length}
+use lib.Seq.{sets}
+use Rattle.summaries.specs.Summaries.{doubled}
+use Rattle.summaries.proofs.Doubled.{left}
 use Rattle.summaries.proofs.put_doubled.Given as goal
 
 abbrev pub invariant-loop-i : goal.invariant-loop-i

@@ -1,6 +1,5 @@
 -- `summaries::put_end` meets its contract: a number is at most 20 digits.
 use native.Mathlib.Omega.{arith}
-use borrow.Author.Rules.{rules}
 use Rattle.summaries.proofs.Fields.{number_at_most}
 use Rattle.summaries.proofs.put_end.Goals as goal
 

@@ -1,7 +1,6 @@
 -- `summaries::put_field` meets its contract: the name between quotes, or as it is.
 use native.Mathlib.Nat.{zero-add}
 use native.Mathlib.Omega.{arith}
-use borrow.Author.Rules.{rules}
 use Rattle.summaries.proofs.Fields.{field_quoted, field_plain}
 use Rattle.summaries.proofs.put_field.Goals as goal
 

@@ -1,7 +1,6 @@
 -- `summaries::put_numbers` meets its contract: three numbers, three more, and the last.
 use mathlib.Core.List.{◌++◌}
 use native.Mathlib.Omega.{arith}
-use borrow.Author.Rules.{rules}
 use Rattle.bits.specs.Decimal.{ascii, decimal}
 use Rattle.bits.proofs.Puts.{put_then}
 use Rattle.summaries.specs.Summaries.{three, numbers}

@@ -2,7 +2,6 @@
 use mathlib.Core.List.{[], ◌∷◌, ◌++◌}
 use native.Mathlib.Nat.{zero-add}
 use native.Mathlib.Omega.{arith}
-use borrow.Author.Rules.{rules}
 use Rattle.bits.proofs.Puts.{put_then}
 use Rattle.summaries.specs.Summaries.{quote, doubled, quoted}
 use Rattle.summaries.proofs.put_quoted.Goals as goal

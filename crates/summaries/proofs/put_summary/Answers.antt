@@ -1,7 +1,6 @@
 -- `summaries::put_summary` meets its contract: the field of the name, a comma, and the numbers.
 use mathlib.Core.List.{◌++◌}
 use native.Mathlib.Omega.{arith}
-use borrow.Author.Rules.{rules}
 use Rattle.bits.specs.Decimal.{ascii}
 use Rattle.bits.proofs.Puts.{put_then}
 use Rattle.summaries.specs.Summaries.{field, numbers, summary_line}

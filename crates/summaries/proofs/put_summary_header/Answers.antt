@@ -2,7 +2,6 @@
 use Rattle.summaries.specs.Summaries.{summary_header}
 use Rattle.reports.proofs.Front.{front}
 use native.Mathlib.Omega.{arith}
-use borrow.Author.Rules.{rules}
 use Rattle.summaries.proofs.put_summary_header.Goals as goal
 
 pub returns : goal.returns

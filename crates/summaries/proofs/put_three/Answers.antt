@@ -1,9 +1,6 @@
 -- `summaries::put_three` meets its contract: three numbers, one after the other.
 use mathlib.Core.List.{◌++◌}
-use Prim.Native.Nat.{◌+◌}
 use native.Mathlib.Omega.{arith}
-use lib.ListN.{length, length-append}
-use borrow.Author.Rules.{rules}
 use Rattle.bits.specs.Decimal.{ascii, decimal}
 use Rattle.bits.proofs.Puts.{put_then}
 use Rattle.summaries.specs.Summaries.{three}

@@ -1,6 +1,5 @@
 -- `summaries::put_twice` meets its contract: a quote is put twice, any other byte once.
 use native.Mathlib.Omega.{arith}
-use borrow.Author.Rules.{rules}
 use Rattle.summaries.proofs.Doubled.{twice_quote, twice_other}
 use Rattle.summaries.proofs.put_twice.Goals as goal
 
