@@ -3,7 +3,8 @@
 // `block`, `layout` (for effects) and what these rest on, and on std's writers; no promise rests on it. All but the streams may change.
 #![tactic(auto)]
 
-ghost use Rattle.std.specs.Prelude.{◌≡◌, ◌+◌, ◌*◌, ◌%◌, ◌<◌, ◌≤◌, min, length};
+ghost use Rattle.std.specs.Prelude.{◌≡◌, true, ◌+◌, ◌*◌, ◌%◌, ◌<◌, ◌≤◌, min, length};
+ghost use Rattle.std.specs.Io.KnownBytes.{Appends};
 ghost use mathlib.Core.List.{[], ◌∷◌, flat_map};
 ghost use Rattle.std.proofs.lemmas.List.Edits.{sets};
 ghost use Rattle.bits.specs.Layout.{pack};
@@ -243,6 +244,7 @@ fn put_line(a: &[u8], b: &[u8], last: u8, out: &mut [u8]) -> usize
 // Writes a line, as put_line makes it; false if the output takes no more.
 fn write_line<W: Write>(output: &mut W, a: &[u8], b: &[u8], last: u8, text: &[u8]) -> bool
     requires { text.now ≡ line_bytes a.now b.now last }
+    ensures { result ≡ true → Appends (W.contents output.old) (W.contents output.new) (line_bytes a.now b.now last) }
 {
     output.write_all(text).is_ok()
 }
@@ -250,7 +252,8 @@ fn write_line<W: Write>(output: &mut W, a: &[u8], b: &[u8], last: u8, text: &[u8
 // Makes a line at the front of `line`, and writes it; false if the output takes no more.
 pub fn print_line<W: Write>(output: &mut W, a: &[u8], b: &[u8], last: u8, line: &mut [u8]) -> bool
     requires { 2 * length a.now + 2 * length b.now + 2 ≤ length line.old }
-    ensures { line.new ≡ sets line.old 0 (line_bytes a.now b.now last) }
+    ensures line_after { line.new ≡ sets line.old 0 (line_bytes a.now b.now last) }
+    ensures written { result ≡ true → Appends (W.contents output.old) (W.contents output.new) (line_bytes a.now b.now last) }
 {
     let n = put_line(a, b, last, line);
     write_line(output, a, b, last, &line[..n])

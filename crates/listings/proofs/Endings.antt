@@ -1,6 +1,6 @@
 -- Laws of statuses: the graver of two, and what the status of printing says.
 use Prim.Native.Nat.{ℕ, zero, suc, max}
-use mathlib.Core.Path.{◌≡◌, refl, sym, ap, ◌∙◌}
+use mathlib.Core.Path.{◌≡◌, ap}
 use mathlib.Core.Bool.{Bool, true, false}
 use mathlib.Core.Logic.{◌⊎◌, inl, inr}
 use Rattle.inputs.specs.Statuses.{done, unwritten}

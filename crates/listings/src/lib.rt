@@ -45,7 +45,8 @@ pub fn list<R: Print + Errors>(rt: &R, program: &[u8], s: &[u8], why: bool, out:
 {
     let ending = printing::print(&mut io::writer(rt), s, why, out);
     let status = ending.status;
-    if status == 2 {
+    let unwritten = status == 2;
+    if unwritten {
         return inputs::say_unwritten(rt, program, printing::error_of(ending));
     }
     status

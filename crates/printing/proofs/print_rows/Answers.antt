@@ -1,0 +1,75 @@
+-- `printing::print_rows` meets its contract: buffer after buffer, the loop goes on from the row that did not fit.
+use mathlib.Core.Path.{sym, ap, ◌∙◌}
+use mathlib.Core.Bool.{not}
+use native.Mathlib.Omega.{arith}
+use borrow.Author.Rules.{rules}
+use Rattle.printing.proofs.Parts.{starts, next, goes, filled, failed}
+use Rattle.printing.proofs.Turn.{falls, at_first, rest_follows, counts, later, counted}
+use Rattle.printing.proofs.print_rows.Goals as goal
+
+pub fill-p-requires : goal.fill-p-requires
+fill-p-requires g c = c.requires.going.0
+
+pub loop-p-init : goal.loop-p-init
+loop-p-init g c =
+    let f = c.fill-p.ensures in
+    let nothing = c.nothing-sent.ensures in
+    record {
+      going = f.going;
+      buffer = record { roomy = omega (arith, c.requires.from_in_bounds.1.roomy); small = omega (arith, c.requires.from_in_bounds.1.small) };
+      long = search rules;
+      within = omega (arith, f.within c.requires.from_in_bounds.0);
+      waits = filled (starts nothing c.requires.going.1) f;
+      small = at_first _ c.fill-p.result nothing.1;
+      last = f.last;
+    }
+
+pub flush-sent-requires : goal.flush-sent-requires
+flush-sent-requires g c =
+    let i = c.loop-p.invariant in
+    record { good_value = (i.waits.written, next i.waits _ (rest_follows i)); part_bound = counts i }
+
+pub returns-then-not-written : goal.returns-then-not-written
+returns-then-not-written g c =
+    failed c.flush-sent.result 0 _ c.ending_of.ensures c.written.result c.written.ensures (ap not c.if-not-written.true)
+
+pub fill-p-requires-in-loop-p : goal.fill-p-requires-in-loop-p
+fill-p-requires-in-loop-p g c =
+    c.loop-p.invariant.going
+
+pub loop-p-smaller : goal.loop-p-smaller
+loop-p-smaller g c =
+    let i = c.loop-p.invariant in
+    falls c.loop-p.p c.loop-p-test.true (omega (arith, i.long, i.buffer.roomy)) c.fill-p-in-loop-p.ensures
+
+pub loop-p-preserved : goal.loop-p-preserved
+loop-p-preserved g c =
+    let flush = c.flush-sent in
+    let good = sym c.written.ensures ∙ c.if-not-written.false in
+    let i = c.loop-p.invariant in
+    let f = c.fill-p-in-loop-p.ensures in
+    record {
+      going = f.going;
+      buffer = i.buffer;
+      long = omega (arith, i.long);
+      within = omega (arith, f.within (omega arith));
+      waits = filled (goes i.waits _ (rest_follows i) good flush.ensures) f;
+      small = later i c.loop-p-test.true flush.ensures f;
+      last = f.last;
+    }
+
+pub print_closing-requires : goal.print_closing-requires
+print_closing-requires g c =
+    let i = c.loop-p.invariant in
+    record {
+      closes = record { waits = i.waits; accepted = i.going.accepted; last = i.last c.loop-p-test.false };
+      at_in_bounds = (omega (arith, i.within), rw i.long i.buffer, counted i);
+    }
+
+pub shape_of-out-then-not-written : goal.shape_of-out-then-not-written
+shape_of-out-then-not-written g c =
+    omega (arith, c.loop-p.invariant.long)
+
+pub shape_of-out : goal.shape_of-out
+shape_of-out g c =
+    omega (arith, c.loop-p.invariant.long)

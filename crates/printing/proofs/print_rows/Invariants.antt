@@ -1,0 +1,10 @@
+-- `printing::print_rows` meets its contract: buffer after buffer, the loop goes on from the row that did not fit.
+use lib.ListN.{length}
+use Rattle.printing.proofs.Turn.{Poured, left}
+use Rattle.printing.proofs.print_rows.Given as goal
+
+abbrev pub invariant-loop-p : goal.invariant-loop-p
+invariant-loop-p g l = Poured l.why (length l.initial.out) l.s l.sent l.p l.board l.out
+
+abbrev pub decreases-loop-p : goal.decreases-loop-p
+decreases-loop-p g l = left l.s l.p
