@@ -1,4 +1,5 @@
 pub mod Parts
+pub mod Handed
 pub mod Fronts
 pub mod Turn
 pub mod Theorems

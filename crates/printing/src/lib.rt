@@ -5,7 +5,8 @@
 
 mod sending;
 
-ghost use Rattle.std.specs.Prelude.{◌≡◌, ◌+◌, ◌≤◌, ◌<◌, length, take};
+ghost use Rattle.std.specs.Prelude.{◌≡◌, true, ◌+◌, ◌≤◌, ◌<◌, length, take, drop};
+ghost use Rattle.std.specs.Io.KnownBytes.{Appends};
 ghost use Rattle.text.specs.Room.{most_piece};
 ghost use Rattle.rerun.specs.Turn.{Going};
 ghost use Rattle.rerun.specs.Replay.{replay};
@@ -110,7 +111,8 @@ fn write_rest<W: Write>(
 ) -> Ending
     requires waiting { Waiting why s.now sent (take at out.now) (listing_of why s.now) × ((replay s.now).number ≡ number) }
     requires at_in_bounds { (at ≤ length out.now) × Buffer (length out.now) × (sent.gone < most_gone) }
-    ensures { Told why s.now result }
+    ensures told { Told why s.now result }
+    ensures handed { result.sent.good ≡ true → Appends (W.contents output.old) (W.contents output.new) (drop sent.gone (listing_of why s.now)) }
 {
     ending_of(sending::flush(output, s, why, sent, &out[..at]), number)
 }
@@ -127,7 +129,8 @@ fn write_closing<W: Write>(
 ) -> Ending
     requires closes { Closes why s.now sent turn (take at out.old) }
     requires most_piece_in_bounds { (at + most_piece ≤ length out.old) × Buffer (length out.old) × (sent.gone < most_gone) }
-    ensures { Told why s.now result }
+    ensures told { Told why s.now result }
+    ensures handed { result.sent.good ≡ true → Appends (W.contents output.old) (W.contents output.new) (drop sent.gone (listing_of why s.now)) }
 {
     let end = rerun::answer_of(turn);
     let w = listing::closing(end, out, at);
@@ -146,7 +149,8 @@ fn print_closing<W: Write>(
 ) -> Ending
     requires closes { Closes why s.now sent turn (take at out.old) }
     requires at_in_bounds { (at ≤ length out.old) × Buffer (length out.old) × (sent.gone + at < most_gone) }
-    ensures { Told why s.now result }
+    ensures told { Told why s.now result }
+    ensures handed { result.sent.good ≡ true → Appends (W.contents output.old) (W.contents output.new) (drop sent.gone (listing_of why s.now)) }
 {
     if listing::has_room(out.len(), at) {
         return write_closing(output, s, why, sent, turn, out, at);
@@ -170,7 +174,8 @@ fn print_rows<W: Write>(
 ) -> Ending
     requires going { Going s.now run board.old × (take from out.old ≡ so_far why s.now run.rows) }
     requires from_in_bounds { (from ≤ length out.old) × Buffer (length out.old) }
-    ensures { Told why s.now result }
+    ensures told { Told why s.now result }
+    ensures handed { result.sent.good ≡ true → Appends (W.contents output.old) (W.contents output.new) (listing_of why s.now) }
 {
     let mut sent = sending::nothing();
     let mut p = fill(s, run, board, out, from, why);
@@ -188,10 +193,12 @@ fn print_rows<W: Write>(
     print_closing(output, s, why, sent, turn, out, p.at)
 }
 
-// Prints the listing of a recording, with reasons if `why` asks for them, by way of the lent buffer, and answers how it ended.
+// Prints the listing of a recording, with reasons if `why` asks for them, by way of the lent buffer, and answers how it ended. Where all was
+// written, the output holds the whole listing more, and nothing else.
 pub fn print<W: Write>(output: &mut W, s: &[u8], why: bool, out: &mut [u8]) -> Ending
     requires { Buffer (length out.old) }
-    ensures { Told why s.now result }
+    ensures told { Told why s.now result }
+    ensures handed { result.sent.good ≡ true → Appends (W.contents output.old) (W.contents output.new) (listing_of why s.now) }
 {
     let reading = recording::read(s);
     let opened = listing::opening(reading, out, 0, why);

@@ -1,6 +1,7 @@
 // The one place where a listing leaves the program, part after part. What has gone, and whether it was written, can be set here alone,
 // so that no other function can count a part that it has not handed over.
 ghost use Rattle.std.specs.Prelude.{◌≡◌, true, ◌+◌, ◌^◌, ◌<◌, length};
+ghost use Rattle.std.specs.Io.KnownBytes.{Appends};
 ghost use Rattle.printing.specs.Sent.{NextPart};
 
 use std::io::{Error, ErrorKind, Write};
@@ -43,7 +44,8 @@ pub fn error(sent: Sent) -> Error
 pub fn flush<W: Write>(output: &mut W, s: &[u8], why: bool, sent: Sent, part: &[u8]) -> Sent
     requires good_value { (sent.good ≡ true) × NextPart why s.now sent.gone part.now }
     requires part_bound { sent.gone + length part.now < 2 ^ 64 }
-    ensures { result.gone ≡ sent.gone + length part.now }
+    ensures gone_after { result.gone ≡ sent.gone + length part.now }
+    ensures handed { result.good ≡ true → Appends (W.contents output.old) (W.contents output.new) part.now }
 {
     let gone = sent.gone + part.len();
     match output.write_all(part) {

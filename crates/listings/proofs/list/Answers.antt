@@ -11,4 +11,4 @@ pub returns : goal.returns
 returns g c =
     let print = c.print-ending in
     let a = c.args in
-    printed_ended print.result.sent.good (replay a.s.now).number print.result.status print.ensures.by_number c.if-unwritten.false
+    printed_ended print.result.sent.good (replay a.s.now).number print.result.status print.ensures.told.by_number c.if-unwritten.false

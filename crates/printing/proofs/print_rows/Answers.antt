@@ -2,7 +2,10 @@
 use mathlib.Core.Path.{sym, ap, ◌∙◌}
 use mathlib.Core.Bool.{not}
 use native.Mathlib.Omega.{arith}
+use lib.ListN.{take-append-drop}
 use borrow.Author.Rules.{rules}
+use Rattle.listing.specs.Printed.{listing_of}
+use Rattle.printing.proofs.Handed.{appends_then, appends_none, gone_with}
 use Rattle.printing.proofs.Parts.{starts, next, goes, filled, failed}
 use Rattle.printing.proofs.Turn.{falls, at_first, rest_follows, counts, later, counted}
 use Rattle.printing.proofs.print_rows.Goals as goal
@@ -13,54 +16,59 @@ fill-p-requires g c = c.requires.going.0
 pub loop-p-init : goal.loop-p-init
 loop-p-init g c =
     let f = c.fill-p.ensures in
-    let nothing = c.nothing-sent.ensures in
-    record {
-      going = f.going;
-      buffer = record { roomy = omega (arith, c.requires.from_in_bounds.1.roomy); small = omega (arith, c.requires.from_in_bounds.1.small) };
-      long = search rules;
-      within = omega (arith, f.within c.requires.from_in_bounds.0);
-      waits = filled (starts nothing c.requires.going.1) f;
-      small = at_first _ c.fill-p.result nothing.1;
-      last = f.last;
-    }
+    let nothing = c.nothing-sent.ensures in (
+      record {
+        going = f.going;
+        buffer = record { roomy = omega (arith, c.requires.from_in_bounds.1.roomy); small = omega (arith, c.requires.from_in_bounds.1.small) };
+        long = search rules;
+        within = omega (arith, f.within c.requires.from_in_bounds.0);
+        waits = filled (starts nothing c.requires.going.1) f;
+        small = at_first _ c.fill-p.result nothing.1;
+        last = f.last;
+      },
+      rw nothing.1 (appends_none _),
+    )
 
 pub flush-sent-requires : goal.flush-sent-requires
 flush-sent-requires g c =
-    let i = c.loop-p.invariant in
+    let i = c.loop-p.invariant.0 in
     record { good_value = (i.waits.written, next i.waits _ (rest_follows i)); part_bound = counts i }
 
-pub returns-then-not-written : goal.returns-then-not-written
-returns-then-not-written g c =
+pub returns-then-not-written-clause-told : goal.returns-then-not-written-clause-told
+returns-then-not-written-clause-told g c =
     failed c.flush-sent.result 0 _ c.ending_of.ensures c.written.result c.written.ensures (ap not c.if-not-written.true)
 
 pub fill-p-requires-in-loop-p : goal.fill-p-requires-in-loop-p
 fill-p-requires-in-loop-p g c =
-    c.loop-p.invariant.going
+    c.loop-p.invariant.0.going
 
 pub loop-p-smaller : goal.loop-p-smaller
 loop-p-smaller g c =
-    let i = c.loop-p.invariant in
+    let i = c.loop-p.invariant.0 in
     falls c.loop-p.p c.loop-p-test.true (omega (arith, i.long, i.buffer.roomy)) c.fill-p-in-loop-p.ensures
 
 pub loop-p-preserved : goal.loop-p-preserved
 loop-p-preserved g c =
     let flush = c.flush-sent in
     let good = sym c.written.ensures ∙ c.if-not-written.false in
-    let i = c.loop-p.invariant in
+    let i = c.loop-p.invariant.0 in
     let f = c.fill-p-in-loop-p.ensures in
-    record {
-      going = f.going;
-      buffer = i.buffer;
-      long = omega (arith, i.long);
-      within = omega (arith, f.within (omega arith));
-      waits = filled (goes i.waits _ (rest_follows i) good flush.ensures) f;
-      small = later i c.loop-p-test.true flush.ensures f;
-      last = f.last;
-    }
+    let n = next i.waits _ (rest_follows i) in (
+      record {
+        going = f.going;
+        buffer = i.buffer;
+        long = omega (arith, i.long);
+        within = omega (arith, f.within (omega arith));
+        waits = filled (goes i.waits _ (rest_follows i) good flush.ensures.gone_after) f;
+        small = later i c.loop-p-test.true flush.ensures.gone_after f;
+        last = f.last;
+      },
+      rw (sym (gone_with n flush.ensures.gone_after)) (appends_then _ _ _ _ _ c.loop-p.invariant.1 (flush.ensures.handed good)),
+    )
 
 pub print_closing-requires : goal.print_closing-requires
 print_closing-requires g c =
-    let i = c.loop-p.invariant in
+    let i = c.loop-p.invariant.0 in
     record {
       closes = record { waits = i.waits; accepted = i.going.accepted; last = i.last c.loop-p-test.false };
       at_in_bounds = (omega (arith, i.within), rw i.long i.buffer, counted i);
@@ -68,8 +76,13 @@ print_closing-requires g c =
 
 pub shape_of-out-then-not-written : goal.shape_of-out-then-not-written
 shape_of-out-then-not-written g c =
-    omega (arith, c.loop-p.invariant.long)
+    omega (arith, c.loop-p.invariant.0.long)
 
 pub shape_of-out : goal.shape_of-out
 shape_of-out g c =
-    omega (arith, c.loop-p.invariant.long)
+    omega (arith, c.loop-p.invariant.0.long)
+
+pub returns-clause-handed : goal.returns-clause-handed
+returns-clause-handed g c = λ good.
+    let l = listing_of c.args.why c.args.s.now in
+    rw (sym (take-append-drop c.loop-p.sent.gone l)) (appends_then _ _ _ _ _ c.loop-p.invariant.1 (c.print_closing.ensures.handed good))

@@ -1,8 +1,11 @@
 -- `printing::write_rest` meets its contract: what waits ends where the listing ends.
 use mathlib.Core.List.{[], append-nil}
+use mathlib.Core.Path.{sym, ap, ◌∙◌}
 use native.Mathlib.Omega.{arith}
 use lib.Seq.{length-take-le}
 use Rattle.listing.specs.Printed.{listing_of}
+use Rattle.printing.specs.declared.sending.Sent.{Sent}
+use Rattle.printing.proofs.Handed.{rest_of}
 use Rattle.printing.proofs.Parts.{next, told}
 use Rattle.printing.proofs.write_rest.Goals as goal
 
@@ -17,4 +20,7 @@ flush-requires g c =
 pub returns : goal.returns
 returns g c =
     let flush = c.flush in
-    told flush.result c.args.number _ c.ending_of.ensures c.requires.waiting.0 flush.ensures c.requires.waiting.1
+    let w = c.requires.waiting.0 in record {
+      told = told flush.result c.args.number _ c.ending_of.ensures w flush.ensures.gone_after c.requires.waiting.1;
+      handed = λ good. rw (rest_of w) (flush.ensures.handed (ap (λ (x : Sent). x.good) (sym c.ending_of.ensures.1) ∙ good));
+    }
