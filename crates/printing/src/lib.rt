@@ -95,7 +95,9 @@ fn ending_of(sent: Sent, number: u8) -> Ending
 }
 
 // Why the output took no more, if it did not.
-pub fn error_of(ending: Ending) -> Error {
+pub fn error_of(ending: Ending) -> Error
+    ensures { result ≡ ending.sent.error }
+{
     sending::error(ending.sent)
 }
 
@@ -194,7 +196,7 @@ fn print_rows<W: Write>(
 }
 
 // Prints the listing of a recording, with reasons if `why` asks for them, by way of the lent buffer, and answers how it ended. Where all was
-// written, the output holds the whole listing more, and nothing else.
+// written, an output whose bytes are known holds the whole listing more, and nothing else.
 pub fn print<W: Write>(output: &mut W, s: &[u8], why: bool, out: &mut [u8]) -> Ending
     requires { Buffer (length out.old) }
     ensures told { Told why s.now result }

@@ -46,6 +46,7 @@ pub fn flush<W: Write>(output: &mut W, s: &[u8], why: bool, sent: Sent, part: &[
     requires part_bound { sent.gone + length part.now < 2 ^ 64 }
     ensures gone_after { result.gone ≡ sent.gone + length part.now }
     ensures handed { result.good ≡ true → Appends (W.contents output.old) (W.contents output.new) part.now }
+    ensures error_kept { result.good ≡ true → result.error ≡ sent.error }
 {
     let gone = sent.gone + part.len();
     match output.write_all(part) {
