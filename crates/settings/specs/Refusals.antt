@@ -1,5 +1,30 @@
 -- Refusal numbers. Document 01, "Refusal numbers": 0 stands for none, and the first that applies is given.
-use Rattle.std.specs.Prelude.{ℕ, zero, suc, Bool, cond, leb}
+use Rattle.std.specs.Prelude.{ℕ, zero, suc, Bool, cond, leb, Result, Ok, Err}
+use Rattle.settings.specs.declared.numbers.Refusal.{Refusal}
+use Rattle.settings.specs.declared.numbers.Refusal.TheVariants.{Ends, Block, Effects, Rows, BothForces, SeveralForced, LeftOver, State, LastScan, Room, Sums}
+use Rattle.settings.specs.declared.numbers.Refused.{Refused}
+
+-- ## The refusal number of each refusal
+
+abbrev pub number_of : Refusal → ℕ
+number_of Ends = 1
+number_of Block = 2
+number_of Effects = 3
+number_of Rows = 4
+number_of BothForces = 5
+number_of SeveralForced = 6
+number_of LeftOver = 7
+number_of State = 8
+number_of LastScan = 9
+number_of Room = 10
+number_of Sums = 11
+
+-- the refusal number of an answer; 0 where nothing is refused
+abbrev pub number_in : {A : Type 0} → Result A Refusal → ℕ
+number_in (Ok a) = 0
+number_in (Err refusal) = number_of refusal
+
+-- ## One after the other
 
 -- 0 if the test holds, else the refusal number
 abbrev pub unless : Bool → ℕ → ℕ

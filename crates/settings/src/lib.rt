@@ -4,15 +4,19 @@
 // the order of the refusal numbers may not.
 #![tactic(auto)]
 
+mod numbers;
+
 ghost use Rattle.std.specs.Prelude.{◌≡◌, ◌&&◌, ◌||◌, not, ◌+◌, ◌<◌, ◌≤◌, eqb, leb, ltb};
 ghost use Rattle.std.specs.Int.Bits.{bit_and};
 ghost use Rattle.std.specs.Int.Count.{ones};
 ghost use Rattle.bits.specs.Lists.{all_from};
 ghost use Rattle.rules.specs.Limits.{most_delay, most_hold};
 ghost use Rattle.settings.specs.Right.{known_of, block_number, effect_ok, effect_number, count_ok, slot_ok, effects_number, settings_number, words_ok, fields_number, apart, apart_number, several, several_number, words_number, hold_number, row_number};
+ghost use Rattle.settings.specs.Refusals.{number_in};
 ghost use Rattle.settings.specs.Causes.{seen_of};
 ghost use Rattle.settings.specs.Signals.{forces_count};
 
+pub use numbers::{Refusal, Refused};
 use rules::Seen;
 
 // The settings of one effect: its association word and its delay in milliseconds.
@@ -95,14 +99,14 @@ pub fn known_of(st: Settings) -> Known
     }
 }
 
-// 0 for a valid block section, else refusal number 2.
-pub fn block_number(causes: u8, options: u8, period: u16) -> u8
-    ensures { result ≡ block_number causes options period }
+// Refuses a block section that is not valid: refusal number 2.
+pub fn check_block(causes: u8, options: u8, period: u16) -> Result<(), Refusal>
+    ensures { number_in result ≡ block_number causes options period }
 {
     if (1 <= causes) & (causes <= 16) & (options < 8) & (1 <= period) & (period <= 1000) {
-        0
+        Ok(())
     } else {
-        2
+        Err(Refusal::Block)
     }
 }
 
@@ -112,11 +116,15 @@ fn effect_ok(causes: u8, e: Effect) -> bool
     (1 <= e.association) & bits::within(e.association, causes) & (e.delay <= Effect::MOST_DELAY)
 }
 
-// 0 for a valid effect, else refusal number 3.
-pub fn effect_number(causes: u8, e: Effect) -> u8
-    ensures { result ≡ effect_number causes e }
+// Refuses an effect that is not valid: refusal number 3.
+pub fn check_effect(causes: u8, e: Effect) -> Result<(), Refusal>
+    ensures { number_in result ≡ effect_number causes e }
 {
-    if effect_ok(causes, e) { 0 } else { 3 }
+    if effect_ok(causes, e) {
+        Ok(())
+    } else {
+        Err(Refusal::Effects)
+    }
 }
 
 // Slot i holds a valid effect; past the count it is zero.
@@ -133,13 +141,10 @@ fn slot_ok(known: Known, i: usize, e: Effect) -> bool
 fn slots_ok(known: Known, effects: [Effect; 16]) -> bool
     ensures { result ≡ all_from (slot_ok known) 0 effects }
 {
-    let mut i = 0;
-    while i < 16 {
-        let e = effects[i];
-        if !slot_ok(known, i, e) {
+    for (i, e) in effects.iter().enumerate() {
+        if !slot_ok(known, i, *e) {
             return false;
         }
-        i += 1;
     }
     true
 }
@@ -150,27 +155,25 @@ fn count_ok(count: u8) -> bool
     (1 <= count) & (count <= 16)
 }
 
-// 0 for a valid effect count and valid slots, else refusal number 3.
-fn effects_number(st: Settings) -> u8
-    ensures { result ≡ effects_number st }
+// Refuses an effect count or slots that are not valid: refusal number 3.
+fn check_effects(st: Settings) -> Result<(), Refusal>
+    ensures { number_in result ≡ effects_number st }
 {
     let effects = st.effects;
     if count_ok(st.count) & slots_ok(known_of(st), effects) {
-        0
+        Ok(())
     } else {
-        3
+        Err(Refusal::Effects)
     }
 }
 
-// 0 for valid settings, else their refusal number.
-pub fn settings_number(st: Settings) -> u8
-    ensures { result ≡ settings_number st }
+// Refuses settings that are not valid.
+#[tactic(auto, unfolding(crate::specs::Right::settings_number))]
+pub fn check_settings(st: Settings) -> Result<(), Refusal>
+    ensures { number_in result ≡ settings_number st }
 {
-    let number = block_number(st.causes, st.options, st.period);
-    if number != 0 {
-        return number;
-    }
-    effects_number(st)
+    check_block(st.causes, st.options, st.period)?;
+    check_effects(st)
 }
 
 // ---- rows: refusal numbers 4, 5, then 6
@@ -192,10 +195,14 @@ fn words_ok(known: Known, w: Words) -> bool
         & bits::within(w.force_normal, count)
 }
 
-fn fields_number(known: Known, w: Words) -> u8
-    ensures { result ≡ fields_number known w }
+fn check_fields(known: Known, w: Words) -> Result<(), Refusal>
+    ensures { number_in result ≡ fields_number known w }
 {
-    if words_ok(known, w) { 0 } else { 4 }
+    if words_ok(known, w) {
+        Ok(())
+    } else {
+        Err(Refusal::Rows)
+    }
 }
 
 // No effect stands in both force words.
@@ -205,10 +212,14 @@ fn is_apart(w: Words) -> bool
     w.force_trip & w.force_normal == 0
 }
 
-fn apart_number(w: Words) -> u8
-    ensures { result ≡ apart_number w }
+fn check_apart(w: Words) -> Result<(), Refusal>
+    ensures { number_in result ≡ apart_number w }
 {
-    if is_apart(w) { 0 } else { 5 }
+    if is_apart(w) {
+        Ok(())
+    } else {
+        Err(Refusal::BothForces)
+    }
 }
 
 // The two force words hold more than one bit together. Whoever asks for a refusal number, or why it is given, counts here.
@@ -218,50 +229,43 @@ pub fn is_several(w: Words) -> bool
     1 < bits::count_bits(w.force_trip) + bits::count_bits(w.force_normal)
 }
 
-fn several_number(known: Known, w: Words) -> u8
-    ensures { result ≡ several_number known w }
+fn check_several(known: Known, w: Words) -> Result<(), Refusal>
+    ensures { number_in result ≡ several_number known w }
 {
     if bits::bit(known.options as u16, 2) | !is_several(w) {
-        0
+        Ok(())
     } else {
-        6
+        Err(Refusal::SeveralForced)
     }
 }
 
-// 0 for valid words, else their refusal number.
-pub fn words_number(known: Known, w: Words) -> u8
-    ensures { result ≡ words_number known w }
+// Refuses words that are not valid.
+#[tactic(auto, unfolding(crate::specs::Right::words_number))]
+pub fn check_words(known: Known, w: Words) -> Result<(), Refusal>
+    ensures { number_in result ≡ words_number known w }
 {
-    let fields = fields_number(known, w);
-    if fields != 0 {
-        return fields;
-    }
-    let both = apart_number(w);
-    if both != 0 {
-        return both;
-    }
-    several_number(known, w)
+    check_fields(known, w)?;
+    check_apart(w)?;
+    check_several(known, w)
 }
 
-fn hold_number(hold: u32) -> u8
-    ensures { result ≡ hold_number hold }
+fn check_hold(hold: u32) -> Result<(), Refusal>
+    ensures { number_in result ≡ hold_number hold }
 {
     if (1 <= hold) & (hold <= Row::MOST_HOLD) {
-        0
+        Ok(())
     } else {
-        4
+        Err(Refusal::Rows)
     }
 }
 
-// 0 for a valid row, else its refusal number.
-pub fn row_number(known: Known, row: Row) -> u8
-    ensures { result ≡ row_number known row }
+// Refuses a row that is not valid.
+#[tactic(auto, unfolding(crate::specs::Right::row_number))]
+pub fn check_row(known: Known, row: Row) -> Result<(), Refusal>
+    ensures { number_in result ≡ row_number known row }
 {
-    let number = hold_number(row.hold);
-    if number != 0 {
-        return number;
-    }
-    words_number(known, row.words)
+    check_hold(row.hold)?;
+    check_words(known, row.words)
 }
 
 // ---- what an effect sees in a scan
