@@ -33,7 +33,7 @@ use Rattle.block.specs.Scan.{at_front, after, events, granted_scan, refused_scan
 use Rattle.block.specs.Held.{words_at, start, single, stepped, run, granted_held, refused_held, held_of, held_into}
 use Rattle.block.proofs.Theorems as block
 use Rattle.block.proofs.Stepping.{Ready, ready_at}
-use Rattle.recording.specs.declared.Reading.{Reading}
+use Rattle.recording.specs.Answer.{Reading}
 use Rattle.recording.specs.Reader.{reading}
 use Rattle.recording.specs.Answers.{number, row_count_of, ended}
 use Rattle.recording.specs.Steps.{step_at, row_place, rows_of}

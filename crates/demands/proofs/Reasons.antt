@@ -13,8 +13,8 @@ use Rattle.reasons.specs.declared.Reason.{Reason}
 use Rattle.reasons.proofs.Exactly.{reason_fits, fits_only}
 use Rattle.reasons.proofs.Lands.{same_reason_same_state_and_timer}
 use Rattle.reasoned.specs.Reasoned.{reason_at}
-use Rattle.queries.specs.declared.Reply.{Reply}
-use Rattle.queries.specs.declared.Reply.TheVariants.{Because, Refused}
+use Rattle.queries.specs.Reply.{Reply}
+use Rattle.queries.specs.Reply.{Because, Refused}
 use Rattle.queries.specs.Queries.{query_number, reply_number, reply_place, reply_of}
 use Rattle.demands.specs.Order.{InOrder}
 use Rattle.demands.specs.Reasons.{FitsAt, ExactlyOneFits, SameReasonLeadsAlike, query_cases}

@@ -13,9 +13,9 @@ use Rattle.settings.specs.declared.Known.{Known}
 use Rattle.settings.specs.declared.Settings.{Settings}
 use Rattle.settings.specs.Right.{known_of, effect_number, row_number}
 use Rattle.settings.specs.Signals.{no_effect}
-use Rattle.layout.specs.declared.Section.{Section}
-use Rattle.layout.specs.declared.Section.TheVariants as S
-use Rattle.recording.specs.declared.Answer.TheVariants as A
+use Rattle.layout.specs.Section.{Section}
+use Rattle.layout.specs.Section as S
+use Rattle.recording.specs.Answer as A
 use Rattle.layout.specs.declared.Kind.TheVariants.{Block, Effects, Rows}
 use Rattle.layout.specs.Entries.{BlockEntry, block_at, block_check, effect_at, row_at, put_block, put_effect, put_row}
 use Rattle.bits.specs.Lists.{list_of}

@@ -12,7 +12,7 @@ use lib.Seq.{length-take-le}
 use Rattle.bits.specs.Numbers.{num_at}
 use Rattle.settings.specs.declared.Known.{Known}
 use Rattle.settings.specs.Right.{known_of, effect_number, row_number}
-use Rattle.layout.specs.declared.Section.TheVariants as S
+use Rattle.layout.specs.Section as S
 use Rattle.layout.specs.declared.Kind.{Kind}
 use Rattle.layout.specs.declared.Kind.TheVariants.{Block, Effects, Rows}
 use Rattle.layout.specs.Entries.{block_check}

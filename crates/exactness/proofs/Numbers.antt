@@ -7,7 +7,7 @@ use native.Mathlib.Omega.{arith}
 use lib.ListN.{length, take}
 use Rattle.bits.specs.Numbers.{Bytes}
 use Rattle.settings.specs.Right.{known_of}
-use Rattle.recording.specs.declared.Reading.{Reading}
+use Rattle.recording.specs.Answer.{Reading}
 use Rattle.layout.specs.declared.Kind.TheVariants.{Block, Effects, Rows}
 use Rattle.recording.specs.Reader.{nothing_known, known_of_block, settings_at, refusal, reading}
 use Rattle.recording.specs.Answers.{number, place}

@@ -11,8 +11,8 @@ use lib.ListN.{length, get_or}
 use Rattle.bits.specs.Numbers.{num_at}
 use Rattle.bits.specs.Lists.{list_of}
 use Rattle.settings.specs.declared.Row.{Row}
-use Rattle.recording.specs.declared.Reading.{Reading}
-use Rattle.recording.specs.declared.Step.TheVariants as T
+use Rattle.recording.specs.Answer.{Reading}
+use Rattle.recording.specs.Step as T
 use Rattle.layout.specs.declared.Kind.TheVariants.{Rows}
 use Rattle.layout.specs.Entries.{row_at}
 use Rattle.layout.specs.Sections.{width_of}

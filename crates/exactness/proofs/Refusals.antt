@@ -16,10 +16,10 @@ use Rattle.settings.specs.Refusals.{unless, or_else}
 use Rattle.rules.specs.Limits.{most_hold}
 use Rattle.settings.specs.Right.{known_of, block_ok, effect_ok, hold_number, words_ok, fields_number, apart, apart_number, several, several_number, words_number, row_number}
 use Rattle.bits.specs.Words.{bit_of}
-use Rattle.layout.specs.declared.Section.{Section}
-use Rattle.layout.specs.declared.Section.TheVariants as S
-use Rattle.recording.specs.declared.Answer.TheVariants as A
-use Rattle.recording.specs.declared.Reading.{Reading}
+use Rattle.layout.specs.Section.{Section}
+use Rattle.layout.specs.Section as S
+use Rattle.recording.specs.Answer as A
+use Rattle.recording.specs.Answer.{Reading}
 use Rattle.layout.specs.declared.Kind.{Kind}
 use Rattle.layout.specs.declared.Kind.TheVariants.{Block, Effects, Rows}
 use Rattle.layout.specs.Entries.{block_at, effect_at, row_at}

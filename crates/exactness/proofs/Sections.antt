@@ -9,7 +9,7 @@ use lib.ListN.{length}
 use Rattle.bits.specs.Numbers.{num_at}
 use Rattle.settings.specs.declared.Known.{Known}
 use Rattle.settings.specs.Right.{known_of}
-use Rattle.layout.specs.declared.Section.TheVariants as S
+use Rattle.layout.specs.Section as S
 use Rattle.layout.specs.declared.Kind.{Kind}
 use Rattle.layout.specs.declared.Kind.TheVariants.{Block, Effects, Rows}
 use Rattle.layout.specs.Sections.{entries, section, width_of, least_of, most_of, test_of, section_of}

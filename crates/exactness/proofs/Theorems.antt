@@ -11,8 +11,8 @@ use Rattle.bits.specs.Numbers.{Bytes}
 use Rattle.settings.specs.declared.Row.{Row}
 use Rattle.settings.specs.declared.Settings.{Settings}
 use Rattle.settings.specs.declared.Known.{Known}
-use Rattle.recording.specs.declared.Answer.TheVariants as A
-use Rattle.recording.specs.declared.Reading.{Reading}
+use Rattle.recording.specs.Answer as A
+use Rattle.recording.specs.Answer.{Reading}
 use Rattle.layout.specs.declared.Kind.{Kind}
 use Rattle.layout.specs.declared.Kind.TheVariants.{Rows}
 use Rattle.layout.specs.Entries.{row_at, put_row}

@@ -10,8 +10,8 @@ use lib.Seq.{take-length}
 use Rattle.bits.specs.Numbers.{Bytes}
 use Rattle.settings.specs.declared.Row.{Row}
 use Rattle.settings.specs.declared.Settings.{Settings}
-use Rattle.recording.specs.declared.Answer.TheVariants as A
-use Rattle.recording.specs.declared.Reading.{Reading}
+use Rattle.recording.specs.Answer as A
+use Rattle.recording.specs.Answer.{Reading}
 use Rattle.layout.specs.Entries.{row_at, put_row}
 use Rattle.recording.specs.Reader.{reading}
 use Rattle.recording.specs.Answers.{number, row_count_of, first_row, row_width}

@@ -6,7 +6,7 @@ use mathlib.Core.Bool.{false}
 use mathlib.Core.List.{List}
 use Prim.Native.Nat.{ℕ, zero, suc, ◌+◌, ◌*◌, ◌<◌}
 use native.Mathlib.Omega.{arith}
-use Rattle.recording.specs.declared.Reading.{Reading}
+use Rattle.recording.specs.Answer.{Reading}
 use Rattle.recording.specs.Accepted.{Accepted}
 use Rattle.recording.specs.Answers.{number, place, row_count_of, first_row, row_width}
 use Rattle.recording.specs.Reader.{reading}

@@ -1,3 +1,4 @@
 pub mod Entries
+pub mod Section
 pub mod Sections
 pub mod Barred

@@ -5,8 +5,8 @@ use Rattle.settings.specs.declared.Known.{Known}
 use Rattle.rules.specs.Limits.{between, most_effects}
 use Rattle.settings.specs.Refusals.{granted}
 use Rattle.settings.specs.Right.{effect_number, row_number}
-use Rattle.layout.specs.declared.Section.{Section}
-use Rattle.layout.specs.declared.Section.TheVariants.{Next, Refused}
+use Rattle.layout.specs.Section.{Section}
+use Rattle.layout.specs.Section.{Next, Refused}
 use Rattle.layout.specs.declared.Kind.{Kind}
 use Rattle.layout.specs.declared.Kind.TheVariants.{Block, Effects, Rows}
 use Rattle.layout.specs.Entries.{block_at, block_check, effect_at, row_at}

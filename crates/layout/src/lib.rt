@@ -7,14 +7,15 @@
 mod quick;
 
 ghost use Rattle.std.specs.Prelude.{◌≡◌, ◌++◌, ◌+◌, ◌*◌, ◌-◌, ◌≤◌, length, replicate};
+ghost use Rattle.settings.specs.Refusals.{number_of, number_in};
 ghost use Rattle.settings.specs.Signals.{no_effect};
 ghost use Rattle.layout.specs.declared.Kind.TheVariants.{Rows};
 ghost use Rattle.layout.specs.Entries.{effect_at, words_at, row_at};
 ghost use Rattle.bits.specs.Lists.{list_of};
-ghost use Rattle.layout.specs.Sections.{width_of, least_of, most_of, number_of, count_ok, test_of};
+ghost use Rattle.layout.specs.Sections.{width_of, least_of, most_of, number_of as number_of_count, count_ok, test_of};
 ghost use Rattle.layout.specs.Barred.{Skipped};
 
-use settings::{Effect, Known, Row, Words};
+use settings::{Effect, Known, Refusal, Row, Words};
 
 // The kinds of section, in the order of the file.
 #[derive(Clone, Copy)]
@@ -22,13 +23,6 @@ pub enum Kind {
     Block,
     Effects,
     Rows,
-}
-
-// What a section results in: the place after it, or a refusal.
-#[derive(Clone, Copy)]
-pub enum Section {
-    Next(usize),
-    Refused { number: u8, place: usize },
 }
 
 // ---- entries
@@ -39,6 +33,7 @@ const ROW_BYTES: usize = 24;
 const MOST_ROWS: u16 = 2048;
 
 // The effect at a place.
+#[tactic(auto, unfolding(crate::specs::Entries::effect_at))]
 pub fn effect_at(s: &[u8], at: usize) -> Effect
     requires { at + 6 ≤ length s.now }
     ensures { result ≡ effect_at s.now at }
@@ -50,6 +45,7 @@ pub fn effect_at(s: &[u8], at: usize) -> Effect
 }
 
 // The ten words that start at `at`.
+#[tactic(auto, unfolding(crate::specs::Entries::words_at))]
 pub fn words_at(s: &[u8], at: usize) -> Words
     requires { at + 20 ≤ length s.now }
     ensures { result ≡ words_at s.now at }
@@ -89,14 +85,9 @@ pub fn effects_at(s: &[u8], at: usize, n: usize) -> [Effect; 16]
         association: 0,
         delay: 0,
     }; 16];
-    let w = width_of(Kind::Effects);
-    let mut i = 0;
-    let mut place = at;
-    while i < n {
-        let e = effect_at(s, place);
-        effects[i] = e;
-        place += w;
-        i += 1;
+    let width = width_of(Kind::Effects);
+    for i in 0..n {
+        effects[i] = effect_at(s, at + width * i);
     }
     effects
 }
@@ -142,14 +133,14 @@ fn most_of(kind: Kind) -> u16
     }
 }
 
-// The refusal number of a wrong count.
-pub fn number_of(kind: Kind) -> u8
-    ensures { result ≡ number_of kind }
+// What refuses a wrong count.
+pub fn refusal_of(kind: Kind) -> Refusal
+    ensures { number_of result ≡ number_of_count kind }
 {
     match kind {
-        Kind::Block => 2,
-        Kind::Effects => 3,
-        Kind::Rows => 4,
+        Kind::Block => Refusal::Block,
+        Kind::Effects => Refusal::Effects,
+        Kind::Rows => Refusal::Rows,
     }
 }
 
@@ -159,19 +150,19 @@ pub fn count_ok(kind: Kind, n: u16) -> bool
     (least_of(kind) <= n) & (n <= most_of(kind))
 }
 
-// 0 for a valid entry, else its refusal number.
-pub fn entry_number(kind: Kind, known: Known, s: &[u8], at: usize) -> u8
+// Refuses an entry that is not valid.
+pub fn check_entry(kind: Kind, known: Known, s: &[u8], at: usize) -> Result<(), Refusal>
     requires { at + width_of kind ≤ length s.now }
-    ensures { result ≡ test_of kind known s.now at }
+    ensures { number_in result ≡ test_of kind known s.now at }
 {
     match kind {
-        Kind::Block => settings::block_number(
+        Kind::Block => settings::check_block(
             bits::get8(s, at),
             bits::get8(s, at + 1),
             bits::get16(s, at + 2),
         ),
-        Kind::Effects => settings::effect_number(known.causes, effect_at(s, at)),
-        Kind::Rows => settings::row_number(known, row_at(s, at, ROW_BYTES)),
+        Kind::Effects => settings::check_effect(known.causes, effect_at(s, at)),
+        Kind::Rows => settings::check_row(known, row_at(s, at, ROW_BYTES)),
     }
 }
 

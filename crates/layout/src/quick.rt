@@ -90,27 +90,17 @@ fn row_right(b: Bars, s: &[u8], at: usize) -> bool
     hold_right(first) & words_right(b, first, second, third) & forces_right(b.several, third)
 }
 
-fn least(a: usize, b: usize) -> usize
-    ensures { (result ≤ a) × (result ≤ b) }
-{
-    if a < b { a } else { b }
-}
-
 // How many of the n rows from `at` are whole and valid before the first that is not.
 pub fn right_rows(known: Known, s: &[u8], n: u16, at: usize) -> u16
     requires { at ≤ length s.now }
     ensures { Skipped (test_of Rows known s.now) (width_of Rows) (length s.now) n at result }
 {
     let bars = bars_of(known);
-    let whole = least(n as usize, (s.len() - at) / ROW_BYTES) as u16;
-    let mut i = 0;
-    let mut place = at;
-    while i < whole {
-        if !row_right(bars, s, place) {
+    let whole = usize::min(n as usize, (s.len() - at) / ROW_BYTES) as u16;
+    for i in 0..whole {
+        if !row_right(bars, s, at + ROW_BYTES * i as usize) {
             return i;
         }
-        place += ROW_BYTES;
-        i += 1;
     }
-    i
+    whole
 }

@@ -1,7 +1,7 @@
 -- The listing of a file: what the program prints. Document 01, "One session, whole".
 use Rattle.std.specs.Prelude.{ℕ, List, ◌++◌}
 use Rattle.settings.specs.Refusals.{granted}
-use Rattle.recording.specs.declared.Answer.{Answer}
+use Rattle.recording.specs.Answer.{Answer}
 use Rattle.recording.specs.Answers.{number, place}
 use Rattle.recording.specs.Reader.{reading}
 use Rattle.rerun.specs.declared.Replayed.{Replayed}

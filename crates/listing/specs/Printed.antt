@@ -4,7 +4,7 @@
 use Rattle.std.specs.Prelude.{ℕ, zero, suc, ◌+◌, ◌≤◌, ◌≡◌, Bool, true, false, not, cond, List, [], ◌++◌, leb, length}
 use Rattle.std.proofs.lemmas.List.Edits.{sets}
 use Rattle.settings.specs.Refusals.{granted}
-use Rattle.recording.specs.declared.Answer.{Answer}
+use Rattle.recording.specs.Answer.{Answer}
 use Rattle.recording.specs.Answers.{number, place}
 use Rattle.recording.specs.Reader.{reading}
 use Rattle.rerun.specs.declared.Run.{Run}

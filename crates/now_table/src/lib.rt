@@ -7,7 +7,7 @@ ghost use Rattle.std.specs.Prelude.{◌≡◌, ◌+◌, ◌≤◌, ◌<◌, leng
 ghost use Rattle.std.proofs.lemmas.List.Edits.{sets};
 ghost use Rattle.rules.specs.Limits.{most_effects};
 ghost use Rattle.rules.specs.Rules.{no_slot};
-ghost use Rattle.recording.specs.declared.Answer.TheVariants.{Accepted};
+ghost use Rattle.recording.specs.Answer.{Accepted};
 ghost use Rattle.recording.specs.Reader.{reading as reading_of};
 ghost use Rattle.rerun.specs.Replay.{replay};
 ghost use Rattle.reasons.specs.Given.{Narrow};

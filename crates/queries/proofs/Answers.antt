@@ -26,8 +26,8 @@ use Rattle.block.proofs.Runs.{due_bytes}
 use Rattle.reasons.specs.declared.Reason.{Reason}
 use Rattle.reasons.specs.Given.{signs_of}
 use Rattle.reasons.specs.Reasons.{reason_by, reason_of}
-use Rattle.queries.specs.declared.Reply.{Reply}
-use Rattle.queries.specs.declared.Reply.TheVariants.{Because, Refused}
+use Rattle.queries.specs.Reply.{Reply}
+use Rattle.queries.specs.Reply.{Because, Refused}
 use Rattle.queries.specs.Queries.{present_number, query_number, reply_of}
 use Rattle.queries.specs.Across.{slot_at, reason_across}
 

@@ -10,8 +10,8 @@ use Rattle.settings.specs.Signals.{signals_of}
 use Rattle.block.specs.declared.State.{State}
 use Rattle.block.specs.Scan.{input_number, once}
 use Rattle.reasons.specs.Reasons.{reason_of}
-use Rattle.queries.specs.declared.Reply.{Reply}
-use Rattle.queries.specs.declared.Reply.TheVariants.{Because, Refused}
+use Rattle.queries.specs.Reply.{Reply}
+use Rattle.queries.specs.Reply.{Because, Refused}
 
 -- ## What is refused
 

@@ -8,10 +8,10 @@ use lib.ListN.{length}
 use Rattle.bits.specs.Numbers.{num_at}
 use Rattle.settings.specs.declared.Settings.{Settings}
 use Rattle.settings.specs.Right.{known_of}
-use Rattle.layout.specs.declared.Section.{Section}
-use Rattle.layout.specs.declared.Section.TheVariants as S
-use Rattle.recording.specs.declared.Answer.TheVariants as A
-use Rattle.recording.specs.declared.Reading.{Reading}
+use Rattle.layout.specs.Section.{Section}
+use Rattle.layout.specs.Section as S
+use Rattle.recording.specs.Answer as A
+use Rattle.recording.specs.Answer.{Reading}
 use Rattle.layout.specs.declared.Kind.TheVariants.{Block, Effects, Rows}
 use Rattle.layout.specs.Sections.{width_of, section_of}
 use Rattle.recording.specs.Refused.{Passes}

@@ -12,7 +12,7 @@ use Rattle.bits.specs.Numbers.{num_at}
 use Rattle.bits.proofs.Lists.{and_left, and_right}
 use Rattle.settings.proofs.Refusals.{granted_refused}
 use Rattle.settings.specs.declared.Known.{Known}
-use Rattle.layout.specs.declared.Section.TheVariants as S
+use Rattle.layout.specs.Section as S
 use Rattle.layout.specs.declared.Kind.{Kind}
 use Rattle.layout.specs.Sections.{entries, section, width_of, least_of, most_of, number_of, count_ok, test_of, section_of}
 use Rattle.recording.specs.Refused.{FirstRight, Passes}

@@ -11,9 +11,9 @@ use Rattle.bits.proofs.Lists.{and_left, and_right}
 use Rattle.layout.specs.declared.Kind.TheVariants.{Rows}
 use Rattle.layout.specs.Entries.{row_at}
 use Rattle.layout.specs.Sections.{width_of}
-use Rattle.recording.specs.declared.Answer.TheVariants as A
-use Rattle.recording.specs.declared.Reading.{Reading}
-use Rattle.recording.specs.declared.Step.TheVariants as T
+use Rattle.recording.specs.Answer as A
+use Rattle.recording.specs.Answer.{Reading}
+use Rattle.recording.specs.Step as T
 use Rattle.recording.specs.Reader.{reading}
 use Rattle.recording.specs.Steps.{is_place, step_in, step_at}
 use Rattle.recording.proofs.Cases.{accepted_width, accepted_end}

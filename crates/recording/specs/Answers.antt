@@ -3,12 +3,12 @@
 use Rattle.std.specs.Prelude.{ℕ, Bool, true, false}
 use Rattle.settings.specs.declared.Row.{Row}
 use Rattle.settings.specs.Zeros.{no_row}
-use Rattle.layout.specs.declared.Section.{Section}
-use Rattle.layout.specs.declared.Section.TheVariants as S
-use Rattle.recording.specs.declared.Answer.{Answer}
-use Rattle.recording.specs.declared.Answer.TheVariants as A
-use Rattle.recording.specs.declared.Step.{Step}
-use Rattle.recording.specs.declared.Step.TheVariants as T
+use Rattle.layout.specs.Section.{Section}
+use Rattle.layout.specs.Section as S
+use Rattle.recording.specs.Answer.{Answer}
+use Rattle.recording.specs.Answer as A
+use Rattle.recording.specs.Step.{Step}
+use Rattle.recording.specs.Step as T
 
 -- ## The reader
 

@@ -1,3 +1,5 @@
+pub mod Answer
+pub mod Step
 pub mod Reader
 pub mod Answers
 pub mod Steps

@@ -6,10 +6,10 @@ use Rattle.settings.specs.declared.Known.{Known}
 use Rattle.settings.specs.Right.{known_of}
 use Rattle.settings.specs.Signals.{no_effect}
 use Rattle.settings.specs.Zeros.{no_settings}
-use Rattle.layout.specs.declared.Section.{Section}
-use Rattle.layout.specs.declared.Section.TheVariants as S
-use Rattle.recording.specs.declared.Answer.TheVariants as A
-use Rattle.recording.specs.declared.Reading.{Reading}
+use Rattle.layout.specs.Section.{Section}
+use Rattle.layout.specs.Section as S
+use Rattle.recording.specs.Answer as A
+use Rattle.recording.specs.Answer.{Reading}
 use Rattle.layout.specs.declared.Kind.TheVariants.{Block, Effects, Rows}
 use Rattle.layout.specs.Entries.{block_at, effect_at}
 use Rattle.bits.specs.Lists.{list_of}

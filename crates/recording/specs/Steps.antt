@@ -1,9 +1,9 @@
 -- The row at a place. Document 01, "Recordings": ended where the reader refuses the bytes or the place is no row's first byte.
 use Rattle.std.specs.Prelude.{ℕ, ◌+◌, ◌*◌, ◌-◌, ◌%◌, Bool, cond, ◌&&◌, List, leb, ltb, eqb}
 use Rattle.settings.specs.declared.Row.{Row}
-use Rattle.recording.specs.declared.Answer.{Answer}
-use Rattle.recording.specs.declared.Step.{Step}
-use Rattle.recording.specs.declared.Step.TheVariants as T
+use Rattle.recording.specs.Answer.{Answer}
+use Rattle.recording.specs.Step.{Step}
+use Rattle.recording.specs.Step as T
 use Rattle.layout.specs.Entries.{row_at}
 use Rattle.bits.specs.Lists.{list_of}
 use Rattle.recording.specs.Answers.{row_count_of, first_row, row_width}

@@ -6,85 +6,76 @@
 
 ghost use Rattle.std.specs.Prelude.{◌≡◌, ◌+◌, ◌*◌, ◌≤◌, ◌<◌, length};
 ghost use Rattle.bits.specs.Numbers.{num_at};
+ghost use Rattle.settings.specs.declared.numbers.Refusal.TheVariants.{Ends};
+ghost use Rattle.layout.specs.Section.{as_section};
 ghost use Rattle.layout.specs.Sections.{section_of};
-ghost use Rattle.recording.specs.Reader.{nothing_known, known_of_block, settings_at, refusal, from_section, reading};
+ghost use Rattle.recording.specs.Answer.{as_reading};
+ghost use Rattle.recording.specs.Step.{as_step};
+ghost use Rattle.recording.specs.Reader.{nothing_known, known_of_block, settings_at, reading};
 ghost use Rattle.recording.specs.Steps.{is_place, step_at};
 
-use layout::{Kind, Section};
-use settings::{Effect, Known, Row, Settings};
+use layout::Kind;
+use settings::{Known, Refusal, Refused, Row, Settings};
 
-// What a recording results in: the row count, the first row's place and the width of a row, or a refusal.
+// A recording that is accepted: its settings, the row count, the first row's place and the width of a row.
 #[derive(Clone, Copy)]
-pub enum Answer {
-    Accepted {
-        rows: u16,
-        first: usize,
-        width: usize,
-    },
-    Refused {
-        number: u8,
-        place: usize,
-    },
-}
-
-// The answer, and the settings, which are all zero beside a refusal.
-#[derive(Clone, Copy)]
-pub struct Reading {
-    pub answer: Answer,
+pub struct Recording {
     pub settings: Settings,
+    pub rows: u16,
+    pub first: usize,
+    pub width: usize,
 }
 
-// What stands at a place: a row and the place after it, or nothing.
+// A row, and the place after it.
 #[derive(Clone, Copy)]
-pub enum Step {
-    Row(Row, usize),
-    Ended,
+pub struct RowAt {
+    pub row: Row,
+    pub next: usize,
 }
 
 // ---- sections
 
-// Reads a section: the bytes of its count, its count, then for each entry its bytes and its fields.
-fn read_section(kind: Kind, known: Known, s: &[u8], at: usize) -> Section
+// The bytes end before a count or an entry does.
+fn ended(s: &[u8]) -> Refused
+    ensures { result ≡ record { refusal = Ends; place = length s.now } }
+{
+    Refused {
+        refusal: Refusal::Ends,
+        place: s.len(),
+    }
+}
+
+// Reads a section: the bytes of its count, its count, then for each entry its bytes and its fields. The answer is the place after it.
+fn read_section(kind: Kind, known: Known, s: &[u8], at: usize) -> Result<usize, Refused>
     requires { at ≤ length s.now }
-    ensures { result ≡ section_of kind known s.now at }
+    ensures { as_section result ≡ section_of kind known s.now at }
 {
     if s.len() - at < 2 {
-        return Section::Refused {
-            number: 1,
-            place: s.len(),
-        };
+        return Err(ended(s));
     }
     let n = bits::get16(s, at);
     if !layout::count_ok(kind, n) {
-        return Section::Refused {
-            number: layout::number_of(kind),
+        return Err(Refused {
+            refusal: layout::refusal_of(kind),
             place: at,
-        };
+        });
     }
-    let w = layout::width_of(kind);
+    let width = layout::width_of(kind);
     let first = at + 2;
     let passed = layout::passed_quickly(kind, known, s, n, first);
-    let mut left = n - passed;
-    let mut place = first + w * (passed as usize);
-    while 0 < left {
-        if s.len() - place < w {
-            return Section::Refused {
-                number: 1,
-                place: s.len(),
-            };
+    for i in passed..n {
+        let place = first + width * (i as usize);
+        if s.len() - place < width {
+            return Err(ended(s));
         }
-        let next = place + w;
-        let verdict = layout::entry_number(kind, known, s, place);
-        if verdict != 0 {
-            return Section::Refused {
-                number: verdict,
+        if let Err(refusal) = layout::check_entry(kind, known, s, place) {
+            return Err(Refused {
+                refusal,
                 place: place,
-            };
+            });
         }
-        place = next;
-        left -= 1;
     }
-    Section::Next(place)
+    Ok(first + width * (n as usize))
 }
 
 // ---- the reader
@@ -129,65 +120,35 @@ fn nothing_known() -> Known
     }
 }
 
-// A refusal, with settings that are all zero.
-fn refused(number: u8, place: usize) -> Reading
-    ensures { result ≡ refusal number place }
-{
-    let none = [Effect {
-        association: 0,
-        delay: 0,
-    }; 16];
-    let settings = Settings {
-        causes: 0,
-        options: 0,
-        period: 0,
-        count: 0,
-        effects: none,
-    };
-    Reading {
-        answer: Answer::Refused { number, place },
-        settings: settings,
-    }
-}
-
-// The reading of a recording in which a section was refused: the section's refusal number and place.
-fn stopped(part: Section) -> Reading
-    ensures { result ≡ from_section part (refusal 0) }
-{
-    match part {
-        Section::Refused { number, place } => refused(number, place),
-        Section::Next(at) => refused(0, at),
-    }
-}
-
 // Reads a recording, section by section, and stops at the first refusal.
-pub fn read(s: &[u8]) -> Reading
-    ensures { result ≡ reading s.now }
+pub fn read(s: &[u8]) -> Result<Recording, Refused>
+    ensures { as_reading result ≡ reading s.now }
 {
     let block = read_section(Kind::Block, nothing_known(), s, 0);
-    let Section::Next(e) = block else {
-        return stopped(block);
+    let Ok(e) = block else {
+        return Err(block.unwrap_err());
     };
     let effects = read_section(Kind::Effects, known_of_block(s), s, e);
-    let Section::Next(r) = effects else {
-        return stopped(effects);
+    let Ok(r) = effects else {
+        return Err(effects.unwrap_err());
     };
     let settings = settings_at(s, e);
     let rows = read_section(Kind::Rows, settings::known_of(settings), s, r);
-    let Section::Next(end) = rows else {
-        return stopped(rows);
+    let Ok(end) = rows else {
+        return Err(rows.unwrap_err());
     };
     if end != s.len() {
-        return refused(7, end);
+        return Err(Refused {
+            refusal: Refusal::LeftOver,
+            place: end,
+        });
     }
-    Reading {
-        answer: Answer::Accepted {
-            rows: bits::get16(s, r),
-            first: r + 2,
-            width: layout::width_of(Kind::Rows),
-        },
-        settings: settings,
-    }
+    Ok(Recording {
+        settings,
+        rows: bits::get16(s, r),
+        first: r + 2,
+        width: layout::width_of(Kind::Rows),
+    })
 }
 
 // ---- the row at a place
@@ -203,22 +164,18 @@ fn is_place(first: usize, width: usize, end: usize, at: usize) -> bool
     (at < end) & ((at - first) % width == 0)
 }
 
-// The row at a place. It is ended where the reader refuses the bytes, or the place is no row's first byte.
-pub fn row_step(s: &[u8], at: usize) -> Step
-    ensures { result ≡ step_at s.now at }
+// The row at a place. There is none where the reader refuses the bytes, or the place is no row's first byte.
+pub fn row_step(s: &[u8], at: usize) -> Option<RowAt>
+    ensures { as_step result ≡ step_at s.now at }
 {
-    let reading = read(s);
-    let answer = reading.answer;
-    let Answer::Accepted {
-        rows: _,
-        first,
-        width,
-    } = answer
-    else {
-        return Step::Ended;
+    let Ok(file) = read(s) else {
+        return None;
     };
-    if !is_place(first, width, s.len(), at) {
-        return Step::Ended;
+    if !is_place(file.first, file.width, s.len(), at) {
+        return None;
     }
-    Step::Row(layout::row_at(s, at, width), at + width)
+    Some(RowAt {
+        row: layout::row_at(s, at, file.width),
+        next: at + file.width,
+    })
 }

@@ -9,8 +9,8 @@ use Rattle.findings.specs.declared.Finding.{Finding}
 use Rattle.findings.specs.declared.Explained.{Explained}
 use Rattle.sentences.specs.Sentences.{sentence}
 use Rattle.recording.specs.Encode.{most_length}
-use Rattle.recording.specs.declared.Answer.{Answer}
-use Rattle.recording.specs.declared.Answer.TheVariants.{Accepted, Refused}
+use Rattle.recording.specs.Answer.{Answer}
+use Rattle.recording.specs.Answer.{Accepted, Refused}
 
 -- ## The heading, and a check
 

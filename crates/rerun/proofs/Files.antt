@@ -17,7 +17,7 @@ use Rattle.settings.specs.Right.{known_of, settings_number, row_number}
 use Rattle.settings.proofs.Right.{count_few}
 use Rattle.block.specs.Scan.{scans_number}
 use Rattle.block.proofs.Theorems.{a_fresh_state_is_right}
-use Rattle.recording.specs.declared.Answer.TheVariants as A
+use Rattle.recording.specs.Answer as A
 use Rattle.recording.specs.Answers.{number, place, row_count_of, first_row, row_width}
 use Rattle.settings.specs.Zeros.{no_row}
 use Rattle.recording.specs.Encode.{Right}

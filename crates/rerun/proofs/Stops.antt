@@ -10,7 +10,7 @@ use Rattle.settings.specs.declared.Row.{Row}
 use Rattle.rules.specs.Limits.{most_scans}
 use Rattle.settings.proofs.Refusals.{limit_kept}
 use Rattle.block.specs.Scan.{scans_number}
-use Rattle.recording.specs.declared.Answer.TheVariants as A
+use Rattle.recording.specs.Answer as A
 use Rattle.recording.specs.Answers.{number, row_count_of, first_row, row_width}
 use Rattle.layout.specs.Entries.{row_at}
 use Rattle.layout.specs.declared.Kind.TheVariants.{Rows}

@@ -25,8 +25,8 @@ use Rattle.block.specs.Held.{Stepped, run as held_run}
 use Rattle.block.specs.Run.{start_of, reached_by, kept_state, kept_run, Runs, Ran}
 use Rattle.block.proofs.Boards.{shows}
 use Rattle.block.proofs.Theorems.{right_input_is_accepted}
-use Rattle.recording.specs.declared.Answer.{Answer}
-use Rattle.recording.specs.declared.Answer.TheVariants as A
+use Rattle.recording.specs.Answer.{Answer}
+use Rattle.recording.specs.Answer as A
 use Rattle.recording.specs.Answers.{number, row_count_of, first_row, row_width}
 use Rattle.layout.specs.Entries.{row_at}
 use Rattle.layout.specs.declared.Kind.TheVariants.{Rows}

@@ -7,7 +7,7 @@
 
 ghost use Rattle.std.specs.Prelude.{◌≡◌, ◌≤◌, length, replicate};
 ghost use Rattle.cells.specs.Array.{array_length};
-ghost use Rattle.recording.specs.declared.Answer.TheVariants.{Accepted};
+ghost use Rattle.recording.specs.Answer.{Accepted};
 ghost use Rattle.recording.specs.Reader.{reading};
 ghost use Rattle.rerun.specs.Replay.{refusal, replay as whole_replay, answered};
 ghost use Rattle.rerun.specs.Turn.{Begins, RowReady, RowDone, RowsReady, RowsDone, SmallSums, place_of, run_after, counts_in, answer_of, stop_of};

@@ -13,7 +13,7 @@ use Rattle.effects.specs.declared.Event.{Event}
 use Rattle.effects.specs.Records.{record_length, bytes, StandFrom, Numbered}
 use Rattle.effects.proofs.Records.{front_bytes}
 use Rattle.block.proofs.RightStates.{right_state_few}
-use Rattle.recording.specs.declared.Answer.TheVariants as A
+use Rattle.recording.specs.Answer as A
 use Rattle.recording.specs.Answers.{row_count_of}
 use Rattle.recording.specs.Reader.{reading}
 use Rattle.rerun.specs.declared.Run.{Run}

@@ -5,7 +5,25 @@ use Prim.Native.Nat.{ℕ, zero, suc, ◌≤◌, ◌<◌}
 use native.Mathlib.Omega.{arith}
 use borrow.Author.Tests.{leb-true, leb-false, le-leb, lt-leb}
 use lib.Dec.{leb}
-use Rattle.settings.specs.Refusals.{unless, or_else, granted, room_number}
+use Rattle.settings.specs.declared.numbers.Refusal.{Refusal}
+use Rattle.settings.specs.declared.numbers.Refusal.TheVariants.{Ends, Block, Effects, Rows, BothForces, SeveralForced, LeftOver, State, LastScan, Room, Sums}
+use Rattle.settings.specs.Refusals.{unless, or_else, granted, room_number, number_of}
+
+-- ## The refusal numbers
+
+-- 0 is no refusal's number
+pub number_some : (r : Refusal) → number_of r ≡ 0 → ⊥
+number_some Ends e = absurd (omega (arith, e))
+number_some Block e = absurd (omega (arith, e))
+number_some Effects e = absurd (omega (arith, e))
+number_some Rows e = absurd (omega (arith, e))
+number_some BothForces e = absurd (omega (arith, e))
+number_some SeveralForced e = absurd (omega (arith, e))
+number_some LeftOver e = absurd (omega (arith, e))
+number_some State e = absurd (omega (arith, e))
+number_some LastScan e = absurd (omega (arith, e))
+number_some Room e = absurd (omega (arith, e))
+number_some Sums e = absurd (omega (arith, e))
 
 -- ## What is granted, and what is refused
 

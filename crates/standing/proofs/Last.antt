@@ -10,7 +10,7 @@ use Rattle.rules.specs.Rules.{no_slot}
 use Rattle.effects.specs.Records.{most_row_bytes}
 use Rattle.boards.specs.Table.{slots_of}
 use Rattle.cells.specs.Loaded.{table_in}
-use Rattle.recording.specs.declared.Answer.TheVariants as A
+use Rattle.recording.specs.Answer as A
 use Rattle.recording.specs.Answers.{row_count_of}
 use Rattle.recording.specs.Reader.{reading}
 use Rattle.recording.specs.Accepted.{Accepted}

@@ -6,7 +6,7 @@
 ghost use Rattle.std.specs.Prelude.{◌≡◌, ◌+◌, ◌≤◌, ◌<◌};
 ghost use Rattle.rules.specs.Limits.{most_effects};
 ghost use Rattle.effects.specs.Records.{Recorded};
-ghost use Rattle.recording.specs.declared.Answer.TheVariants.{Accepted};
+ghost use Rattle.recording.specs.Answer.{Accepted};
 ghost use Rattle.recording.specs.Answers.{row_count_of};
 ghost use Rattle.recording.specs.Reader.{reading};
 ghost use Rattle.rerun.specs.Replay.{replay};

@@ -12,8 +12,8 @@ use lib.ListN.{take, drop, get_or, drop_of_length-le, get_or-eq_default}
 use lib.Seq.{take-nil, drop-cons}
 use denote.Ref.{Bor}
 use Rattle.settings.specs.declared.Row.{Row}
-use Rattle.recording.specs.declared.Step.{Step}
-use Rattle.recording.specs.declared.Step.TheVariants as T
+use Rattle.recording.specs.Step.{Step}
+use Rattle.recording.specs.Step as T
 use Rattle.recording.specs.Reader.{reading}
 use Rattle.recording.specs.Answers.{row_count_of, first_row, ended, step_row, next_place}
 use Rattle.settings.specs.Zeros.{no_row}

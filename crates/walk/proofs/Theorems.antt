@@ -10,7 +10,7 @@ use lib.Dec.{leb}
 use lib.ListN.{take, get_or}
 use lib.Seq.{take_all}
 use denote.Ref.{Bor}
-use Rattle.recording.specs.declared.Reading.{Reading}
+use Rattle.recording.specs.Answer.{Reading}
 use Rattle.recording.specs.Reader.{reading}
 use Rattle.recording.specs.Answers.{number, place, row_count_of, first_row, ended, step_row}
 use Rattle.settings.specs.Zeros.{no_row}

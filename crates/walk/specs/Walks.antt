@@ -4,7 +4,7 @@
 use Rattle.std.specs.Prelude.{ℕ, zero, suc, cond, List, [], ◌∷◌}
 use Rattle.std.specs.Borrow.{Bor}
 use Rattle.settings.specs.declared.Row.{Row}
-use Rattle.recording.specs.declared.Step.{Step}
+use Rattle.recording.specs.Step.{Step}
 use Rattle.recording.specs.Reader.{reading}
 use Rattle.recording.specs.Answers.{first_row, ended, step_row, next_place}
 use Rattle.recording.specs.Steps.{step_at, row_place}

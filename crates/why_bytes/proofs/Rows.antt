@@ -13,7 +13,7 @@ use Rattle.bits.proofs.Numbers.{sets-append}
 use Rattle.rules.specs.Limits.{most_effects}
 use Rattle.effects.specs.declared.Event.{Event}
 use Rattle.effects.specs.Records.{most_row_bytes, Numbered}
-use Rattle.recording.specs.declared.Answer.TheVariants as A
+use Rattle.recording.specs.Answer as A
 use Rattle.recording.specs.Answers.{row_count_of}
 use Rattle.recording.specs.Reader.{reading}
 use Rattle.rerun.specs.declared.Run.{Run}

@@ -10,7 +10,7 @@ ghost use Rattle.std.proofs.lemmas.List.Edits.{sets};
 ghost use Rattle.bits.specs.Lists.{tabulate};
 ghost use Rattle.rules.specs.Limits.{most_effects};
 ghost use Rattle.effects.specs.Records.{Recorded};
-ghost use Rattle.recording.specs.declared.Answer.TheVariants.{Accepted};
+ghost use Rattle.recording.specs.Answer.{Accepted};
 ghost use Rattle.recording.specs.Answers.{row_count_of};
 ghost use Rattle.recording.specs.Reader.{reading as reading_of};
 ghost use Rattle.reason_bytes.specs.Bytes.{numbers_of};

@@ -6,8 +6,8 @@ use native.Mathlib.Omega.{arith}
 use lib.ListN.{length}
 use lib.Seq.{sets}
 use Rattle.effects.specs.Records.{record_length, encode, bytes}
-use Rattle.recording.specs.declared.Answer.{Answer}
-use Rattle.recording.specs.declared.Answer.TheVariants as A
+use Rattle.recording.specs.Answer.{Answer}
+use Rattle.recording.specs.Answer as A
 use Rattle.recording.specs.Answers.{number}
 use Rattle.rerun.specs.declared.Replayed.{Replayed}
 use Rattle.rerun.specs.Replay.{replay, counts, refusal, answered}

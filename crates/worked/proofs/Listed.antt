@@ -3,7 +3,7 @@ use mathlib.Core.Path.{◌≡◌, refl, ap, ◌∙◌}
 use mathlib.Core.List.{◌++◌, flat_map}
 use lib.ListN.{length}
 use Rattle.bits.specs.Decimal.{at_most, decimal}
-use Rattle.recording.specs.declared.Answer.{Answer}
+use Rattle.recording.specs.Answer.{Answer}
 use Rattle.settings.specs.Refusals.{granted}
 use Rattle.rerun.specs.Replay.{replay, counts, refusal}
 use Rattle.worked.specs.Recorded.{session, session_events}

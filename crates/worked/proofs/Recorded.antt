@@ -9,7 +9,7 @@ use Rattle.settings.specs.Signals.{signals_of}
 use Rattle.block.specs.State.{state_number}
 use Rattle.block.specs.Scan.{input_number, after, events, scan_number, scan_of}
 use Rattle.block.specs.Held.{run}
-use Rattle.recording.specs.declared.Answer.TheVariants.{Accepted}
+use Rattle.recording.specs.Answer.{Accepted}
 use Rattle.layout.specs.Entries.{effect_at, words_at, row_in, row_at}
 use Rattle.layout.specs.Sections.{section}
 use Rattle.recording.specs.Reader.{reading}

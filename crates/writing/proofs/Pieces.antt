@@ -9,8 +9,8 @@ use lib.Seq.{sets, sets-eq}
 use Rattle.settings.specs.Refusals.{or_else, room_number}
 use Rattle.settings.proofs.Refusals.{granted_none, granted_refused, granted_number}
 use Rattle.settings.proofs.Answers.{answers_refused, answers_no_room, answers_granted}
-use Rattle.writing.specs.declared.Written.{Written}
-use Rattle.writing.specs.declared.Written.TheVariants as W
+use Rattle.writing.specs.Written.{Written}
+use Rattle.writing.specs.Written as W
 use Rattle.writing.specs.Answers.{written_number, written_place, written_length}
 use Rattle.writing.specs.Writer.{written, after}
 

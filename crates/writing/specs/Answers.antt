@@ -1,8 +1,8 @@
 -- Document 01's refusal number, place and length of each case of the writer's enum. A refusal's place is 0 outside the reader, and so
 -- is its length. "Refusal numbers" and "Where each form belongs".
 use Rattle.std.specs.Prelude.{ℕ}
-use Rattle.writing.specs.declared.Written.{Written}
-use Rattle.writing.specs.declared.Written.TheVariants as W
+use Rattle.writing.specs.Written.{Written}
+use Rattle.writing.specs.Written as W
 
 abbrev pub written_number : Written → ℕ
 written_number (W.Bytes n) = 0

@@ -5,8 +5,8 @@ use Rattle.settings.specs.declared.Settings.{Settings}
 use Rattle.settings.specs.Refusals.{unless, or_else, granted, room_number}
 use Rattle.settings.specs.Right.{known_of, settings_number, row_number}
 use Rattle.layout.specs.declared.Kind.TheVariants.{Rows}
-use Rattle.writing.specs.declared.Written.{Written}
-use Rattle.writing.specs.declared.Written.TheVariants as W
+use Rattle.writing.specs.Written.{Written}
+use Rattle.writing.specs.Written as W
 use Rattle.layout.specs.Entries.{put_row}
 use Rattle.layout.specs.Sections.{count_ok, number_of}
 use Rattle.recording.specs.Encode.{opening}

@@ -60,7 +60,7 @@ pub use Rattle.reasons.specs.declared.Reason.{Reason}
 pub use Rattle.rules.specs.Signals.{Signals}
 pub use Rattle.reasons.specs.Fits.{fits}
 pub use Rattle.reasons.specs.Reasons.{reason_of}
-pub use Rattle.queries.specs.declared.Reply.TheVariants.{Because}
+pub use Rattle.queries.specs.Reply.{Because}
 pub use Rattle.queries.specs.Queries.{reply_number, reply_place, reply_of}
 pub use Rattle.reasoned.specs.Reasoned.{Reasoned, reasoned}
 pub use Rattle.demands.specs.Reasons.{FitsAt, ExactlyOneFits, SameReasonLeadsAlike, query_cases}

@@ -1,6 +1,6 @@
 -- `findings::explain` meets its contract: where the reader refuses, the replay has its refusal number and place, too.
 use mathlib.Core.Path.{sym, ap, ◌∙◌}
-use Rattle.recording.specs.declared.Reading.{Reading}
+use Rattle.recording.specs.Answer.{Reading}
 use Rattle.recording.specs.Answers.{row_count_of}
 use Rattle.rerun.proofs.Files.{refused_replay}
 use Rattle.findings.specs.Findings.{explanation, explained}

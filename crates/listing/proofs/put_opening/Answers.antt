@@ -2,8 +2,8 @@
 use mathlib.Core.Path.{◌≡◌}
 use mathlib.Core.Bool.{Bool}
 use Prim.Native.Nat.{ℕ}
-use Rattle.recording.specs.declared.Answer.{Answer}
-use Rattle.recording.specs.declared.Answer.TheVariants.{Refused}
+use Rattle.recording.specs.Answer.{Answer}
+use Rattle.recording.specs.Answer.{Refused}
 use Rattle.settings.proofs.Refusals.{granted_refused}
 use Rattle.listing.specs.Printed.{opening}
 use Rattle.text.specs.Pieces.{header_of}

@@ -1,7 +1,7 @@
 -- `now_table::show` meets its contract: by what the reader answers.
 use mathlib.Core.Path.{sym, ap, ◌∙◌}
 use native.Mathlib.Omega.{arith}
-use Rattle.recording.specs.declared.Reading.{Reading}
+use Rattle.recording.specs.Answer.{Reading}
 use Rattle.rerun.specs.Replay.{Outcome}
 use Rattle.rerun.proofs.Files.{refused_replay, refusal_number}
 use Rattle.now_table.proofs.Texts.{shows_refusal}

@@ -4,8 +4,8 @@ use mathlib.Core.List.{List}
 use Prim.Native.Nat.{ℕ}
 use lib.ListN.{length}
 use Rattle.settings.specs.Refusals.{or_else, room_number}
-use Rattle.recording.specs.declared.Answer.{Answer}
-use Rattle.recording.specs.declared.Reading.{Reading}
+use Rattle.recording.specs.Answer.{Answer}
+use Rattle.recording.specs.Answer.{Reading}
 use Rattle.recording.specs.Answers.{number}
 use Rattle.numbers.specs.Numbers.{check_bytes, numbers, fitted}
 use Rattle.pohandira.specs.Crossing.{checked}

@@ -1,6 +1,6 @@
 -- `pohandira::pohandira_replay` meets its contract: a file is accepted and replayed, or refused.
 use mathlib.Core.Path.{refl, sym, ap, ◌∙◌}
-use Rattle.recording.specs.declared.Reading.{Reading}
+use Rattle.recording.specs.Answer.{Reading}
 use Rattle.rerun.specs.Turn.{Totals}
 use Rattle.rerun.proofs.Turns.{few_effects, begins}
 use Rattle.pohandira.proofs.Answers.{refused_file}

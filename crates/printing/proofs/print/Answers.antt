@@ -2,7 +2,7 @@
 use mathlib.Core.Path.{refl, sym, ap, ◌∙◌}
 use native.Mathlib.Omega.{arith}
 use lib.ListN.{length}
-use Rattle.recording.specs.declared.Reading.{Reading}
+use Rattle.recording.specs.Answer.{Reading}
 use Rattle.recording.specs.Answers.{number}
 use Rattle.rerun.specs.Turn.{Totals}
 use Rattle.rerun.proofs.Files.{refusal_number}

@@ -1,6 +1,6 @@
 -- `rerun::replay` meets its contract: an accepted file has its rows replayed, and a refused one has none.
 use mathlib.Core.Path.{sym, ap, ◌∙◌}
-use Rattle.recording.specs.declared.Reading.{Reading}
+use Rattle.recording.specs.Answer.{Reading}
 use Rattle.rerun.proofs.Turns.{refused_answer}
 use Rattle.rerun.proofs.replay.Goals as goal
 

@@ -1,7 +1,7 @@
 -- `walk::begin` meets its contract, from what its callees ensure.
 use mathlib.Core.Path.{ap, ◌∙◌}
 use Prim.Native.Nat.{ℕ}
-use Rattle.recording.specs.declared.Reading.{Reading}
+use Rattle.recording.specs.Answer.{Reading}
 use Rattle.recording.specs.Answers.{first_row}
 use Rattle.walk.specs.declared.Begun.{Begun}
 use Rattle.walk.proofs.begin.Goals as goal

@@ -1,6 +1,6 @@
 -- `walk::place_after` meets its contract: where the step has a row, the case that is known of it says where the row ends.
 use mathlib.Core.Path.{sym, ap}
-use Rattle.recording.specs.declared.Step.{Step}
+use Rattle.recording.specs.Step.{Step}
 use Rattle.walk.specs.Walks.{place_after}
 use Rattle.walk.proofs.place_after.Goals as goal
 

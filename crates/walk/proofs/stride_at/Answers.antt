@@ -1,7 +1,7 @@
 -- `walk::stride_at` meets its contract, from what its callees ensure.
 use mathlib.Core.Path.{ap, ◌∙◌}
 use Prim.Native.Nat.{ℕ}
-use Rattle.recording.specs.declared.Step.{Step}
+use Rattle.recording.specs.Step.{Step}
 use Rattle.walk.specs.declared.Stride.{Stride}
 use Rattle.walk.specs.Walks.{place_after}
 use Rattle.walk.proofs.stride_at.Goals as goal

@@ -2,7 +2,7 @@
 use mathlib.Core.Path.{sym, ap, ◌∙◌}
 use mathlib.Core.List.{flat_map}
 use Prim.Native.Nat.{◌*◌}
-use Rattle.recording.specs.declared.Reading.{Reading}
+use Rattle.recording.specs.Answer.{Reading}
 use Rattle.recording.specs.Reader.{reading as reading_of}
 use Rattle.rerun.specs.Replay.{Outcome, replay}
 use Rattle.rerun.proofs.Files.{refused_replay, refusal_number}

@@ -2,7 +2,7 @@
 use mathlib.Core.Path.{sym, ap, ◌∙◌}
 use Prim.Native.Nat.{◌*◌}
 use lib.ListN.{length}
-use Rattle.recording.specs.declared.Reading.{Reading}
+use Rattle.recording.specs.Answer.{Reading}
 use Rattle.rerun.specs.Replay.{Outcome, replay}
 use Rattle.rerun.proofs.Files.{refused_replay, refusal_number}
 use Rattle.reasoned.specs.Reasoned.{reasoned}

@@ -1,6 +1,6 @@
 -- `season::Report::add` meets its contract: a file is accepted, and its totals are added, or refused, and the report is as it was.
 use mathlib.Core.Path.{sym, ap, ◌∙◌}
-use Rattle.recording.specs.declared.Reading.{Reading}
+use Rattle.recording.specs.Answer.{Reading}
 use Rattle.recording.specs.Answers.{place}
 use Rattle.rerun.specs.Replay.{Outcome}
 use Rattle.rerun.proofs.Files.{refused_replay, refusal_number}

@@ -1,5 +1,0 @@
--- `recording::known_of_block` meets its contract, from what its callees ensure: the block entry stands past its count.
-use Rattle.recording.proofs.known_of_block.Goals as goal
-
-pub returns : goal.returns
-returns c = rw (c.get8-2.ensures, c.get8.ensures, c.entries_of-b.ensures)
