@@ -30,7 +30,7 @@ use Rattle.settings.specs.Right.{known_of, settings_number}
 use Rattle.settings.specs.Signals.{signals, signals_of}
 use Rattle.settings.proofs.Right.{row_words, hold_some}
 use Rattle.block.specs.declared.State.{State}
-use Rattle.block.specs.declared.Held.{Held}
+use Rattle.block.specs.Answer.{Held}
 use Rattle.block.specs.Scan.{input_number}
 use Rattle.block.specs.Held.{start, run, granted_held}
 use Rattle.block.specs.State.{state_number}

@@ -10,8 +10,8 @@ use Rattle.settings.specs.Refusals.{or_else, granted, room_number}
 use Rattle.settings.specs.Right.{known_of}
 use Rattle.settings.proofs.Right.{row_words}
 use Rattle.block.specs.declared.State.{State}
-use Rattle.block.specs.declared.Scanned.{Scanned}
-use Rattle.block.specs.declared.Held.{Held}
+use Rattle.block.specs.Answer.{Scanned}
+use Rattle.block.specs.Answer.{Held}
 use Rattle.block.specs.Scan.{input_number, once, events, scan_number, scan_of, scan_into, granted_scan, refused_scan}
 use Rattle.block.specs.Held.{run, held_number, held_of, held_into, granted_held, refused_held}
 use Rattle.block.specs.Run.{scanned_by}

@@ -17,7 +17,7 @@ use Rattle.settings.specs.Right.{known_of, settings_number, words_number}
 use Rattle.settings.specs.Signals.{signals}
 use Rattle.settings.proofs.Answers.{granted_in_room}
 use Rattle.block.specs.declared.State.{State}
-use Rattle.block.specs.declared.Scanned.{Scanned}
+use Rattle.block.specs.Answer.{Scanned}
 use Rattle.block.specs.State.{state_number}
 use Rattle.block.specs.Scan.{input_number, once, after, events, scan_number, granted_scan, refused_scan, scan_of}
 use Rattle.block.specs.Held.{later, words_at, Stepped, single, step, stepped}

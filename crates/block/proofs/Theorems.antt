@@ -23,7 +23,7 @@ use Rattle.settings.specs.Signals.{signals, signals_of}
 use Rattle.settings.proofs.Answers.{granted_in_room}
 use Rattle.settings.proofs.Right.{row_words}
 use Rattle.block.specs.declared.State.{State}
-use Rattle.block.specs.declared.Scanned.{Scanned}
+use Rattle.block.specs.Answer.{Scanned}
 use Rattle.block.specs.State.{state_number, fresh}
 use Rattle.block.specs.Scan.{input_number, at_front, events, scan_of, granted_scan}
 use Rattle.block.specs.Held.{words_at, start, stepped, run, granted_held, refused_held, held_number, held_of, held_into}

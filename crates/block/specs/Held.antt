@@ -10,8 +10,8 @@ use Rattle.settings.specs.declared.Row.{Row}
 use Rattle.settings.specs.Refusals.{or_else, granted, room_number}
 use Rattle.settings.specs.Signals.{signals}
 use Rattle.block.specs.declared.State.{State}
-use Rattle.block.specs.declared.Scanned.{Scanned}
-use Rattle.block.specs.declared.Held.{Held}
+use Rattle.block.specs.Answer.{Scanned}
+use Rattle.block.specs.Answer.{Held}
 use Rattle.block.specs.Scan.{input_number, at_front, events, scan_of}
 
 -- the words of the scans after the first: the reset word counts in the first scan and is zero afterwards

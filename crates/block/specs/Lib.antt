@@ -1,3 +1,4 @@
+pub mod Answer
 pub mod State
 pub mod Scan
 pub mod Held

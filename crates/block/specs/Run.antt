@@ -16,8 +16,8 @@ use Rattle.settings.specs.declared.Settings.{Settings}
 use Rattle.wiring.specs.declared.Struck.{Struck}
 use Rattle.plans.specs.Plans.{associations_of, delays_of, Wired}
 use Rattle.block.specs.declared.State.{State}
-use Rattle.block.specs.declared.Scanned.{Scanned}
-use Rattle.block.specs.declared.Held.{Held}
+use Rattle.block.specs.Answer.{Scanned}
+use Rattle.block.specs.Answer.{Held}
 use Rattle.block.specs.Scan.{input_number}
 use Rattle.block.specs.Held.{Stepped, run}
 

@@ -11,7 +11,7 @@ use Rattle.settings.specs.Refusals.{unless, or_else, granted, room_number}
 use Rattle.settings.specs.Right.{known_of, settings_number, row_number}
 use Rattle.settings.specs.Signals.{signals}
 use Rattle.block.specs.declared.State.{State}
-use Rattle.block.specs.declared.Scanned.{Scanned}
+use Rattle.block.specs.Answer.{Scanned}
 use Rattle.block.specs.State.{state_number}
 
 -- ## What is refused

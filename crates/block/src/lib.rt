@@ -9,9 +9,11 @@ ghost use Rattle.std.proofs.lemmas.List.Edits.{sets};
 ghost use Rattle.bits.specs.Words.{one, word_of};
 ghost use Rattle.effects.specs.Records.{record_length, bytes};
 ghost use Rattle.rules.specs.Limits.{most_scans};
+ghost use Rattle.settings.specs.Refusals.{number_in};
+ghost use Rattle.block.specs.Answer.{as_scanned, as_held};
 ghost use Rattle.block.specs.State.{state_number, fresh as fresh_state};
 ghost use Rattle.block.specs.Scan.{scans_number, input_number, scan_of, scan_into};
-ghost use Rattle.block.specs.Held.{run, granted_held, refused_held, held_of, held_into};
+ghost use Rattle.block.specs.Held.{run, granted_held, held_of, held_into};
 ghost use Rattle.cells.specs.Array.{array_length, firsts_in};
 ghost use Rattle.engine.specs.Marks.{board_at};
 ghost use Rattle.boards.specs.Table.{Narrow};
@@ -21,7 +23,7 @@ use cells::Plan;
 use engine::Mark;
 use planes::Planes;
 use rules::{EffectState, Slot};
-use settings::{Row, Settings, Words};
+use settings::{Refusal, Row, Settings, Words};
 use wiring::Struck;
 
 // The state of the block: scans done, the next sequence number, and sixteen slots, one for each effect.
@@ -32,12 +34,9 @@ pub struct State {
     pub slots: [Slot; 16],
 }
 
-// What a scan answers: a refusal number (0 for none) and its place, the state after the scan or the given one, the effect and
-// the latent word, and the number of records.
+// What a scan answers: the state after it, the effect and the latent word, and the number of records.
 #[derive(Clone, Copy)]
 pub struct Scanned {
-    pub number: u8,
-    pub place: usize,
     pub state: State,
     pub effect: u16,
     pub latent: u16,
@@ -47,8 +46,6 @@ pub struct Scanned {
 // What a held run answers: what a scan answers, with the words of its last scan, and its live and exercised scans.
 #[derive(Clone, Copy)]
 pub struct Held {
-    pub number: u8,
-    pub place: usize,
     pub state: State,
     pub effect: u16,
     pub latent: u16,
@@ -57,66 +54,67 @@ pub struct Held {
     pub exercised: u32,
 }
 
+// Why a scan or a held run is refused, and the state that was given.
+#[derive(Clone, Copy)]
+pub struct RunRefused {
+    pub refusal: Refusal,
+    pub state: State,
+}
+
+impl From<RunRefused> for Refusal {
+    ghost from_gives = { λ refused refusal. refusal ≡ refused.refusal };
+
+    fn from(refused: RunRefused) -> Refusal {
+        refused.refusal
+    }
+}
+
 // ---- when a state is valid: refusal number 8
 
-// 0 for a valid state, else refusal number 8.
-fn state_number(st: Settings, x: State) -> u8
-    ensures { result ≡ state_number st x }
+#[tactic(auto, unfolding(crate::specs::State::state_number))]
+fn check_state(st: Settings, x: State) -> Result<(), Refusal>
+    ensures { number_in result ≡ state_number st x }
 {
     let slots = x.slots;
     if (x.scans_done <= State::MOST_SCANS) & slots::slots_ok(st, slots) {
-        0
+        Ok(())
     } else {
-        8
+        Err(Refusal::State)
     }
 }
 
 // ---- when a scan or a held run is valid: refusal numbers 2, 3, 8, 4, 5, 6, 9
 
-// 0 where the scans of a hold end at or before the last that is counted, else refusal number 9.
-pub fn scans_number(done: u32, hold: u32) -> u8
-    ensures { result ≡ scans_number done hold }
+// Refuses a hold whose scans end after the last that is counted: refusal number 9.
+pub fn check_scans(done: u32, hold: u32) -> Result<(), Refusal>
+    ensures { number_in result ≡ scans_number done hold }
 {
     if (done as u64) + (hold as u64) <= State::MOST_SCANS as u64 {
-        0
+        Ok(())
     } else {
-        9
+        Err(Refusal::LastScan)
     }
 }
 
-// 0 where settings, state and row are valid and the scans can be counted, else the refusal number.
-fn input_number(st: Settings, x: State, row: Row) -> u8
-    ensures { result ≡ input_number st x row }
+// Refuses settings, a state or a row that are not valid, and scans that cannot be counted.
+#[tactic(auto, unfolding(crate::specs::Scan::input_number))]
+fn check_input(st: Settings, x: State, row: Row) -> Result<(), Refusal>
+    ensures { number_in result ≡ input_number st x row }
 {
-    let settings = settings::settings_number(st);
-    if settings != 0 {
-        return settings;
-    }
-    let state = state_number(st, x);
-    if state != 0 {
-        return state;
-    }
-    let words = settings::row_number(settings::known_of(st), row);
-    if words != 0 {
-        return words;
-    }
-    scans_number(x.scans_done, row.hold)
+    settings::check_settings(st)?;
+    check_state(st, x)?;
+    settings::check_row(settings::known_of(st), row)?;
+    check_scans(x.scans_done, row.hold)
 }
 
 // ---- a held run
 
-fn refused_held(number: u8, given: State) -> Held
-    ensures { result ≡ refused_held given number }
+fn refused(refusal: Refusal, given: State) -> RunRefused
+    ensures { result ≡ (record { refusal = refusal; state = given }) }
 {
-    Held {
-        number: number,
-        place: 0,
+    RunRefused {
+        refusal,
         state: given,
-        effect: 0,
-        latent: 0,
-        records: 0,
-        live: 0,
-        exercised: 0,
     }
 }
 
@@ -191,7 +189,7 @@ pub fn run_kept(buf: &mut [u8], board: &mut [u32; 64], plan: Plan, row: Row, fro
 // only. Its records go to the front of `buf`. A single scan is a run of hold 1.
 pub fn run_right(buf: &mut [u8], st: Settings, row: Row, x: State) -> Held
     requires { (input_number st x row ≡ 0) × (record_length * length (run st row x).events ≤ length buf.old) }
-    ensures value { result ≡ granted_held st row x }
+    ensures value { as_held (Ok result) ≡ granted_held st row x }
     ensures buf_after { buf.new ≡ sets buf.old 0 (bytes (run st row x).events) }
 {
     let mut board = [0u32; 64];
@@ -200,8 +198,6 @@ pub fn run_right(buf: &mut [u8], st: Settings, row: Row, x: State) -> Held
     let r = wiring::stroke(buf, &mut board, plan, row, from);
     let mark = r.mark;
     Held {
-        number: 0,
-        place: 0,
         state: reached(&board, plan.count, mark),
         effect: r.effect,
         latent: r.latent,
@@ -213,12 +209,10 @@ pub fn run_right(buf: &mut [u8], st: Settings, row: Row, x: State) -> Held
 
 // The part of a held run's answer that a scan answers.
 fn scan_of(h: Held) -> Scanned
-    ensures { result ≡ scanned_by h }
+    ensures { as_scanned (Ok result) ≡ scanned_by (as_held (Ok h)) }
 {
     let state = h.state;
     Scanned {
-        number: h.number,
-        place: h.place,
         state: state,
         effect: h.effect,
         latent: h.latent,
@@ -253,32 +247,31 @@ impl State {
     }
 
     // One scan: its records go to the front of `out`. It is a held run of hold 1.
-    pub fn scan(self, st: Settings, w: Words, out: &mut [u8]) -> Scanned
-        ensures value { result ≡ scan_of st w self (length out.old) }
+    pub fn scan(self, st: Settings, w: Words, out: &mut [u8]) -> Result<Scanned, RunRefused>
+        ensures value { as_scanned result ≡ scan_of st w self (length out.old) }
         ensures out_after { out.new ≡ scan_into st w self out.old }
     {
         let once = Row { hold: 1, words: w };
-        let held = self.held(st, once, out);
-        scan_of(held)
+        let held = self.held(st, once, out)?;
+        Ok(scan_of(held))
     }
 
     // A held run. Its records go to the front of `out`. They are laid in a space of their own first, because a run that is refused for
     // want of room touches no byte of `out`.
-    pub fn held(self, st: Settings, row: Row, out: &mut [u8]) -> Held
-        ensures value { result ≡ held_of st row self (length out.old) }
+    pub fn held(self, st: Settings, row: Row, out: &mut [u8]) -> Result<Held, RunRefused>
+        ensures value { as_held result ≡ held_of st row self (length out.old) }
         ensures out_after { out.new ≡ held_into st row self out.old }
     {
-        let number = input_number(st, self, row);
-        if number != 0 {
-            return refused_held(number, self);
+        if let Err(refusal) = check_input(st, self, row) {
+            return Err(refused(refusal, self));
         }
         let mut space = [0u8; effects::MOST_ROW_BYTES];
         let ran = run_right(&mut space, st, row, self);
         let at = effects::RECORD_LENGTH * ran.records;
         if out.len() < at {
-            return refused_held(10, self);
+            return Err(refused(Refusal::Room, self));
         }
         bits::copy_front(&space, at, out);
-        ran
+        Ok(ran)
     }
 }

@@ -6,7 +6,7 @@ use Rattle.bits.specs.Numbers.{digits}
 use Rattle.rules.specs.declared.Slot.{Slot}
 use Rattle.rules.specs.Rules.{code}
 use Rattle.block.specs.declared.State.{State}
-use Rattle.block.specs.declared.Scanned.{Scanned}
+use Rattle.block.specs.Answer.{Scanned}
 
 -- a slot: state code 1, timer 4, first-out 2
 unfoldable pub slot_bytes : Slot → List ℕ

@@ -26,8 +26,8 @@ use Rattle.settings.proofs.Right.{count_few}
 use Rattle.settings.specs.Refusals.{granted}
 use Rattle.settings.proofs.Refusals.{granted_refused}
 use Rattle.block.specs.declared.State.{State}
-use Rattle.block.specs.declared.Scanned.{Scanned}
-use Rattle.block.specs.declared.Held.{Held}
+use Rattle.block.specs.Answer.{Scanned}
+use Rattle.block.specs.Answer.{Held}
 use Rattle.block.specs.State.{state_ok, state_number}
 use Rattle.block.specs.Scan.{at_front, after, events, granted_scan, refused_scan, scan_of, scan_into}
 use Rattle.block.specs.Held.{words_at, start, single, stepped, run, granted_held, refused_held, held_of, held_into}

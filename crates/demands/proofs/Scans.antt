@@ -28,7 +28,7 @@ use Rattle.settings.specs.Right.{known_of, settings_number, words_number, row_nu
 use Rattle.settings.specs.Signals.{signals, signals_of}
 use Rattle.settings.proofs.Answers.{granted_in_room}
 use Rattle.block.specs.declared.State.{State}
-use Rattle.block.specs.declared.Scanned.{Scanned}
+use Rattle.block.specs.Answer.{Scanned}
 use Rattle.block.specs.State.{state_number}
 use Rattle.block.specs.Scan.{input_number, at_front, once, after, events, scan_number, granted_scan, refused_scan, scan_of, scan_into}
 use Rattle.block.specs.Held.{later, words_at, Stepped, single, step, stepped}

@@ -18,7 +18,7 @@ use Rattle.settings.specs.Refusals.{or_else, granted}
 use Rattle.settings.specs.Signals.{signals, signals_of}
 use Rattle.settings.proofs.Refusals.{granted_none, granted_refused, granted_number, unless_none, room_enough, or_else_none, or_else_alone}
 use Rattle.block.specs.declared.State.{State}
-use Rattle.block.specs.declared.Scanned.{Scanned}
+use Rattle.block.specs.Answer.{Scanned}
 use Rattle.block.specs.Scan.{input_number, once, after, events, scan_number, granted_scan, refused_scan, scan_of}
 use Rattle.block.specs.Held.{run}
 use Rattle.block.proofs.Answers.{few}

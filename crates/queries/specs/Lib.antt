@@ -1,2 +1,3 @@
+pub mod Reply
 pub mod Queries
 pub mod Across

@@ -4,42 +4,26 @@
 #![tactic(auto)]
 
 ghost use Rattle.std.specs.Prelude.{◌≡◌, ◌<◌};
-ghost use Rattle.settings.specs.Refusals.{or_else};
+ghost use Rattle.settings.specs.Refusals.{number_in};
+ghost use Rattle.queries.specs.Reply.{as_reply};
 ghost use Rattle.queries.specs.Queries.{present_number, reply_of};
 ghost use Rattle.queries.specs.Across.{reason_across};
 
 use block::State;
 use reasons::Reason;
-use settings::{Settings, Words};
-
-// The answer to a query: the reason, or a refusal number with its place.
-#[derive(Clone, Copy)]
-pub enum Reply {
-    Because(Reason),
-    Refused { number: u8, place: usize },
-}
+use settings::{Refusal, Settings, Words};
 
 // ---- what is refused
 
-// 0 for the number of an effect that is there, else refusal number 3.
-fn present_number(count: u8, effect: u8) -> u8
-    ensures { result ≡ present_number count effect }
+// Refuses the number of an effect that is not there: refusal number 3.
+fn check_present(count: u8, effect: u8) -> Result<(), Refusal>
+    ensures { number_in result ≡ present_number count effect }
 {
     if (1 <= effect) & (effect <= count) {
-        0
+        Ok(())
     } else {
-        3
+        Err(Refusal::Effects)
     }
-}
-
-// The first refusal number if it is not 0, else the second.
-fn first_number(first: u8, second: u8) -> u8
-    ensures { result ≡ or_else first second }
-{
-    if first != 0 {
-        return first;
-    }
-    second
 }
 
 // ---- what is answered
@@ -61,16 +45,11 @@ fn reason_across(st: Settings, w: Words, before: State, after: State, i: usize) 
 
 // Why an effect, numbered from 1, is in its state after a scan. Nobody asks for the scan's records, so they go to a buffer that holds
 // those of any scan, and refusal number 10 does not occur.
-pub fn why(st: Settings, x: State, w: Words, effect: u8) -> Reply
-    ensures { result ≡ reply_of st w x effect }
+pub fn why(st: Settings, x: State, w: Words, effect: u8) -> Result<Reason, Refusal>
+    ensures { as_reply result ≡ reply_of st w x effect }
 {
     let mut records = [0u8; effects::MOST_ROW_BYTES];
-    let scanned = x.scan(st, w, &mut records);
-    let present = present_number(st.count, effect);
-    let number = first_number(scanned.number, present);
-    if number != 0 {
-        return Reply::Refused { number, place: 0 };
-    }
-    let after = scanned.state;
-    Reply::Because(reason_across(st, w, x, after, effect as usize - 1))
+    let scanned = x.scan(st, w, &mut records)?;
+    check_present(st.count, effect)?;
+    Ok(reason_across(st, w, x, scanned.state, effect as usize - 1))
 }

@@ -14,7 +14,7 @@ use Rattle.settings.specs.declared.Words.{Words}
 use Rattle.settings.specs.Refusals.{granted}
 use Rattle.settings.specs.Signals.{signals, signals_of}
 use Rattle.block.specs.declared.State.{State}
-use Rattle.block.specs.declared.Scanned.{Scanned}
+use Rattle.block.specs.Answer.{Scanned}
 use Rattle.block.specs.Scan.{after, events, scan_number, scan_of, granted_scan, refused_scan}
 use Rattle.block.specs.Held.{later, words_at, Stepped, single, step, stepped}
 use Rattle.block.proofs.Stepping.{later_again}

@@ -5,6 +5,7 @@ use Prim.Native.Nat.{ℕ, zero, suc, ◌≤◌, ◌<◌}
 use native.Mathlib.Omega.{arith}
 use borrow.Author.Tests.{leb-true, leb-false, le-leb, lt-leb}
 use lib.Dec.{leb}
+use Rattle.std.proofs.Common.{Result, Ok, Err, IsErr, IsErrAnd}
 use Rattle.settings.specs.declared.numbers.Refusal.{Refusal}
 use Rattle.settings.specs.declared.numbers.Refusal.TheVariants.{Ends, Block, Effects, Rows, BothForces, SeveralForced, LeftOver, State, LastScan, Room, Sums}
 use Rattle.settings.specs.Refusals.{unless, or_else, granted, room_number, number_of}
@@ -24,6 +25,11 @@ number_some State e = absurd (omega (arith, e))
 number_some LastScan e = absurd (omega (arith, e))
 number_some Room e = absurd (omega (arith, e))
 number_some Sums e = absurd (omega (arith, e))
+
+-- what `?` hands on is the error that it met
+pub passed_on : {A E : Type 0} (r : Result A E) (e : E) → IsErr r × IsErrAnd r (λ f. f ≡ e) → r ≡ Err e
+passed_on (Ok a) e h = absurd h.1
+passed_on (Err f) e h = ap Err h.1
 
 -- ## What is granted, and what is refused
 

@@ -18,7 +18,7 @@ use Rattle.settings.specs.declared.Words.{Words}
 use Rattle.settings.specs.Signals.{signals}
 use Rattle.settings.specs.Refusals.{granted}
 use Rattle.block.specs.declared.State.{State}
-use Rattle.block.specs.declared.Scanned.{Scanned}
+use Rattle.block.specs.Answer.{Scanned}
 use Rattle.block.specs.Scan.{after, events, scan_number, scan_of, granted_scan, refused_scan}
 use Rattle.block.specs.Held.{later, words_at, Stepped, single, step, stepped}
 use Rattle.trace.specs.Effect.{Change, only_if, change_of, own, change, changes, last_of}

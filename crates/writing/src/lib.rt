@@ -4,76 +4,61 @@
 #![tactic(auto)]
 
 ghost use Rattle.std.specs.Prelude.{◌≡◌, length};
+ghost use Rattle.settings.specs.Refusals.{number_in};
+ghost use Rattle.writing.specs.Written.{as_written};
 ghost use Rattle.writing.specs.Writer.{opening_number, row_piece_number, opening_written, opening_after, row_written, row_after};
 
 use layout::Kind;
-use settings::{Row, Settings};
+use settings::{Refusal, Row, Settings};
 
-// What writing a piece results in: the number of bytes written, or the refusal number.
-#[derive(Clone, Copy)]
-pub enum Written {
-    Bytes(usize),
-    Refused(u8),
-}
+// ---- what is refused before the room is looked at
 
-// ---- the refusal number of a piece
-
-fn opening_number(st: Settings, rows: u16) -> u8
-    ensures { result ≡ opening_number st rows }
+#[tactic(auto, unfolding(crate::specs::Writer::opening_number))]
+fn check_opening(st: Settings, rows: u16) -> Result<(), Refusal>
+    ensures { number_in result ≡ opening_number st rows }
 {
-    let number = settings::settings_number(st);
-    if number != 0 {
-        return number;
-    }
+    settings::check_settings(st)?;
     if layout::count_ok(Kind::Rows, rows) {
-        0
+        Ok(())
     } else {
-        layout::number_of(Kind::Rows)
+        Err(layout::refusal_of(Kind::Rows))
     }
 }
 
-fn row_piece_number(st: Settings, row: Row) -> u8
-    ensures { result ≡ row_piece_number st row }
+#[tactic(auto, unfolding(crate::specs::Writer::row_piece_number))]
+fn check_row_piece(st: Settings, row: Row) -> Result<(), Refusal>
+    ensures { number_in result ≡ row_piece_number st row }
 {
-    let number = settings::settings_number(st);
-    if number != 0 {
-        return number;
-    }
-    settings::row_number(settings::known_of(st), row)
+    settings::check_settings(st)?;
+    settings::check_row(settings::known_of(st), row)
 }
 
 // ---- the two pieces
 
-// Writes the opening piece, through the row count, at the start of `out`.
-pub fn write_opening(st: Settings, rows: u16, out: &mut [u8]) -> Written
-    ensures value { result ≡ opening_written st rows (length out.old) }
+// Writes the opening piece, through the row count, at the start of `out`. The answer is the number of bytes written.
+pub fn write_opening(st: Settings, rows: u16, out: &mut [u8]) -> Result<usize, Refusal>
+    ensures value { as_written result ≡ opening_written st rows (length out.old) }
     ensures out_after { out.new ≡ opening_after st rows out.old }
 {
-    let number = opening_number(st, rows);
-    if number != 0 {
-        return Written::Refused(number);
-    }
+    check_opening(st, rows)?;
     let due = layout::entries_of(pieces::rows_section(st.count as usize));
     if out.len() < due {
-        return Written::Refused(10);
+        return Err(Refusal::Room);
     }
     pieces::put_opening(out, st, rows);
-    Written::Bytes(due)
+    Ok(due)
 }
 
-// Writes a row at the start of `out`.
-pub fn write_row(st: Settings, row: Row, out: &mut [u8]) -> Written
-    ensures value { result ≡ row_written st row (length out.old) }
+// Writes a row at the start of `out`. The answer is the number of bytes written.
+pub fn write_row(st: Settings, row: Row, out: &mut [u8]) -> Result<usize, Refusal>
+    ensures value { as_written result ≡ row_written st row (length out.old) }
     ensures out_after { out.new ≡ row_after st row out.old }
 {
-    let number = row_piece_number(st, row);
-    if number != 0 {
-        return Written::Refused(number);
-    }
+    check_row_piece(st, row)?;
     let width = layout::width_of(Kind::Rows);
     if out.len() < width {
-        return Written::Refused(10);
+        return Err(Refusal::Room);
     }
     pieces::put_row(out, 0, row);
-    Written::Bytes(width)
+    Ok(width)
 }

@@ -22,8 +22,8 @@ pub use Rattle.rules.specs.Rules.{no_slot, is_on, is_latent, is_exercised}
 pub use Rattle.effects.specs.Records.{bytes}
 pub use Rattle.effects.specs.Scan.{seq_after}
 pub use Rattle.settings.specs.Signals.{signals, signals_of}
-pub use Rattle.block.specs.declared.Scanned.{Scanned}
-pub use Rattle.block.specs.declared.Held.{Held}
+pub use Rattle.block.specs.Answer.{Scanned}
+pub use Rattle.block.specs.Answer.{Held}
 pub use Rattle.block.specs.Scan.{events, scan_of, scan_into}
 pub use Rattle.block.specs.Held.{words_at, Stepped, start, single, stepped, held_of, held_into}
 -- recordings
