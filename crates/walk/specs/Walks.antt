@@ -8,10 +8,8 @@ use Rattle.recording.specs.Step.{Step}
 use Rattle.recording.specs.Reader.{reading}
 use Rattle.recording.specs.Answers.{first_row, ended, step_row, next_place}
 use Rattle.recording.specs.Steps.{step_at, row_place}
-use Rattle.walk.specs.declared.Stride.{Stride}
-use Rattle.walk.specs.declared.Begun.{Begun}
 use Rattle.walk.specs.declared.Walk.{Walk}
-use Rattle.walk.specs.declared.Started.{Started}
+use Rattle.walk.specs.Started.{Started}
 
 -- the place after the row; where the step has ended, the place stays
 abbrev pub place_after : Step → ℕ → ℕ
@@ -49,11 +47,3 @@ with_row step rows = cond (ended step) rows (step_row step ∷ rows)
 abbrev pub given : (n : ℕ) → Walk → List Row
 given zero w = []
 given (suc n) w = with_row (next_of w) (given n (moved_on w))
-
--- ## What the covered functions answer on a slice and a place. No entry point's contract cites these two
-
-abbrev pub stride_at : List ℕ → ℕ → Stride
-stride_at s place = record { step = step_at s place; place = place_after (step_at s place) place }
-
-abbrev pub begun_of : List ℕ → Begun
-begun_of s = record { answer = (reading s).answer; place = first_row (reading s).answer }

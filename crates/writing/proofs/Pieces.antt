@@ -1,4 +1,4 @@
--- Writing a piece: refused by its own refusal number, refused for want of room, or written. Each is a case of the definition.
+-- Writing a piece: refused for want of room, or written. Each is a case of the definition.
 use mathlib.Core.Path.{◌≡◌, refl, ap, sym, ◌∙◌}
 use mathlib.Core.List.{List, ◌++◌}
 use Prim.Native.Nat.{ℕ, ◌≤◌, ◌<◌}
@@ -8,7 +8,7 @@ use lib.ListN.{length, drop}
 use lib.Seq.{sets, sets-eq}
 use Rattle.settings.specs.Refusals.{or_else, room_number}
 use Rattle.settings.proofs.Refusals.{granted_none, granted_refused, granted_number}
-use Rattle.settings.proofs.Answers.{answers_refused, answers_no_room, answers_granted}
+use Rattle.settings.proofs.Answers.{answers_no_room, answers_granted}
 use Rattle.writing.specs.Written.{Written}
 use Rattle.writing.specs.Written as W
 use Rattle.writing.specs.Answers.{written_number, written_place, written_length}
@@ -17,9 +17,6 @@ use Rattle.writing.specs.Writer.{written, after}
 module _ (num res : ℕ) (piece out : List ℕ) (is : res ≡ num) where
   abbrev Is : Written → List ℕ → Type 0
   Is r l = (r ≡ written num piece (length out)) × (l ≡ after num piece out)
-
-  pub piece_refused : (res ≡ 0 → ⊥) → Is (W.Refused res) out
-  piece_refused = answers_refused num (length piece) out (piece ++ drop (length piece) out) (W.Bytes (length piece)) (λ n. W.Refused n) res is _ refl
 
   module _ (right : res ≡ 0) where
     pub piece_short : length out < length piece → Is (W.Refused 10) out

@@ -5,7 +5,7 @@ use Prim.Native.Nat.{ℕ, suc, ◌+◌}
 use native.Mathlib.Numerals.{add-one}
 use native.Mathlib.Omega.{arith}
 use denote.Ref.{Bor}
-use Rattle.walk.specs.declared.Started.{Started}
+use Rattle.walk.specs.Started.{Started}
 use Rattle.walk.specs.declared.Walk.{Walk}
 use Rattle.walk.specs.Walks.{start_of, next_of, moved_on, walked, nth_of}
 use Rattle.walk.proofs.Rows.{nth_step}
@@ -23,18 +23,16 @@ one_more w v i e h = (
 )
 
 pub loop-i-init : goal.loop-i-init
-loop-i-init c =
-    let b = begun c.args.bytes c.start-s.result.walk (ap (λ (x : Started). x.walk) c.start-s.ensures) in
-    (omega arith, b.0, b.1)
+loop-i-init c = begun c.args.bytes c.start.result.walk (ap (λ (x : Started). x.walk) c.start.ensures)
 
 pub loop-i-preserved : goal.loop-i-preserved
 loop-i-preserved c =
     let l = c.loop-i in
-    let m = one_more l.w c.next.new.self l.i c.next.ensures.1 l.invariant.2 in
-    (omega arith, m.0 ∙ l.invariant.1, m.1)
+    let m = one_more l.walk c.next.new.self l.i c.next.ensures.1 l.invariant.1 in
+    (m.0 ∙ l.invariant.0, m.1)
 
 pub returns : goal.returns
 returns c =
     let l = c.loop-i in
     let all : l.i ≡ c.args.n = omega arith in
-    c.next-2.ensures.0 ∙ ap next_of l.invariant.2 ∙ nth_step l.w.bytes l.i ∙ ap₂ nth_of l.invariant.1 all
+    c.next-2.ensures.0 ∙ ap next_of l.invariant.1 ∙ nth_step l.walk.bytes l.i ∙ ap₂ nth_of l.invariant.0 all
