@@ -18,7 +18,7 @@ use Rattle.wiring.specs.declared.Struck.{Struck}
 use Rattle.plans.specs.Plans.{Wired}
 use Rattle.wiring.specs.Wiring.{Stroked}
 use Rattle.rerun.specs.declared.Run.{Run}
-use Rattle.rerun.specs.declared.Turn.{Turn}
+use Rattle.rerun.specs.Answer.{Turn}
 use Rattle.listing.specs.declared.Printed.{Printed}
 use Rattle.rerun.specs.Replay.{first_rows}
 use Rattle.rerun.specs.Turn.{Totals, totals_in, totals_of, Going}

@@ -14,7 +14,7 @@ use Rattle.effects.proofs.Records.{front_bytes}
 use Rattle.settings.specs.Refusals.{granted}
 use Rattle.recording.specs.Reader.{reading}
 use Rattle.rerun.specs.declared.Run.{Run}
-use Rattle.rerun.specs.declared.Turn.{Turn}
+use Rattle.rerun.specs.Answer.{Turn}
 use Rattle.rerun.specs.Replay.{first_rows, row_of, row_run}
 use Rattle.rerun.specs.Turn.{Going, RowDone}
 use Rattle.rerun.proofs.Files.{most-effects}

@@ -13,7 +13,7 @@ use Rattle.settings.proofs.Refusals.{granted_refused}
 use Rattle.recording.specs.Answers.{number, place, row_count_of}
 use Rattle.recording.specs.Reader.{reading}
 use Rattle.recording.specs.Accepted.{Accepted}
-use Rattle.rerun.specs.declared.Turn.{Turn}
+use Rattle.rerun.specs.Answer.{Turn}
 use Rattle.rerun.specs.Replay.{Replay, Outcome, replay, answered, first_rows, row_run, events_of}
 use Rattle.rerun.specs.Turn.{answer_of}
 use Rattle.rerun.proofs.Files.{by_rows, all_the_rows, counted, next-number, no_rows, none_refused_before, refused_gives_nothing}

@@ -8,7 +8,7 @@ use Rattle.recording.specs.Answer.{Answer}
 use Rattle.recording.specs.Answers.{number, place}
 use Rattle.recording.specs.Reader.{reading}
 use Rattle.rerun.specs.declared.Run.{Run}
-use Rattle.rerun.specs.declared.Turn.{Turn}
+use Rattle.rerun.specs.Answer.{Turn}
 use Rattle.rerun.specs.Replay.{replay, answered, first_rows, row_run}
 use Rattle.reasoned.specs.Reasoned.{reasoned, reasoned_row}
 use Rattle.reasoned.specs.Told.{row_sight, no_sight}

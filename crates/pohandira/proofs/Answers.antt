@@ -9,7 +9,7 @@ use Rattle.effects.specs.Records.{bytes}
 use Rattle.settings.proofs.Refusals.{granted_none, granted_refused}
 use Rattle.recording.specs.Answer as A
 use Rattle.recording.specs.Reader.{reading}
-use Rattle.rerun.specs.declared.Replayed.{Replayed}
+use Rattle.rerun.specs.Answer.{Replayed}
 use Rattle.rerun.specs.Replay.{Outcome, replay, counts, refusal}
 use Rattle.rerun.proofs.Files.{refusal_number, refused_replay}
 use Rattle.numbers.specs.Numbers.{totals_bytes, numbers, fitted, crossing}

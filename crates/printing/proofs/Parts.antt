@@ -10,9 +10,9 @@ use lib.Seq.{sets, sets-eq, take_at, drop_at, take-append_seam, length-take-le}
 use Rattle.recording.specs.Answer.{Answer}
 use Rattle.recording.specs.Answer.{Refused}
 use Rattle.recording.specs.Reader.{reading}
-use Rattle.rerun.specs.declared.Replayed.{Replayed}
+use Rattle.rerun.specs.Answer.{Replayed}
 use Rattle.rerun.specs.declared.Run.{Run}
-use Rattle.rerun.specs.declared.Turn.{Turn}
+use Rattle.rerun.specs.Answer.{Turn}
 use Rattle.rerun.specs.Turn.{answer_of}
 use Rattle.rerun.specs.Replay.{Outcome, replay}
 use Rattle.rerun.proofs.Files.{refused_replay}

@@ -1,7 +1,7 @@
 -- A buffer whose text waits to be written. No entry point's contract cites this page.
 use Rattle.std.specs.Prelude.{ℕ, ◌^◌, ◌≤◌, ◌≡◌, Bool, true, List, ◌++◌, length, take}
 use Rattle.recording.specs.Accepted.{Accepted}
-use Rattle.rerun.specs.declared.Turn.{Turn}
+use Rattle.rerun.specs.Answer.{Turn}
 use Rattle.text.specs.Room.{most_piece}
 use Rattle.listing.specs.Printed.{listing_of, Last}
 use Rattle.printing.specs.declared.sending.Sent.{Sent}

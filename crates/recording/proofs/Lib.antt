@@ -2,3 +2,4 @@ pub mod Sections
 pub mod Between
 pub mod Cases
 pub mod Steps
+pub mod Opened

@@ -1,6 +1,7 @@
 pub mod Answer
 pub mod Step
 pub mod Reader
+pub mod Opened
 pub mod Answers
 pub mod Steps
 pub mod Encode

@@ -14,7 +14,7 @@ use Rattle.settings.proofs.Refusals.{granted_refused}
 use Rattle.recording.specs.Answers.{row_count_of}
 use Rattle.recording.specs.Reader.{reading}
 use Rattle.rerun.specs.declared.Run.{Run}
-use Rattle.rerun.specs.declared.Turn.{Turn}
+use Rattle.rerun.specs.Answer.{Turn}
 use Rattle.rerun.specs.Replay.{Replay, Outcome, first_rows, row_run}
 use Rattle.rerun.specs.Turn.{Going, Fits, row_into, RowReady, RowDone, records_between, place_of, rows_into, room_of, RowsReady, RowsDone}
 use Rattle.rerun.proofs.Files.{counted, events_grow, stays_refused, refused_gives_nothing}

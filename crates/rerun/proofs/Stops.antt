@@ -18,7 +18,7 @@ use Rattle.recording.specs.Reader.{reading}
 use Rattle.layout.specs.Sections.{width_of}
 use Rattle.recording.specs.Steps.{row_place}
 use Rattle.exactness.proofs.Theorems.{row_in_the_file}
-use Rattle.rerun.specs.declared.Stop.{Stop}
+use Rattle.rerun.specs.Answer.{Stop}
 use Rattle.rerun.specs.Replay.{Outcome, replay, first_rows, row_of}
 use Rattle.rerun.specs.Turn.{stop_of}
 use Rattle.rerun.proofs.Files.{no_rows, all_the_rows, whole_so_far, number_at, next_runs, stops-there, done_next}

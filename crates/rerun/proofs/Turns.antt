@@ -35,7 +35,7 @@ use Rattle.layout.specs.Sections.{width_of, most_of}
 use Rattle.recording.specs.Steps.{row_place}
 use Rattle.exactness.proofs.Theorems.{first_row_after_the_opening, row_in_the_file}
 use Rattle.rerun.specs.declared.Run.{Run}
-use Rattle.rerun.specs.declared.Turn.{Turn}
+use Rattle.rerun.specs.Answer.{Turn}
 use Rattle.rerun.specs.Replay.{Replay, Outcome, whole, joined, refused_at, started, replay, counts, refusal, answered, first_rows, row_of, row_run}
 use Rattle.rerun.specs.Turn.{Begun, Totals, totals_at, totals_of, totals_in, Going, Begins, Fits, RowDone, run_after, SmallSums, rows_into, room_of, RowsReady, RowsDone, answer_of}
 use Rattle.rerun.proofs.Files.{refusal_number, refused_replay, no_rows, all_the_rows, whole_so_far, counted, events_between, events_grow, number_at, next-number, next_runs, stops-there, told, settings_right, most-effects, row_right, few_rows, sound, sound_next, scans_next, records-next}

@@ -7,15 +7,15 @@
 
 ghost use Rattle.std.specs.Prelude.{◌≡◌, ◌≤◌, length, replicate};
 ghost use Rattle.cells.specs.Array.{array_length};
-ghost use Rattle.recording.specs.Answer.{Accepted};
-ghost use Rattle.recording.specs.Reader.{reading};
-ghost use Rattle.rerun.specs.Replay.{refusal, replay as whole_replay, answered};
+ghost use Rattle.recording.specs.Opened.{IsRead};
+ghost use Rattle.rerun.specs.Answer.{as_turn, as_end, as_replayed, as_stop};
+ghost use Rattle.rerun.specs.Replay.{replay as whole_replay, answered};
 ghost use Rattle.rerun.specs.Turn.{Begins, RowReady, RowDone, RowsReady, RowsDone, SmallSums, place_of, run_after, counts_in, answer_of, stop_of};
 
 use cells::Plan;
 use engine::Mark;
-use recording::Answer;
-use settings::Settings;
+use recording::Recording;
+use settings::{Refusal, Refused};
 use wiring::Struck;
 
 // What is carried from row to row: what stays the same, how far the effects have got, the width and number of the file's rows, the
@@ -34,20 +34,23 @@ pub struct Run {
     pub exercised: u32,
 }
 
-// What one row more, or some rows, result in: 0 and the run after them; or refusal number 9 and the run before the row that is refused,
-// whose place is that row's first byte. records: the number of records of the one row; 0 after some rows.
+// What one row more results in: the number of its records, and the run after it.
 #[derive(Clone, Copy)]
 pub struct Turn {
-    pub number: u8,
     pub records: usize,
     pub run: Run,
 }
 
-// What a whole file results in: 0, 0 and what its rows have given; or the refusal number, its place, and zeros.
+// A row that is refused, by refusal number 9, and the run before it, whose place is the row's first byte.
 #[derive(Clone, Copy)]
-pub struct Replayed {
-    pub number: u8,
-    pub place: usize,
+pub struct Stopped {
+    pub refusal: Refusal,
+    pub run: Run,
+}
+
+// What the rows of a whole file have given.
+#[derive(Clone, Copy)]
+pub struct Counts {
     pub records: u32,
     pub rows: u32,
     pub scans: u32,
@@ -55,28 +58,32 @@ pub struct Replayed {
     pub exercised: u32,
 }
 
-// Where a replay stops: 0 and 0 where every row is replayed, or the refusal number and its place.
-#[derive(Clone, Copy)]
-pub struct Stop {
-    pub number: u8,
-    pub place: usize,
+impl From<Stopped> for Refused {
+    ghost from_gives = { λ stopped refused. refused ≡ (record { refusal = stopped.refusal; place = stopped.run.place }) };
+
+    fn from(stopped: Stopped) -> Refused {
+        Refused {
+            refusal: stopped.refusal,
+            place: stopped.run.place,
+        }
+    }
 }
 
 // ---- row by row
 
-// The run before the first row, from what the reader has answered. The array has to be 0 before.
-pub fn begin(st: Settings, rows: u16, first: usize, width: usize, board: &mut [u32; 64]) -> Run
-    requires { (st.count ≤ 16) × (board.old ≡ replicate array_length 0) }
-    ensures { Begins st rows first width (record { run = result; board = board.new }) }
+// The run before the first row of an accepted file. The array has to be 0 before.
+pub fn begin(file: Recording, board: &mut [u32; 64]) -> Run
+    requires { (file.settings.count ≤ 16) × (board.old ≡ replicate array_length 0) }
+    ensures { Begins file.settings file.rows file.first file.width (record { run = result; board = board.new }) }
 {
-    let plan = plans::plan_of(st);
-    let mark = block::load_fresh(board, st, plan.all);
+    let plan = plans::plan_of(file.settings);
+    let mark = block::load_fresh(board, file.settings, plan.all);
     Run {
         plan,
         mark,
-        width,
-        row_count: rows as u32,
-        place: first,
+        width: file.width,
+        row_count: file.rows as u32,
+        place: file.first,
         rows: 0,
         records: 0,
         live: 0,
@@ -105,28 +112,22 @@ fn after_row(run: Run, hold: u32, ran: Struck) -> Run
 }
 
 // Replays one row more, the one at the run's place. Its records go to the front of `buf`.
-pub fn row(s: &[u8], run: Run, board: &mut [u32; 64], buf: &mut [u8]) -> Turn
+pub fn row(s: &[u8], run: Run, board: &mut [u32; 64], buf: &mut [u8]) -> Result<Turn, Stopped>
     requires { RowReady s.now run board.old (length buf.old) }
-    ensures { RowDone s.now run buf.old result board.new buf.new }
+    ensures { RowDone s.now run buf.old (as_turn result) board.new buf.new }
 {
     let row = layout::row_at(s, run.place, run.width);
     let mark = run.mark;
-    let number = block::scans_number(mark.scans_done, row.hold);
-    if number != 0 {
-        return Turn {
-            number: number,
-            records: 0,
-            run: run,
-        };
+    if let Err(refusal) = block::check_scans(mark.scans_done, row.hold) {
+        return Err(Stopped { refusal, run });
     }
     let plan = run.plan;
     let ran = block::run_kept(buf, board, plan, row, mark);
     let end = ran.mark;
-    Turn {
-        number: 0,
+    Ok(Turn {
         records: end.at / effects::RECORD_LENGTH,
         run: after_row(run, row.hold, ran),
-    }
+    })
 }
 
 // Where the records of a row go: after those of the rows before it if they are kept, else over them.
@@ -145,82 +146,55 @@ fn place_of(keep: bool, records: u32) -> usize
 // at a row and go on from there: the records of the rows that it goes on with are then at the front, so that it needs room for these rows
 // alone. This is the one loop that runs rows without text, so that all below it is compiled into it. The records of earlier rows are read
 // of `t` and not of `run`: then LLVM keeps `live` and `exercised` apart, which spares some 20 instructions a row on x86-64.
-pub fn go(s: &[u8], run: Run, until: u32, board: &mut [u32; 64], buf: &mut [u8], keep: bool) -> Turn
+pub fn go(
+    s: &[u8],
+    run: Run,
+    until: u32,
+    board: &mut [u32; 64],
+    buf: &mut [u8],
+    keep: bool,
+) -> Result<Run, Stopped>
     requires { RowsReady s.now run until board.old (length buf.old) keep }
-    ensures { RowsDone s.now run until keep buf.old result board.new buf.new }
+    ensures { RowsDone s.now run until keep buf.old (as_end result) board.new buf.new }
 {
     let mut t = run;
     let earlier = t.records;
     while t.rows < until {
         let at = place_of(keep, t.records - earlier);
-        let turn = row(s, t, board, &mut buf[at..]);
-        if turn.number != 0 {
-            return turn;
-        }
-        let next = turn.run;
-        t = next;
+        let turn = row(s, t, board, &mut buf[at..])?;
+        t = turn.run;
     }
-    Turn {
-        number: 0,
-        records: 0,
-        run: t,
-    }
+    Ok(t)
 }
 
 // ---- where a replay stops
 
-// Where the rows of an accepted file stop. This is known before any of them is run: the scans done are the sum of the holds so far.
-pub fn stop_of(s: &[u8], rows: u16, first: usize, width: usize) -> Stop
-    requires { (reading s.now).answer ≡ Accepted rows first width }
-    ensures { result ≡ stop_of (whole_replay s.now) }
+// Refuses the first row of an accepted file whose scans cannot be counted. This is known before any row is run: the scans done are the sum of
+// the holds so far.
+pub fn check_holds(s: &[u8], file: Recording) -> Result<(), Refused>
+    requires { IsRead file s.now }
+    ensures { as_stop result ≡ stop_of (whole_replay s.now) }
 {
     let mut done = 0;
-    let mut place = first;
-    let mut passed = 0;
-    while passed < rows {
-        let row = layout::row_at(s, place, width);
-        let refusal = block::scans_number(done, row.hold);
-        if refusal != 0 {
-            return Stop {
-                number: refusal,
-                place: place,
-            };
+    for passed in 0..file.rows {
+        let place = file.first + file.width * passed as usize;
+        let row = layout::row_at(s, place, file.width);
+        if let Err(refusal) = block::check_scans(done, row.hold) {
+            return Err(Refused { refusal, place });
         }
         done += row.hold;
-        place += width;
-        passed += 1;
     }
-    Stop {
-        number: 0,
-        place: 0,
-    }
+    Ok(())
 }
 
 // ---- a whole file
 
-// A refusal: its refusal number, its place and zeros.
-pub fn refused(number: u8, place: usize) -> Replayed
-    ensures { result ≡ refusal place number }
-{
-    Replayed {
-        number: number,
-        place: place,
-        records: 0,
-        rows: 0,
-        scans: 0,
-        live: 0,
-        exercised: 0,
-    }
-}
-
 // What the rows of a run have given.
-fn counts_of(run: Run) -> Replayed
-    ensures { result ≡ counts_in run }
+fn counts_of(run: Run) -> Counts
+    ensures { as_replayed (Ok result) ≡ counts_in run }
 {
     let mark = run.mark;
-    Replayed {
-        number: 0,
-        place: 0,
+    Counts {
         records: run.records,
         rows: run.rows,
         scans: mark.scans_done,
@@ -229,38 +203,20 @@ fn counts_of(run: Run) -> Replayed
     }
 }
 
-// The answer of a replay that ended with this turn: what its rows have given, or the refusal of the row after them.
-pub fn answer_of(turn: Turn) -> Replayed
-    ensures { result ≡ answer_of turn }
+// The answer of a replay that ended so: what its rows have given, or the refusal of the row after them.
+pub fn answer_of(end: Result<Run, Stopped>) -> Result<Counts, Refused>
+    ensures { as_replayed result ≡ answer_of (as_end end) }
 {
-    let run = turn.run;
-    if turn.number == 0 {
-        return counts_of(run);
-    }
-    refused(turn.number, run.place)
-}
-
-// Replays a file that the reader accepted.
-fn replay_accepted(s: &[u8], st: Settings, rows: u16, first: usize, width: usize) -> Replayed
-    requires { ((reading s.now).answer ≡ Accepted rows first width) × (st ≡ (reading s.now).settings) }
-    ensures { result ≡ answered (whole_replay s.now) }
-{
-    let mut board = [0u32; 64];
-    let run = begin(st, rows, first, width, &mut board);
-    let mut space = [0u8; effects::MOST_ROW_BYTES];
-    let end = go(s, run, rows as u32, &mut board, &mut space, false);
-    answer_of(end)
+    Ok(counts_of(end?))
 }
 
 // Replays a whole recording, and answers what its rows gave, or the refusal. The records are not kept.
-pub fn replay(s: &[u8]) -> Replayed
-    ensures { result ≡ answered (whole_replay s.now) }
+pub fn replay(s: &[u8]) -> Result<Counts, Refused>
+    ensures { as_replayed result ≡ answered (whole_replay s.now) }
 {
-    let reading = recording::read(s);
-    let answer = reading.answer;
-    let st = reading.settings;
-    match answer {
-        Answer::Accepted { rows, first, width } => replay_accepted(s, st, rows, first, width),
-        Answer::Refused { number, place } => refused(number, place),
-    }
+    let file = recording::read(s)?;
+    let mut board = [0u32; 64];
+    let run = begin(file, &mut board);
+    let mut space = [0u8; effects::MOST_ROW_BYTES];
+    answer_of(go(s, run, file.rows as u32, &mut board, &mut space, false))
 }

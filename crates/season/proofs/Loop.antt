@@ -17,7 +17,7 @@ use Rattle.recording.specs.Answer as A
 use Rattle.recording.specs.Answers.{row_count_of}
 use Rattle.recording.specs.Reader.{reading}
 use Rattle.rerun.specs.declared.Run.{Run}
-use Rattle.rerun.specs.declared.Turn.{Turn}
+use Rattle.rerun.specs.Answer.{Turn}
 use Rattle.rerun.specs.Replay.{Replay, Outcome, whole, started, replay, first_rows}
 use Rattle.rerun.specs.Turn.{Totals, Begun, Begins, room_of, RowsReady, RowsDone}
 use Rattle.rerun.proofs.Files.{no_rows, never_refused, events_between, events_behind, sound, most-effects}

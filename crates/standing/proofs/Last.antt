@@ -17,7 +17,7 @@ use Rattle.recording.specs.Accepted.{Accepted}
 use Rattle.exactness.proofs.Theorems.{accepted_is_right}
 use Rattle.exactness.proofs.Trips.{length-rows_of}
 use Rattle.rerun.specs.declared.Run.{Run}
-use Rattle.rerun.specs.declared.Turn.{Turn}
+use Rattle.rerun.specs.Answer.{Turn}
 use Rattle.rerun.specs.Replay.{Outcome, replay, first_rows, row_run}
 use Rattle.rerun.specs.Turn.{Begun, Totals, Going, Begins, RowsReady, RowsDone}
 use Rattle.rerun.proofs.Files.{never_refused, all_the_rows, most-effects, sound}

@@ -21,7 +21,7 @@ use Rattle.block.proofs.Boards.{settled}
 use Rattle.recording.specs.Answers.{row_count_of}
 use Rattle.recording.specs.Reader.{reading}
 use Rattle.rerun.specs.declared.Run.{Run}
-use Rattle.rerun.specs.declared.Turn.{Turn}
+use Rattle.rerun.specs.Answer.{Turn}
 use Rattle.rerun.specs.Replay.{replay, first_rows, row_run}
 use Rattle.rerun.specs.Turn.{Totals, Going, room_of, RowsReady, RowsDone}
 use Rattle.rerun.proofs.Files.{never_refused, events_between, events_join, settings_right, most-effects, sound}

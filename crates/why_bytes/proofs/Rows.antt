@@ -17,7 +17,7 @@ use Rattle.recording.specs.Answer as A
 use Rattle.recording.specs.Answers.{row_count_of}
 use Rattle.recording.specs.Reader.{reading}
 use Rattle.rerun.specs.declared.Run.{Run}
-use Rattle.rerun.specs.declared.Turn.{Turn}
+use Rattle.rerun.specs.Answer.{Turn}
 use Rattle.rerun.specs.Replay.{Outcome, replay, row_of, row_run}
 use Rattle.rerun.specs.Turn.{Begun, Totals, Begins, Going, RowsDone}
 use Rattle.rerun.proofs.Files.{all_the_rows, events_grow}

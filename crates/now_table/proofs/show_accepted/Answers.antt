@@ -6,7 +6,7 @@ use native.Mathlib.Omega.{arith}
 use lib.ListN.{length}
 use lib.Seq.{sets}
 use Rattle.recording.specs.Accepted.{Accepted}
-use Rattle.rerun.specs.declared.Stop.{Stop}
+use Rattle.rerun.specs.Answer.{Stop}
 use Rattle.rerun.proofs.Turns.{few_effects}
 use Rattle.recording.specs.Answers.{number}
 use Rattle.settings.specs.declared.Settings.{Settings}

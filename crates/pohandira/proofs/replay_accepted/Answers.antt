@@ -1,7 +1,7 @@
 -- `pohandira::replay_accepted` meets its contract: 9 before anything else, or the file is replayed whole.
 use mathlib.Core.Path.{sym, ap, ◌∙◌}
 use lib.ListN.{length}
-use Rattle.rerun.specs.declared.Stop.{Stop}
+use Rattle.rerun.specs.Answer.{Stop}
 use Rattle.pohandira.proofs.Theorems.{ten_is_last}
 use Rattle.pohandira.proofs.Answers.{refused}
 use Rattle.pohandira.proofs.replay_accepted.Goals as goal

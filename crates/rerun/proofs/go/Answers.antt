@@ -1,7 +1,8 @@
 -- `rerun::go` meets its contract: `Passed` is the loop's invariant, and the laws of `Passing` are those of its turns.
+use mathlib.Core.Path.{refl}
 use native.Mathlib.Omega.{arith}
+use Rattle.settings.proofs.Refusals.{number_some, passed_on}
 use Rattle.rerun.proofs.Passing as passing
-use Rattle.rerun.proofs.Passing.{Passed}
 use Rattle.rerun.proofs.go.Goals as goal
 
 pub loop-t-init : goal.loop-t-init
@@ -17,27 +18,15 @@ slice_bounds-row-count c =
 pub slice_bounds-row-start : goal.slice_bounds-row-start
 slice_bounds-row-start c = omega (arith, passing.at-within c.requires c.loop-t.invariant c.loop-t-test.true _ c.place_of-at.ensures)
 
-pub row-turn-requires : goal.row-turn-requires
-row-turn-requires c =
+pub row-requires : goal.row-requires
+row-requires c =
     passing.row_ready c.requires c.loop-t.invariant c.loop-t-test.true _ c.place_of-at.ensures
 
-pub returns-then-turn-ne0 : goal.returns-then-turn-ne0
-returns-then-turn-ne0 c =
-    passing.stops c.requires c.loop-t.invariant c.loop-t-test.true _ c.place_of-at.ensures c.row-turn.ensures c.if-turn-ne0.true
-
-pub shape_of-buf-then-turn-ne0 : goal.shape_of-buf-then-turn-ne0
-shape_of-buf-then-turn-ne0 c = passing.length-done c.requires (passing.stops c.requires c.loop-t.invariant c.loop-t-test.true _ c.place_of-at.ensures c.row-turn.ensures c.if-turn-ne0.true)
-
-pub loop-t-smaller : goal.loop-t-smaller
-loop-t-smaller c =
-    passing.less c.requires c.loop-t.invariant c.loop-t-test.true _ c.place_of-at.ensures c.row-turn.ensures c.if-turn-ne0.false
+pub returns-in_err-turn : goal.returns-in_err-turn
+returns-in_err-turn c =
+    rw (passed_on _ _ c.from_residual.ensures)
+    (passing.stops c.requires c.loop-t.invariant c.loop-t-test.true _ c.place_of-at.ensures c.in_err-turn.ensures (number_some c.in_err-turn.field-0.0.refusal))
 
 pub loop-t-preserved : goal.loop-t-preserved
 loop-t-preserved c =
-    passing.goes_on c.requires c.loop-t.invariant c.loop-t-test.true _ c.place_of-at.ensures c.row-turn.ensures c.if-turn-ne0.false
-
-pub shape_of-buf : goal.shape_of-buf
-shape_of-buf c = passing.length_passed c.requires c.loop-t.invariant
-
-pub returns : goal.returns
-returns c = passing.ends c.requires c.loop-t.invariant c.loop-t-test.false
+    passing.goes_on c.requires c.loop-t.invariant c.loop-t-test.true _ c.place_of-at.ensures c.in_ok-turn.ensures refl

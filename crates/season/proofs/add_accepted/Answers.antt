@@ -1,7 +1,7 @@
 -- `season::add_accepted` meets its contract: 9 before anything is counted.
 use mathlib.Core.Path.{ap, sym, ◌∙◌}
 use Rattle.recording.specs.Answers.{place}
-use Rattle.rerun.specs.declared.Stop.{Stop}
+use Rattle.rerun.specs.Answer.{Stop}
 use Rattle.season.proofs.Answers.{refused_added}
 use Rattle.season.proofs.add_accepted.Goals as goal
 

@@ -2,7 +2,7 @@
 use mathlib.Core.Path.{ap, ◌∙◌}
 use Prim.Native.Nat.{ℕ}
 use Rattle.settings.specs.Refusals.{or_else}
-use Rattle.rerun.specs.declared.Replayed.{Replayed}
+use Rattle.rerun.specs.Answer.{Replayed}
 use Rattle.rerun.proofs.Theorems.{an_answer_has_the_number}
 use Rattle.season_bytes.proofs.without_room.Goals as goal
 

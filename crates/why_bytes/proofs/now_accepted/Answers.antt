@@ -11,7 +11,7 @@ use Rattle.settings.proofs.Refusals.{room_short}
 use Rattle.reasons.specs.declared.Reason.{Reason}
 use Rattle.recording.specs.Answers.{number}
 use Rattle.recording.specs.Reader.{reading}
-use Rattle.rerun.specs.declared.Stop.{Stop}
+use Rattle.rerun.specs.Answer.{Stop}
 use Rattle.rerun.specs.Replay.{replay}
 use Rattle.rerun.proofs.Turns.{few_effects}
 use Rattle.reason_bytes.specs.Bytes.{numbers_of}

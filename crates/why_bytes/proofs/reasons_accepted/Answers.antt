@@ -4,7 +4,7 @@ use Prim.Native.Nat.{◌*◌}
 use native.Mathlib.Omega.{arith}
 use lib.ListN.{length}
 use Rattle.settings.proofs.Refusals.{limit_kept}
-use Rattle.rerun.specs.declared.Stop.{Stop}
+use Rattle.rerun.specs.Answer.{Stop}
 use Rattle.rerun.specs.Replay.{replay}
 use Rattle.rerun.specs.Turn.{Totals}
 use Rattle.rerun.proofs.Turns.{few_effects, begins}
