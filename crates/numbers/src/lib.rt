@@ -5,10 +5,11 @@
 ghost use Rattle.std.specs.Prelude.{◌≡◌, [], ◌∷◌, ◌+◌, ◌*◌, ◌≤◌, length};
 ghost use Rattle.std.proofs.lemmas.List.Edits.{sets};
 ghost use Rattle.settings.specs.Refusals.{or_else, room_number};
-ghost use Rattle.rerun.specs.Replay.{refusal};
+ghost use Rattle.rerun.specs.Answer.{as_replayed};
 ghost use Rattle.numbers.specs.Numbers.{number_bytes, check_bytes, totals_bytes, numbers, fitted, crossing};
 
-use rerun::Replayed;
+use rerun::Counts;
+use settings::Refused;
 
 // The bytes of a number, of the answer to a check (three numbers), and of totals (seven).
 const NUMBER_BYTES: usize = 8;
@@ -61,35 +62,68 @@ pub fn put_check(out: &mut [u8], number: u8, place: usize, rows: u16) -> u8
 
 // ---- what a replay results in
 
-// Writes what a replay results in, if it fits.
-pub fn put_totals(out: &mut [u8], r: Replayed)
-    ensures { out.new ≡ fitted (numbers (crossing r)) out.old }
+// Writes seven numbers to the front: what rows have given, a refusal number and its place; all else stays.
+fn put_seven(out: &mut [u8], counts: Counts, number: u8, place: usize)
+    requires { totals_bytes ≤ length out.old }
+    ensures { out.new ≡ sets out.old 0 (numbers (counts.records ∷ counts.rows ∷ counts.scans ∷ counts.live ∷ counts.exercised ∷ number ∷ place ∷ [])) }
+{
+    put_three(
+        out,
+        0,
+        counts.records as u64,
+        counts.rows as u64,
+        counts.scans as u64,
+    );
+    put_two(
+        out,
+        NUMBER_BYTES * 3,
+        counts.live as u64,
+        counts.exercised as u64,
+    );
+    put_two(out, NUMBER_BYTES * 5, number as u64, place as u64);
+}
+
+// Writes what a replay results in, if it fits: a refusal has zeros beside its number and place.
+fn put_totals(out: &mut [u8], r: Result<Counts, Refused>)
+    ensures { out.new ≡ fitted (numbers (crossing (as_replayed r))) out.old }
 {
     if out.len() < TOTALS_BYTES {
         return;
     }
-    put_three(out, 0, r.records as u64, r.rows as u64, r.scans as u64);
-    put_two(out, NUMBER_BYTES * 3, r.live as u64, r.exercised as u64);
-    put_two(out, NUMBER_BYTES * 5, r.number as u64, r.place as u64);
+    match r {
+        Ok(counts) => put_seven(out, counts, 0, 0),
+        Err(refused) => {
+            let none = Counts {
+                records: 0,
+                rows: 0,
+                scans: 0,
+                live: 0,
+                exercised: 0,
+            };
+            put_seven(out, none, u8::from(refused.refusal), refused.place)
+        }
+    }
+}
+
+// The refusal number of what a replay results in.
+fn number_of(r: Result<Counts, Refused>) -> u8
+    ensures { result ≡ (as_replayed r).number }
+{
+    match r {
+        Ok(_) => 0,
+        Err(refused) => u8::from(refused.refusal),
+    }
 }
 
 // Writes what a replay results in, if it fits, and answers its refusal number, or 10 where it does not fit and nothing else refuses.
-pub fn put_counted(out: &mut [u8], r: Replayed) -> u8
-    ensures value { result ≡ or_else r.number (room_number totals_bytes (length out.old)) }
-    ensures out_after { out.new ≡ fitted (numbers (crossing r)) out.old }
+pub fn put_counted(out: &mut [u8], r: Result<Counts, Refused>) -> u8
+    ensures value { result ≡ or_else (as_replayed r).number (room_number totals_bytes (length out.old)) }
+    ensures out_after { out.new ≡ fitted (numbers (crossing (as_replayed r))) out.old }
 {
+    let refusal = number_of(r);
     if out.len() < TOTALS_BYTES {
-        return or_ten(r.number);
+        return or_ten(refusal);
     }
     put_totals(out, r);
-    r.number
-}
-
-// A refusal: its refusal number and place, and no record.
-pub fn refuse(totals: &mut [u8], number: u8, place: usize) -> u8
-    ensures value { result ≡ number }
-    ensures totals_after { totals.new ≡ fitted (numbers (crossing (refusal place number))) totals.old }
-{
-    put_totals(totals, rerun::refused(number, place));
-    number
+    refusal
 }

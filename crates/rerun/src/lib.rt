@@ -167,6 +167,16 @@ pub fn go(
     Ok(t)
 }
 
+// The run that some rows ended with: after them, or before the row that is refused.
+pub fn run_of(end: Result<Run, Stopped>) -> Run
+    ensures { result ≡ (as_end end).run }
+{
+    match end {
+        Ok(run) => run,
+        Err(stopped) => stopped.run,
+    }
+}
+
 // ---- where a replay stops
 
 // Refuses the first row of an accepted file whose scans cannot be counted. This is known before any row is run: the scans done are the sum of

@@ -4,11 +4,12 @@
 
 ghost use Rattle.std.specs.Prelude.{◌≡◌, ◌≤◌, length};
 ghost use Rattle.std.proofs.lemmas.List.Edits.{sets};
-ghost use Rattle.settings.specs.Refusals.{or_else};
+ghost use Rattle.settings.specs.Refusals.{or_else, number_in};
 ghost use Rattle.rerun.specs.Replay.{replay};
 ghost use Rattle.season_bytes.specs.Bytes.{report_length, report_of, report_bytes, into_number, season_into};
 
 use season::Report;
+use settings::Refusal;
 
 // The bytes of a number, the sums of a report, and its bytes.
 const NUMBER_BYTES: usize = 8;
@@ -44,12 +45,26 @@ pub fn put_report(bytes: &mut [u8], r: Report)
     }
 }
 
-// The refusal number of a recording for which there is no report: what refuses the recording itself comes before 10.
-fn without_room(s: &[u8]) -> u8
-    ensures { result ≡ or_else (replay s.now).number 10 }
+// Refuses a recording for which there is no report: what refuses the recording itself comes before 10.
+fn without_room(s: &[u8]) -> Result<(), Refusal>
+    ensures { number_in result ≡ or_else (replay s.now).number 10 }
 {
-    let replayed = rerun::replay(s);
-    numbers::or_ten(replayed.number)
+    rerun::replay(s)?;
+    Err(Refusal::Room)
+}
+
+// Adds a recording to the report that `bytes` begins with.
+fn add_into(s: &[u8], bytes: &mut [u8]) -> Result<(), Refusal>
+    ensures value { number_in result ≡ into_number s.now bytes.old }
+    ensures bytes_after { bytes.new ≡ season_into s.now bytes.old }
+{
+    if bytes.len() < REPORT_BYTES {
+        return without_room(s);
+    }
+    let before = report_at(bytes);
+    let added = before.add(s)?;
+    put_report(bytes, added.report);
+    Ok(())
 }
 
 // Adds a recording to the report that `bytes` begins with, and answers its refusal number.
@@ -57,16 +72,5 @@ pub fn add(s: &[u8], bytes: &mut [u8]) -> u8
     ensures value { result ≡ into_number s.now bytes.old }
     ensures bytes_after { bytes.new ≡ season_into s.now bytes.old }
 {
-    if bytes.len() < REPORT_BYTES {
-        return without_room(s);
-    }
-    let before = report_at(bytes);
-    let added = before.add(s);
-    let refused = added.number != 0;
-    if refused {
-        return added.number;
-    }
-    let after = added.report;
-    put_report(bytes, after);
-    0
+    settings::number_in(add_into(s, bytes))
 }

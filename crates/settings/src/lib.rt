@@ -16,7 +16,7 @@ ghost use Rattle.settings.specs.Refusals.{number_in};
 ghost use Rattle.settings.specs.Causes.{seen_of};
 ghost use Rattle.settings.specs.Signals.{forces_count};
 
-pub use numbers::{Refusal, Refused};
+pub use numbers::{Refusal, Refused, number_in};
 use rules::Seen;
 
 // The settings of one effect: its association word and its delay in milliseconds.

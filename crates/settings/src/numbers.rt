@@ -1,6 +1,6 @@
 // The refusals of document 01's list, "Refusal numbers", and of document 02, L1: what every function that refuses answers with.
 ghost use Rattle.std.specs.Prelude.{◌≡◌};
-ghost use Rattle.settings.specs.Refusals.{number_of};
+ghost use Rattle.settings.specs.Refusals.{number_of, number_in};
 
 // Why something is refused, in the order of the refusal numbers.
 #[derive(Clone, Copy, PartialEq, Eq)]
@@ -54,5 +54,24 @@ impl From<Refusal> for u8 {
             Refusal::Room => 10,
             Refusal::Sums => 11,
         }
+    }
+}
+
+// A caller that has no use for the place leaves it out.
+impl From<Refused> for Refusal {
+    ghost from_gives = { λ refused refusal. refusal ≡ refused.refusal };
+
+    fn from(refused: Refused) -> Refusal {
+        refused.refusal
+    }
+}
+
+// The refusal number of an answer; 0 where nothing is refused.
+pub fn number_in<T: Copy>(answer: Result<T, Refusal>) -> u8
+    ensures { result ≡ number_in answer }
+{
+    match answer {
+        Ok(_) => 0,
+        Err(refusal) => u8::from(refusal),
     }
 }

@@ -6,8 +6,8 @@
 ghost use Rattle.std.specs.Prelude.{◌≡◌, ◌+◌, ◌≤◌, ◌<◌};
 ghost use Rattle.rules.specs.Limits.{most_effects};
 ghost use Rattle.effects.specs.Records.{Recorded};
-ghost use Rattle.recording.specs.Answer.{Accepted};
 ghost use Rattle.recording.specs.Answers.{row_count_of};
+ghost use Rattle.recording.specs.Opened.{IsRead};
 ghost use Rattle.recording.specs.Reader.{reading};
 ghost use Rattle.rerun.specs.Replay.{replay};
 ghost use Rattle.rerun.specs.Turn.{Going};
@@ -15,6 +15,7 @@ ghost use Rattle.standing.specs.Stands.{told_by, ToldAll, Stands, reason_now};
 
 use effects::Event;
 use reasons::{Reason, Sight};
+use recording::Recording;
 use rerun::Run;
 use rules::Slot;
 use settings::Settings;
@@ -81,8 +82,14 @@ fn after_last(s: &[u8], last: Run, board: &mut [u32; 64]) -> Standing
     let sight = reasoned::sight_at(s, last);
     let slots = cells::slots_of(board, plan.count, planes);
     let mut records = [0u8; effects::MOST_ROW_BYTES];
-    let turn = rerun::go(s, last, last.rows + 1, board, &mut records, true);
-    let end = turn.run;
+    let end = rerun::run_of(rerun::go(
+        s,
+        last,
+        last.rows + 1,
+        board,
+        &mut records,
+        true,
+    ));
     let reached = end.mark;
     let reached_planes = reached.planes;
     let from = tell_all(
@@ -96,15 +103,15 @@ fn after_last(s: &[u8], last: Run, board: &mut [u32; 64]) -> Standing
 }
 
 // How the effects of a recording stand after its last scan, where the reader accepts it and none of its rows ends it.
-pub fn at_end(s: &[u8], st: Settings, rows: u16, first: usize, width: usize) -> Standing
-    requires { ((reading s.now).answer ≡ Accepted rows first width) × (st ≡ (reading s.now).settings) × ((replay s.now).number ≡ 0) }
+pub fn at_end(s: &[u8], file: Recording) -> Standing
+    requires { IsRead file s.now × ((replay s.now).number ≡ 0) }
     ensures { Stands s.now result }
 {
     let mut board = [0u32; 64];
-    let run = rerun::begin(st, rows, first, width, &mut board);
+    let run = rerun::begin(file, &mut board);
     let mut space = [0u8; effects::MOST_ROW_BYTES];
-    let turn = rerun::go(s, run, (rows - 1) as u32, &mut board, &mut space, false);
-    let last = turn.run;
+    let before = (file.rows - 1) as u32;
+    let last = rerun::run_of(rerun::go(s, run, before, &mut board, &mut space, false));
     after_last(s, last, &mut board)
 }
 

@@ -10,7 +10,7 @@ ghost use Rattle.std.proofs.lemmas.List.Edits.{sets};
 ghost use Rattle.bits.specs.Lists.{tabulate};
 ghost use Rattle.rules.specs.Limits.{most_effects};
 ghost use Rattle.effects.specs.Records.{Recorded};
-ghost use Rattle.recording.specs.Answer.{Accepted};
+ghost use Rattle.settings.specs.Refusals.{number_in};
 ghost use Rattle.recording.specs.Answers.{row_count_of};
 ghost use Rattle.recording.specs.Reader.{reading as reading_of};
 ghost use Rattle.reason_bytes.specs.Bytes.{numbers_of};
@@ -20,9 +20,8 @@ ghost use Rattle.why_bytes.specs.Bytes.{reason_length, reason_bytes, reasons_num
 ghost use Rattle.why_bytes.specs.Rows.{RowPut, Telling, RowTold};
 
 use reasons::Sight;
-use recording::Answer;
 use rerun::Run;
-use settings::Settings;
+use settings::{Refusal, Settings};
 use standing::Standing;
 
 // The length of a reason, in bytes, and the room that the records of a row need.
@@ -66,8 +65,14 @@ fn put_next(
     requires { Telling s.now run board.old (length out.old) × (run.rows < row_count_of (reading_of s.now).answer) }
     ensures { RowTold s.now run out.old result board.new out.new }
 {
-    let turn = rerun::go(s, run, run.rows + 1, board, records, true);
-    let next = turn.run;
+    let next = rerun::run_of(rerun::go(
+        s,
+        run,
+        run.rows + 1,
+        board,
+        records,
+        true,
+    ));
     let n = (next.records - run.records) as usize;
     if n == 0 {
         return next;
@@ -97,31 +102,18 @@ fn put_rows(s: &[u8], run: Run, board: &mut [u32; 64], out: &mut [u8])
     }
 }
 
-// A file that the reader accepts: 9, and then 10, before any byte is written.
-fn reasons_accepted(
-    s: &[u8],
-    st: Settings,
-    rows: u16,
-    first: usize,
-    width: usize,
-    out: &mut [u8],
-) -> u8
-    requires { ((reading_of s.now).answer ≡ Accepted rows first width) × (st ≡ (reading_of s.now).settings) }
-    ensures value { result ≡ reasons_number s.now (length out.old) }
+// Writes the reasons of all events of a recording to the front of `out`: whatever refuses it does so before any byte is written.
+fn reasons_of(s: &[u8], out: &mut [u8]) -> Result<(), Refusal>
+    ensures value { number_in result ≡ reasons_number s.now (length out.old) }
     ensures out_after { out.new ≡ reasons_into s.now out.old }
 {
-    let stop = rerun::stop_of(s, rows, first, width);
-    if stop.number != 0 {
-        return stop.number;
-    }
+    let file = recording::read(s)?;
+    rerun::check_holds(s, file)?;
     let mut board = [0u32; 64];
-    let run = rerun::begin(st, rows, first, width, &mut board);
-    let number = room::records_number(s, run, &board, REASON_LENGTH, out.len());
-    if number != 0 {
-        return number;
-    }
+    let run = rerun::begin(file, &mut board);
+    room::check_records(s, run, &board, REASON_LENGTH, out.len())?;
     put_rows(s, run, &mut board, out);
-    0
+    Ok(())
 }
 
 // Writes the reasons of all events of a recording to the front of `out`, and answers its refusal number.
@@ -129,13 +121,7 @@ pub fn put_reasons(s: &[u8], out: &mut [u8]) -> u8
     ensures value { result ≡ reasons_number s.now (length out.old) }
     ensures out_after { out.new ≡ reasons_into s.now out.old }
 {
-    let reading = recording::read(s);
-    let answer = reading.answer;
-    let st = reading.settings;
-    match answer {
-        Answer::Accepted { rows, first, width } => reasons_accepted(s, st, rows, first, width, out),
-        Answer::Refused { number, place: _ } => number,
-    }
+    settings::number_in(reasons_of(s, out))
 }
 
 // ---- the reasons of all effects after the last scan
@@ -154,22 +140,21 @@ fn put_effects(out: &mut [u8], st: Settings, x: Standing)
     }
 }
 
-// A file that the reader accepts: 9, and then 10, before any byte is written.
-fn now_accepted(s: &[u8], st: Settings, rows: u16, first: usize, width: usize, out: &mut [u8]) -> u8
-    requires { ((reading_of s.now).answer ≡ Accepted rows first width) × (st ≡ (reading_of s.now).settings) }
-    ensures value { result ≡ now_number s.now (length out.old) }
+// Writes the reasons of all effects after the last scan of a recording to the front of `out`: whatever refuses it does so before any byte is
+// written.
+fn now_of(s: &[u8], out: &mut [u8]) -> Result<(), Refusal>
+    ensures value { number_in result ≡ now_number s.now (length out.old) }
     ensures out_after { out.new ≡ now_into s.now out.old }
 {
-    let stop = rerun::stop_of(s, rows, first, width);
-    if stop.number != 0 {
-        return stop.number;
-    }
+    let file = recording::read(s)?;
+    rerun::check_holds(s, file)?;
+    let st = file.settings;
     if out.len() < REASON_LENGTH * st.count as usize {
-        return 10;
+        return Err(Refusal::Room);
     }
-    let x = standing::at_end(s, st, rows, first, width);
+    let x = standing::at_end(s, file);
     put_effects(out, st, x);
-    0
+    Ok(())
 }
 
 // Writes the reasons of all effects after the last scan of a recording to the front of `out`, and answers its refusal number.
@@ -177,11 +162,5 @@ pub fn put_now(s: &[u8], out: &mut [u8]) -> u8
     ensures value { result ≡ now_number s.now (length out.old) }
     ensures out_after { out.new ≡ now_into s.now out.old }
 {
-    let reading = recording::read(s);
-    let answer = reading.answer;
-    let st = reading.settings;
-    match answer {
-        Answer::Accepted { rows, first, width } => now_accepted(s, st, rows, first, width, out),
-        Answer::Refused { number, place: _ } => number,
-    }
+    settings::number_in(now_of(s, out))
 }

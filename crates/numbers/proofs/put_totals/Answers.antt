@@ -1,21 +1,25 @@
 -- `numbers::put_totals` meets its contract: seven numbers if they fit, else nothing.
-use mathlib.Core.Path.{refl, ◌∙◌}
-use mathlib.Core.List.{[], ◌∷◌}
-use Prim.Native.Nat.{◌*◌}
+use mathlib.Core.Path.{◌∙◌}
 use native.Mathlib.Omega.{arith}
-use Rattle.numbers.specs.Numbers.{number_bytes, numbers, crossing}
-use Rattle.numbers.proofs.Stores.{length-numbers, numbers_then, fits, stays}
+use Rattle.numbers.specs.Numbers.{numbers, crossing}
+use Rattle.numbers.proofs.Stores.{length-numbers, fits, stays}
 use Rattle.numbers.proofs.put_totals.Goals as goal
+use Rattle.std.proofs.Common.{Ok, Err}
+use Rattle.rerun.specs.Answer.{as_replayed}
 
 pub returns-then-out-lt-TOTALS_BYTES : goal.returns-then-out-lt-TOTALS_BYTES
 returns-then-out-lt-TOTALS_BYTES c =
     let g = c.args in
-    stays (numbers (crossing g.r)) g.out.now (omega (arith, c.if-out-lt-TOTALS_BYTES.true, length-numbers (crossing g.r)))
+    stays (numbers (crossing (as_replayed g.r))) g.out.now (omega (arith, c.if-out-lt-TOTALS_BYTES.true, length-numbers (crossing (as_replayed g.r))))
 
-pub returns : goal.returns
-returns c =
+pub returns-in-Ok : goal.returns-in-Ok
+returns-in-Ok c =
+    let all = crossing (as_replayed (Ok c.in-Ok.counts)) in
     let out = c.args.out.now in
-    let r = c.args.r in
-    let first = numbers_then out _ _ 0 (number_bytes * 3) (r.records ∷ r.rows ∷ r.scans ∷ []) (r.live ∷ r.exercised ∷ []) c.put_three.ensures c.put_two.ensures refl in
-    numbers_then out _ _ 0 (number_bytes * 5) (r.records ∷ r.rows ∷ r.scans ∷ r.live ∷ r.exercised ∷ []) (r.number ∷ r.place ∷ []) first c.put_two-2.ensures refl
-    ∙ fits (numbers (crossing r)) out (omega (arith, c.if-out-lt-TOTALS_BYTES.false, length-numbers (crossing r)))
+    rw c.in-Ok.is (c.put_seven.ensures ∙ fits (numbers all) out (omega (arith, c.if-out-lt-TOTALS_BYTES.false, length-numbers all)))
+
+pub returns-in-Err : goal.returns-in-Err
+returns-in-Err c =
+    let all = crossing (as_replayed (Err c.in-Err.refused)) in
+    let out = c.args.out.now in
+    rw c.in-Err.is (rw c.from.ensures at c.put_seven-in-Err.ensures ∙ fits (numbers all) out (omega (arith, c.if-out-lt-TOTALS_BYTES.false, length-numbers all)))

@@ -1,4 +1,4 @@
--- `room::records_number` meets its contract: the most that can be due fits, or the records that are due are counted.
+-- `room::check_records` meets its contract: the most that can be due fits, or the records that are due are counted.
 use mathlib.Core.Path.{◌≡◌, sym, ap, ◌∙◌}
 use Prim.Native.Nat.{ℕ, ◌*◌, ◌≤◌}
 use native.Mathlib.Nat.{mul-le-mul, mul-le-mul_left}
@@ -18,7 +18,7 @@ use Rattle.rerun.specs.declared.Run.{Run}
 use Rattle.rerun.proofs.Files.{most-effects, few_rows}
 use Rattle.rerun.proofs.Theorems.{two_records_an_effect_and_row}
 use Rattle.rerun.proofs.Turns.{counted_all}
-use Rattle.room.proofs.records_number.Goals as goal
+use Rattle.room.proofs.check_records.Goals as goal
 
 -- ## The most records
 
@@ -62,17 +62,17 @@ returns-then-each-most c =
 pub overflow_mul-each-2 : goal.overflow_mul-each-2
 overflow_mul-each-2 c =
     let a = c.args in
-    let counted = counted_all c.go-end.ensures c.requires.0.many in
-    omega (arith, bytes_small _ _ _ c.requires.0 a.each c.go-end.result.run.records c.requires.2 (omega (arith, counted, enough _ _ _ c.requires.0)))
+    let counted = ap (λ (r : Run). r.records) c.run_of-last.ensures ∙ counted_all c.go-end.ensures c.requires.0.many in
+    omega (arith, bytes_small _ _ _ c.requires.0 a.each c.run_of-last.result.records c.requires.2 (omega (arith, counted, enough _ _ _ c.requires.0)))
 
 pub returns-then-each-last : goal.returns-then-each-last
 returns-then-each-last c =
     let a = c.args in
-    sym (room_enough (a.each * c.go-end.result.run.records) a.room c.if-each-last.true)
-    ∙ ap (λ (n : ℕ). room_number (a.each * n) a.room) (counted_all c.go-end.ensures c.requires.0.many)
+    sym (room_enough (a.each * c.run_of-last.result.records) a.room c.if-each-last.true)
+    ∙ ap (λ (n : ℕ). room_number (a.each * n) a.room) (ap (λ (r : Run). r.records) c.run_of-last.ensures ∙ counted_all c.go-end.ensures c.requires.0.many)
 
 pub returns : goal.returns
 returns c =
     let a = c.args in
-    sym (room_short (a.each * c.go-end.result.run.records) a.room c.if-each-last.false)
-    ∙ ap (λ (n : ℕ). room_number (a.each * n) a.room) (counted_all c.go-end.ensures c.requires.0.many)
+    sym (room_short (a.each * c.run_of-last.result.records) a.room c.if-each-last.false)
+    ∙ ap (λ (n : ℕ). room_number (a.each * n) a.room) (ap (λ (r : Run). r.records) c.run_of-last.ensures ∙ counted_all c.go-end.ensures c.requires.0.many)
