@@ -6,15 +6,14 @@
 #![tactic(auto)]
 
 ghost use Rattle.std.specs.Prelude.{◌≡◌, length};
-ghost use Rattle.rerun.specs.Replay.{replay};
-ghost use Rattle.rerun.specs.Turn.{Going, stop_of};
-ghost use Rattle.pohandira.specs.Crossing.{check_number, check_into, count_number, count_into, replay_number, records_into, totals_into};
+ghost use Rattle.rerun.specs.Answer.{as_replayed};
+ghost use Rattle.pohandira.specs.Crossing.{check_number, check_into, count_number, count_into, replay_number, records_into, totals_or_refusal, totals_into};
 ghost use Rattle.pohandira.specs.Version.{version};
 ghost use Rattle.season_bytes.specs.Bytes.{into_number, season_into};
 ghost use Rattle.why_bytes.specs.Bytes.{reasons_number, reasons_into, now_number, now_into};
 
-use recording::Answer;
-use rerun::{Run, Stop};
+use rerun::Counts;
+use settings::{Refusal, Refused};
 
 // ---- the version
 
@@ -43,15 +42,12 @@ pub fn pohandira_check(recording: &[u8], answer: &mut [u8]) -> u8
     ensures value { result ≡ check_number recording.now (length answer.old) }
     ensures answer_after { answer.new ≡ check_into recording.now answer.old }
 {
-    let reading = recording::read(recording);
-    let found = reading.answer;
-    match found {
-        Answer::Accepted {
-            rows,
-            first: _,
-            width: _,
-        } => numbers::put_check(answer, 0, 0, rows),
-        Answer::Refused { number, place } => numbers::put_check(answer, number, place, 0),
+    match recording::read(recording) {
+        Ok(file) => numbers::put_check(answer, 0, 0, file.rows),
+        Err(refused) => {
+            let number = u8::from(refused.refusal);
+            numbers::put_check(answer, number, refused.place, 0)
+        }
     }
 }
 
@@ -69,49 +65,31 @@ pub fn pohandira_count(recording: &[u8], totals: &mut [u8]) -> u8
 
 // ---- a replay
 
-// A file that the reader accepts and none of whose rows ends it.
-fn replay_whole(
-    s: &[u8],
-    run: Run,
-    board: &mut [u32; 64],
-    records: &mut [u8],
-    totals: &mut [u8],
-) -> u8
-    requires { Going s.now run board.old × (run.rows ≡ 0) × ((replay s.now).number ≡ 0) }
-    ensures value { result ≡ replay_number s.now (length records.old) (length totals.old) }
-    ensures records_after { records.new ≡ records_into s.now (length totals.old) records.old }
-    ensures totals_after { totals.new ≡ totals_into s.now (length records.old) totals.old }
+// 10 has no place.
+fn no_room(refusal: Refusal) -> Refused
+    ensures { result ≡ record { refusal = refusal; place = 0 } }
 {
-    if totals.len() < numbers::TOTALS_BYTES {
-        return 10;
-    }
-    let number = room::records_number(s, run, board, effects::RECORD_LENGTH, records.len());
-    if number != 0 {
-        return numbers::refuse(totals, number, 0);
-    }
-    let end = rerun::go(s, run, run.row_count, board, records, true);
-    numbers::put_totals(totals, rerun::answer_of(end));
-    0
+    Refused { refusal, place: 0 }
 }
 
-// A file that the reader accepts: 9 comes before any byte is written.
-fn replay_accepted(
-    s: &[u8],
-    stop: Stop,
-    run: Run,
-    board: &mut [u32; 64],
-    records: &mut [u8],
-    totals: &mut [u8],
-) -> u8
-    requires { Going s.now run board.old × (run.rows ≡ 0) × (stop ≡ stop_of (replay s.now)) }
-    ensures value { result ≡ replay_number s.now (length records.old) (length totals.old) }
-    ensures records_after { records.new ≡ records_into s.now (length totals.old) records.old }
-    ensures totals_after { totals.new ≡ totals_into s.now (length records.old) totals.old }
+// Replays a recording and writes all records to `records`, where the totals have so many bytes of room. What the reader refuses, and 9, come
+// before any byte is written, and so does 10.
+fn put_records(s: &[u8], records: &mut [u8], totals_room: usize) -> Result<Counts, Refused>
+    ensures value { as_replayed result ≡ totals_or_refusal s.now (length records.old) totals_room }
+    ensures records_after { records.new ≡ records_into s.now totals_room records.old }
 {
-    if stop.number != 0 {
-        return numbers::refuse(totals, stop.number, stop.place);
+    let file = recording::read(s)?;
+    rerun::check_holds(s, file)?;
+    if totals_room < numbers::TOTALS_BYTES {
+        return Err(no_room(Refusal::Room));
     }
-    replay_whole(s, run, board, records, totals)
+    let mut board = [0u32; 64];
+    let run = rerun::begin(file, &mut board);
+    let each = effects::RECORD_LENGTH;
+    if let Err(refusal) = room::check_records(s, run, &board, each, records.len()) {
+        return Err(no_room(refusal));
+    }
+    rerun::answer_of(rerun::go(s, run, run.row_count, &mut board, records, true))
 }
 
 // Replays a recording: answers its refusal number, and writes all records to `records` and 56 bytes to `totals`: records, rows, scans,
@@ -121,18 +99,8 @@ pub fn pohandira_replay(recording: &[u8], records: &mut [u8], totals: &mut [u8])
     ensures records_after { records.new ≡ records_into recording.now (length totals.old) records.old }
     ensures totals_after { totals.new ≡ totals_into recording.now (length records.old) totals.old }
 {
-    let reading = recording::read(recording);
-    let answer = reading.answer;
-    let st = reading.settings;
-    match answer {
-        Answer::Accepted { rows, first, width } => {
-            let stop = rerun::stop_of(recording, rows, first, width);
-            let mut board = [0u32; 64];
-            let run = rerun::begin(st, rows, first, width, &mut board);
-            replay_accepted(recording, stop, run, &mut board, records, totals)
-        }
-        Answer::Refused { number, place } => numbers::refuse(totals, number, place),
-    }
+    let counted = put_records(recording, records, totals.len());
+    numbers::put_counted(totals, counted)
 }
 
 // ---- season totals
