@@ -90,13 +90,8 @@ pub fn effects_at(s: &[u8], at: usize, n: usize) -> [Effect; 16]
         delay: 0,
     }; 16];
     let w = width_of(Kind::Effects);
-    let mut i = 0;
-    let mut place = at;
-    while i < n {
-        let e = effect_at(s, place);
-        effects[i] = e;
-        place += w;
-        i += 1;
+    for (i, effect) in effects[..n].iter_mut().enumerate() {
+        *effect = effect_at(s, at + w * i);
     }
     effects
 }

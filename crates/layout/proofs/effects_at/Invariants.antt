@@ -1,5 +1,5 @@
--- `layout::effects_at` meets its contract. The loop's invariant: the first i slots are the effects read, the others empty.
-use Prim.Native.Nat.{◌≤◌, ◌+◌, ◌*◌, ◌-◌}
+-- `layout::effects_at` meets its contract. The loop's invariant: the first i of the n slots are the effects read, the others empty.
+use Prim.Native.Nat.{◌-◌}
 use mathlib.Core.Path.{◌≡◌}
 use mathlib.Core.List.{◌++◌}
 use lib.ListN.{replicate}
@@ -10,7 +10,4 @@ use Rattle.layout.proofs.effects_at.Given as goal
 
 abbrev pub invariant-loop-i : goal.invariant-loop-i
 invariant-loop-i l =
-    (l.i ≤ l.n) × (l.place ≡ l.at + 6 * l.i) × (l.w ≡ 6) × (l.effects ≡ list_of (effect_at l.s) 6 l.i l.at ++ replicate (16 - l.i) no_effect)
-
-abbrev pub decreases-loop-i : goal.decreases-loop-i
-decreases-loop-i l = l.n - l.i
+    (l.w ≡ 6) × (l.effect-items ≡ list_of (effect_at l.s) 6 l.i l.at ++ replicate (l.n - l.i) no_effect)
