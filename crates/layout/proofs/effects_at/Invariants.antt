@@ -2,7 +2,7 @@
 use Prim.Native.Nat.{◌-◌}
 use mathlib.Core.Path.{◌≡◌}
 use mathlib.Core.List.{◌++◌}
-use lib.ListN.{replicate}
+use lib.ListN.{length, replicate}
 use Rattle.layout.specs.Entries.{effect_at}
 use Rattle.bits.specs.Lists.{list_of}
 use Rattle.settings.specs.Signals.{no_effect}
@@ -10,4 +10,4 @@ use Rattle.layout.proofs.effects_at.Given as goal
 
 abbrev pub invariant-loop-i : goal.invariant-loop-i
 invariant-loop-i l =
-    (l.w ≡ 6) × (l.effect-items ≡ list_of (effect_at l.s) 6 l.i l.at ++ replicate (l.n - l.i) no_effect)
+    (l.w ≡ 6) × (length l.effect-items ≡ l.n) × (l.effect-items ≡ list_of (effect_at l.s) 6 l.i l.at ++ replicate (l.n - l.i) no_effect)
