@@ -14,26 +14,18 @@ use Rattle.numbers.specs.Numbers.{number_bytes}
 use Rattle.season_bytes.proofs.put_report.Goals as goal
 
 pub loop-k-init : goal.loop-k-init
-loop-k-init c = (omega arith, refl, rw zero-add)
-
-pub put64-requires : goal.put64-requires
-put64-requires c = search rules
+loop-k-init c = (refl, rw zero-add)
 
 pub loop-k-preserved : goal.loop-k-preserved
 loop-k-preserved c =
-    let sums = c.args.r.sums in
-    -- an array is as long as its type says
-    let long : length sums ≡ sum_count = search (rules, length_mapped) in
-    let e = c.put64.ensures in
-    let h : c.loop-k.k < length sums = omega (arith, long) in (
-      omega arith,
-      rw (e, length-sets) c.loop-k.invariant.1,
-      rw (e, ← zero-add (number_bytes * c.loop-k.k))
-          (store_turn (digits number_bytes) number_bytes (length_digits number_bytes) c.loop-k.bytes 0 c.loop-k.k sums 0 h ∙ c.loop-k.invariant.2),
+    let l = c.loop-k in
+    let e = c.put64.ensures in (
+      rw (e, length-sets) l.invariant.0,
+      rw (e, ← zero-add (number_bytes * l.k))
+          (store_turn (digits number_bytes) number_bytes (length_digits number_bytes) l.bytes 0 l.k c.args.r.sums 0 (omega arith) ∙ l.invariant.1),
     )
 
 pub returns : goal.returns
 returns c =
     let l = c.loop-k in
-    let long : length c.args.r.sums ≡ sum_count = search (rules, length_mapped) in
-    store_ends (digits number_bytes) _ _ (0 + number_bytes * l.k) l.k c.args.r.sums (omega (arith, long)) l.invariant.2
+    store_ends (digits number_bytes) _ _ (0 + number_bytes * l.k) l.k c.args.r.sums (omega arith) l.invariant.1
