@@ -9,7 +9,4 @@ use Rattle.standing.specs.Stands.{reason_now}
 use Rattle.why_bytes.proofs.put_effects.Given as goal
 
 abbrev pub invariant-loop-i : goal.invariant-loop-i
-invariant-loop-i l = (l.i ≤ l.n) × (l.out ≡ sets l.initial.out 0 (flat_map numbers_of (tabulate (reason_now l.st l.x) l.i)))
-
-abbrev pub decreases-loop-i : goal.decreases-loop-i
-decreases-loop-i l = l.n - l.i
+invariant-loop-i l = l.out ≡ sets l.initial.out 0 (flat_map numbers_of (tabulate (reason_now l.st l.x) l.i))
