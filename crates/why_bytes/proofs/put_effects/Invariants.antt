@@ -1,7 +1,6 @@
 -- `why_bytes::put_effects` meets its contract. The loop's invariant: the reasons of the first i effects stand.
 use mathlib.Core.Path.{◌≡◌}
 use mathlib.Core.List.{flat_map}
-use Prim.Native.Nat.{◌-◌, ◌≤◌}
 use lib.Seq.{sets}
 use Rattle.bits.specs.Lists.{tabulate}
 use Rattle.reason_bytes.specs.Bytes.{numbers_of}

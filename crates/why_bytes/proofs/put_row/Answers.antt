@@ -1,17 +1,16 @@
 -- `why_bytes::put_row` meets its contract. The loop's invariant: with the reasons of the events that are left, of any whose records these are,
 -- the lent bytes would hold those of all of them.
-use mathlib.Core.Path.{◌≡◌, refl, ap, ◌∙◌}
+use mathlib.Core.Path.{refl, ap, ◌∙◌}
 use mathlib.Core.List.{List}
-use Prim.Native.Nat.{ℕ, ◌+◌, ◌*◌, ◌<◌}
+use Prim.Native.Nat.{ℕ, ◌+◌, ◌*◌}
 use native.Mathlib.Nat.{add-zero}
 use native.Mathlib.Omega.{arith}
-use lib.ListN.{length, drop, get_or}
+use lib.ListN.{drop, get_or}
 use lib.Seq.{sets, length-sets}
 use Rattle.bits.proofs.Lists.{store_turn, store_ends}
 use Rattle.rules.specs.Limits.{most_effects}
 use Rattle.effects.specs.declared.Event.{Event}
-use Rattle.effects.specs.Records.{record_length, StandFrom, StandsAt}
-use Rattle.effects.proofs.Records.{no_event, nth, one_event, numbered_at}
+use Rattle.effects.proofs.Records.{no_event, nth, numbered_at}
 use Rattle.reasons.specs.Reasons.{reason_in}
 use Rattle.reason_bytes.specs.Bytes.{numbers_of}
 use Rattle.standing.proofs.Records.{read_is}
