@@ -10,4 +10,4 @@ use Rattle.numbers.specs.Numbers.{number_bytes}
 use Rattle.season_bytes.proofs.report_at.Given as goal
 
 abbrev pub invariant-loop-k : goal.invariant-loop-k
-invariant-loop-k l = l.sums ≡ tabulate (λ i. num_at number_bytes l.bytes (number_bytes * i)) l.k ++ drop l.k (replicate sum_count 0)
+invariant-loop-k l = l.sum-items ≡ tabulate (λ i. num_at number_bytes l.bytes (number_bytes * i)) l.k ++ drop l.k (replicate sum_count 0)
