@@ -2,7 +2,7 @@
 // bytes if they fit. It rests on `rerun` for what a replay results in. `pohandira` says which of them cross, and when.
 #![tactic(auto)]
 
-ghost use Rattle.std.specs.Prelude.{◌≡◌, [], ◌∷◌, ◌+◌, ◌*◌, ◌≤◌, length};
+ghost use Rattle.std.specs.Prelude.{◌≡◌, [], ◌∷◌, ◌*◌, ◌≤◌, length};
 ghost use Rattle.std.proofs.lemmas.List.Edits.{sets};
 ghost use Rattle.settings.specs.Refusals.{or_else, room_number};
 ghost use Rattle.rerun.specs.Replay.{refusal};
@@ -17,22 +17,14 @@ const CHECK_BYTES: usize = NUMBER_BYTES * 3;
 
 pub const TOTALS_BYTES: usize = NUMBER_BYTES * 7;
 
-// Writes two numbers at `at`; all else stays.
-fn put_two(out: &mut [u8], at: usize, a: u64, b: u64)
-    requires { at + number_bytes * 2 ≤ length out.old }
-    ensures { out.new ≡ sets out.old at (numbers (a ∷ b ∷ [])) }
+// Writes numbers to the front of `out`, one behind the other; all else stays.
+pub fn put_numbers(out: &mut [u8], values: &[u64])
+    requires { number_bytes * length values.now ≤ length out.old }
+    ensures { out.new ≡ sets out.old 0 (numbers values.now) }
 {
-    bits::put64(out, at, a);
-    bits::put64(out, at + NUMBER_BYTES, b);
-}
-
-// Writes three numbers at `at`; all else stays.
-fn put_three(out: &mut [u8], at: usize, a: u64, b: u64, c: u64)
-    requires { at + number_bytes * 3 ≤ length out.old }
-    ensures { out.new ≡ sets out.old at (numbers (a ∷ b ∷ c ∷ [])) }
-{
-    put_two(out, at, a, b);
-    bits::put64(out, at + NUMBER_BYTES * 2, c);
+    for (i, value) in values.iter().enumerate() {
+        bits::put64(out, NUMBER_BYTES * i, *value);
+    }
 }
 
 // ---- the answer to a check
@@ -55,7 +47,7 @@ pub fn put_check(out: &mut [u8], number: u8, place: usize, rows: u16) -> u8
     if out.len() < CHECK_BYTES {
         return or_ten(number);
     }
-    put_three(out, 0, number as u64, place as u64, rows as u64);
+    put_numbers(out, &[number as u64, place as u64, rows as u64]);
     number
 }
 
@@ -68,9 +60,16 @@ pub fn put_totals(out: &mut [u8], r: Replayed)
     if out.len() < TOTALS_BYTES {
         return;
     }
-    put_three(out, 0, r.records as u64, r.rows as u64, r.scans as u64);
-    put_two(out, NUMBER_BYTES * 3, r.live as u64, r.exercised as u64);
-    put_two(out, NUMBER_BYTES * 5, r.number as u64, r.place as u64);
+    let values = [
+        r.records as u64,
+        r.rows as u64,
+        r.scans as u64,
+        r.live as u64,
+        r.exercised as u64,
+        r.number as u64,
+        r.place as u64,
+    ];
+    put_numbers(out, &values);
 }
 
 // Writes what a replay results in, if it fits, and answers its refusal number, or 10 where it does not fit and nothing else refuses.

@@ -34,9 +34,7 @@ pub fn put_report(bytes: &mut [u8], r: Report)
     requires { report_length ≤ length bytes.old }
     ensures { bytes.new ≡ sets bytes.old 0 (report_bytes r) }
 {
-    for (k, sum) in r.sums.iter().enumerate() {
-        bits::put64(bytes, NUMBER_BYTES * k, *sum);
-    }
+    numbers::put_numbers(bytes, &r.sums);
 }
 
 // The refusal number of a recording for which there is no report: what refuses the recording itself comes before 10.

@@ -22,5 +22,5 @@ returns c =
     let g = c.args in
     let values = g.number ∷ g.place ∷ g.rows ∷ [] in record {
       value = sym (ap (or_else g.number) (room_enough check_bytes (length g.out.now) c.if-out-lt-CHECK_BYTES.false) ∙ or_else_alone g.number 0 (λ z. refl));
-      out_after = c.put_three.ensures ∙ fits (numbers values) g.out.now (omega (arith, c.if-out-lt-CHECK_BYTES.false, length-numbers values));
+      out_after = c.put_numbers.ensures ∙ fits (numbers values) g.out.now (omega (arith, c.if-out-lt-CHECK_BYTES.false, length-numbers values));
     }
