@@ -20,8 +20,7 @@ pub fn records_number(s: &[u8], run: Run, board: &[u32; 64], each: usize, room: 
     requires { Going s.now run board.now × (run.rows ≡ 0) × (each ≤ record_length) }
     ensures { result ≡ room_number (each * length (replay s.now).replay.events) room }
 {
-    let plan = run.plan;
-    let most = RECORDS_OF_EFFECT * plan.count * (run.row_count as usize);
+    let most = RECORDS_OF_EFFECT * run.plan.count * (run.row_count as usize);
     if each * most <= room {
         return 0;
     }

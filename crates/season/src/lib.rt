@@ -47,10 +47,7 @@ fn piece_end(row: u32, rows: u32) -> u32
     requires { row < rows }
     ensures { PieceEnds row rows result }
 {
-    if rows - row <= PIECE_ROWS {
-        return rows;
-    }
-    row + PIECE_ROWS
+    row.saturating_add(PIECE_ROWS).min(rows)
 }
 
 // A piece more, of a recording whose rows all run.
@@ -93,8 +90,8 @@ fn refusal(r: Report, number: u8, place: usize) -> Added
     ensures { result ≡ refused_at r number place }
 {
     Added {
-        number: number,
-        place: place,
+        number,
+        place,
         effects: 0,
         report: r,
     }
@@ -112,8 +109,8 @@ fn join(r: Report, effects: u8, more: [u64; 113]) -> Added
     Added {
         number: 0,
         place: 0,
-        effects: effects,
-        report: Report { sums: sums },
+        effects,
+        report: Report { sums },
     }
 }
 
@@ -126,8 +123,7 @@ fn add_whole(r: Report, s: &[u8], st: Settings, rows: u16, first: usize, width: 
     let run = rerun::begin(st, rows, first, width, &mut board);
     let mut count = Count::empty();
     let end = count_rows(s, run, &mut board, &mut count);
-    let mark = end.mark;
-    count.close_all(st.count as usize, mark.scans_done);
+    count.close_all(st.count as usize, end.mark.scans_done);
     count.sums[tally::EXERCISED_SUM] = end.exercised as u64;
     join(r, st.count, count.sums)
 }

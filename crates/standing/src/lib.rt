@@ -63,23 +63,20 @@ fn after_last(s: &[u8], last: Run, board: &mut [u32; 64]) -> Standing
     requires { Going s.now last board.old × (last.rows + 1 ≡ row_count_of (reading s.now).answer) × ((replay s.now).number ≡ 0) }
     ensures { Stands s.now result }
 {
-    let plan = last.plan;
-    let mark = last.mark;
-    let planes = mark.planes;
+    let count = last.plan.count;
     let sight = reasoned::sight_at(s, last);
-    let mut from = cells::slots_of(board, plan.count, planes);
+    let mut from = cells::slots_of(board, count, last.mark.planes);
     let mut records = [0u8; effects::MOST_ROW_BYTES];
     let turn = rerun::go(s, last, last.rows + 1, board, &mut records, true);
     let end = turn.run;
     let reached = end.mark;
-    let reached_planes = reached.planes;
     tell_all(
         &mut from,
         &records,
         (end.records - last.records) as usize,
         bits::minus(reached.scans_done, 1),
     );
-    let to = cells::slots_of(board, plan.count, reached_planes);
+    let to = cells::slots_of(board, count, reached.planes);
     Standing { from, to, sight }
 }
 
@@ -103,19 +100,8 @@ pub fn reason_now(st: Settings, x: Standing, i: usize) -> Reason
     requires { i < most_effects }
     ensures { result ≡ reason_now st x i }
 {
-    let effects = st.effects;
-    let effect = effects[i];
-    let from = x.from;
-    let was = from[i];
-    let to = x.to;
-    let is = to[i];
-    let sight = x.sight;
-    let p = was.state;
-    let q = is.state;
-    reasons::reason_by(
-        reasons::signs_of(sight, effect.association as u32, i),
-        p,
-        q,
-        is.timer,
-    )
+    let was = x.from[i];
+    let is = x.to[i];
+    let signs = reasons::signs_of(x.sight, st.effects[i].association as u32, i);
+    reasons::reason_by(signs, was.state, is.state, is.timer)
 }
