@@ -1,23 +1,10 @@
 -- `numbers::put_counted` meets its contract: the totals if they fit, else nothing and 10.
-use mathlib.Core.Path.{refl, sym, ap, ◌∙◌}
 use native.Mathlib.Omega.{arith}
-use lib.ListN.{length}
-use Rattle.settings.specs.Refusals.{or_else}
-use Rattle.settings.proofs.Refusals.{room_enough, room_short, or_else_alone}
-use Rattle.numbers.specs.Numbers.{totals_bytes, numbers, crossing}
+use Rattle.numbers.specs.Numbers.{numbers, crossing}
 use Rattle.numbers.proofs.Stores.{length-numbers, stays}
 use Rattle.numbers.proofs.put_counted.Goals as goal
 
-pub returns-then-out-lt-TOTALS_BYTES : goal.returns-then-out-lt-TOTALS_BYTES
-returns-then-out-lt-TOTALS_BYTES c =
-    let g = c.args in record {
-      value = c.or_ten.ensures ∙ ap (or_else g.r.number) (sym (room_short totals_bytes (length g.out.now) c.if-out-lt-TOTALS_BYTES.true));
-      out_after = stays (numbers (crossing g.r)) g.out.now (omega (arith, c.if-out-lt-TOTALS_BYTES.true, length-numbers (crossing g.r)));
-    }
-
-pub returns : goal.returns
-returns c =
-    let g = c.args in record {
-      value = sym (ap (or_else g.r.number) (room_enough totals_bytes (length g.out.now) c.if-out-lt-TOTALS_BYTES.false) ∙ or_else_alone g.r.number 0 (λ z. refl));
-      out_after = c.put_totals.ensures;
-    }
+pub returns-then-out-lt-TOTALS_BYTES-clause-out_after : goal.returns-then-out-lt-TOTALS_BYTES-clause-out_after
+returns-then-out-lt-TOTALS_BYTES-clause-out_after c =
+    let g = c.args in
+    stays (numbers (crossing g.r)) g.out.now (omega (arith, c.if-out-lt-TOTALS_BYTES.true, length-numbers (crossing g.r)))

@@ -1,5 +1,5 @@
 -- `numbers::put_numbers` meets its contract. The loop's invariant: the numbers written so far and those that are left make the whole.
-use mathlib.Core.Path.{refl, ◌∙◌}
+use mathlib.Core.Path.{◌∙◌}
 use Prim.Native.Nat.{◌*◌, ◌+◌}
 use native.Mathlib.Nat.{zero-add}
 use native.Mathlib.Omega.{arith}
@@ -9,9 +9,6 @@ use Rattle.bits.proofs.Lists.{store_turn, store_ends}
 use Rattle.bits.proofs.Numbers.{length_digits}
 use Rattle.numbers.specs.Numbers.{number_bytes}
 use Rattle.numbers.proofs.put_numbers.Goals as goal
-
-pub loop-i-init : goal.loop-i-init
-loop-i-init c = (refl, rw zero-add)
 
 pub loop-i-preserved : goal.loop-i-preserved
 loop-i-preserved c =
