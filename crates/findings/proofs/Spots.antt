@@ -1,11 +1,11 @@
 -- Which section a place stands in, and the bounds that the code needs.
-use mathlib.Core.Path.{◌≡◌, refl, sym, ap, ◌∙◌}
+use mathlib.Core.Path.{◌≡◌, sym, ap, ◌∙◌}
 use mathlib.Core.List.{List}
-use Prim.Native.Nat.{ℕ, ◌+◌, ◌-◌, ◌*◌, ◌/◌, ◌≤◌, ◌<◌}
+use Prim.Native.Nat.{ℕ, ◌*◌, ◌/◌, ◌≤◌, ◌<◌}
 use native.Mathlib.Omega.{arith}
-use mathlib.Core.Bool.{Bool, true, false}
-use lib.Dec.{leb, ltb}
-use borrow.Author.Tests.{lt-ltb, le-ltb, le-leb, lt-leb, leb-true, leb-false}
+use mathlib.Core.Bool.{false}
+use lib.Dec.{ltb}
+use borrow.Author.Tests.{lt-ltb, le-ltb}
 use Rattle.layout.specs.declared.Kind.{Kind}
 use Rattle.layout.specs.declared.Kind.TheVariants.{Block, Effects, Rows}
 use Rattle.layout.specs.Sections.{width_of}
@@ -25,14 +25,6 @@ pub passed_below : (kind : Kind) (w x n : ℕ) → w ≡ width_of kind → x < w
 passed_below Block w x n e h = rw e (omega (arith, h))
 passed_below Effects w x n e h = rw e (omega (arith, h))
 passed_below Rows w x n e h = rw e (omega (arith, h))
-
--- w bytes are there from p on, by a difference that is known to be one
-pub there_by_difference : (p w n : ℕ) → w ≤ n → leb p (n - w) ≡ leb (p + w) n
-there_by_difference p w n l = go (leb (p + w) n) refl
-  where
-    go : (b : Bool) → leb (p + w) n ≡ b → leb p (n - w) ≡ leb (p + w) n
-    go true e = le-leb p (n - w) (omega (arith, leb-true (p + w) n e)) ∙ sym e
-    go false e = lt-leb p (n - w) (omega (arith, leb-false (p + w) n e)) ∙ sym e
 
 -- ## Where a place stands, section by section
 

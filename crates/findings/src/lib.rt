@@ -96,12 +96,18 @@ pub struct Explained {
 // The bytes of a count.
 const COUNT_BYTES: usize = 2;
 
+// The bytes are there from p on, as many as w.
+fn is_there(s: &[u8], p: usize, w: usize) -> bool
+    ensures { result ≡ leb (p + w) (length s.now) }
+{
+    p.checked_add(w).is_some_and(|end| end <= s.len())
+}
+
 // The count at a place, or 0 where the bytes end before it does.
 fn count_at(s: &[u8], at: usize) -> u16
-    requires { at ≤ farthest }
     ensures { result ≡ count_at s.now at }
 {
-    if at + COUNT_BYTES <= s.len() {
+    if is_there(s, at, COUNT_BYTES) {
         bits::get16(s, at)
     } else {
         0
@@ -171,7 +177,7 @@ const WORD_BITS: u16 = 16;
 fn block_fault(causes: u8, options: u8, period: u16) -> Fault
     ensures { result ≡ block_fault causes options period }
 {
-    if !((1 <= causes) & (causes <= MOST_CAUSES)) {
+    if !(1..=MOST_CAUSES).contains(&causes) {
         return Fault::CauseCount;
     }
     if OPTIONS_END <= options {
@@ -196,11 +202,7 @@ fn effect_fault(causes: u8, e: Effect) -> Fault
 fn has_only(word: u16, n: u16) -> bool
     ensures { result ≡ ltb word (2 ^ n) }
 {
-    if n < WORD_BITS {
-        bits::within(word, n as u8)
-    } else {
-        true
-    }
+    bits::within(word, n.min(WORD_BITS) as u8)
 }
 
 // At most one effect is forced, or option bit 2 permits several.
@@ -277,7 +279,7 @@ fn inputs_fault(causes: u8, count: u16, options: u8, w: Words) -> Fault
 fn row_fault(causes: u8, count: u16, options: u8, row: Row) -> Fault
     ensures { result ≡ row_fault causes count options row }
 {
-    if !((1 <= row.hold) & (row.hold <= Row::MOST_HOLD)) {
+    if !(1..=Row::MOST_HOLD).contains(&row.hold) {
         return Fault::Hold;
     }
     inputs_fault(causes, count, options, row.words)
@@ -314,16 +316,6 @@ fn fault_at(kind: Kind, s: &[u8], at: usize) -> Fault
 
 // ---- the finding
 
-// The bytes are there from p on, as many as w.
-fn is_there(s: &[u8], p: usize, w: usize) -> bool
-    ensures { result ≡ leb (p + w) (length s.now) }
-{
-    if s.len() < w {
-        return false;
-    }
-    p <= s.len() - w
-}
-
 // A place within a count.
 fn count_finding(kind: Kind, s: &[u8], p: usize) -> Finding
     ensures { result ≡ finding_in (Count kind) s.now p }
@@ -343,13 +335,13 @@ fn entry_finding(kind: Kind, entry: u16, s: &[u8], p: usize) -> Finding
         let fault = fault_at(kind, s, p);
         Finding::EntryWrong {
             section: kind,
-            entry: entry,
-            fault: fault,
+            entry,
+            fault,
         }
     } else {
         Finding::EntryEnds {
             section: kind,
-            entry: entry,
+            entry,
         }
     }
 }
@@ -377,12 +369,11 @@ fn finding_of(s: &[u8], number: u8, place: usize) -> Finding
 fn explained_at(s: &[u8], number: u8, place: usize, rows: u16) -> Explained
     ensures { result ≡ explanation s.now number place rows }
 {
-    let finding = finding_of(s, number, place);
     Explained {
-        number: number,
-        place: place,
-        rows: rows,
-        finding: finding,
+        number,
+        place,
+        rows,
+        finding: finding_of(s, number, place),
     }
 }
 

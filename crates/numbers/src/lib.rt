@@ -2,7 +2,7 @@
 // bytes if they fit. It rests on `rerun` for what a replay results in. `pohandira` says which of them cross, and when.
 #![tactic(auto)]
 
-ghost use Rattle.std.specs.Prelude.{◌≡◌, [], ◌∷◌, ◌+◌, ◌*◌, ◌≤◌, length};
+ghost use Rattle.std.specs.Prelude.{◌≡◌, [], ◌∷◌, ◌*◌, ◌≤◌, length};
 ghost use Rattle.std.proofs.lemmas.List.Edits.{sets};
 ghost use Rattle.settings.specs.Refusals.{or_else, room_number};
 ghost use Rattle.rerun.specs.Answer.{as_replayed};
@@ -18,22 +18,14 @@ const CHECK_BYTES: usize = NUMBER_BYTES * 3;
 
 pub const TOTALS_BYTES: usize = NUMBER_BYTES * 7;
 
-// Writes two numbers at `at`; all else stays.
-fn put_two(out: &mut [u8], at: usize, a: u64, b: u64)
-    requires { at + number_bytes * 2 ≤ length out.old }
-    ensures { out.new ≡ sets out.old at (numbers (a ∷ b ∷ [])) }
+// Writes numbers to the front of `out`, one behind the other; all else stays.
+pub fn put_numbers(out: &mut [u8], values: &[u64])
+    requires { number_bytes * length values.now ≤ length out.old }
+    ensures { out.new ≡ sets out.old 0 (numbers values.now) }
 {
-    bits::put64(out, at, a);
-    bits::put64(out, at + NUMBER_BYTES, b);
-}
-
-// Writes three numbers at `at`; all else stays.
-fn put_three(out: &mut [u8], at: usize, a: u64, b: u64, c: u64)
-    requires { at + number_bytes * 3 ≤ length out.old }
-    ensures { out.new ≡ sets out.old at (numbers (a ∷ b ∷ c ∷ [])) }
-{
-    put_two(out, at, a, b);
-    bits::put64(out, at + NUMBER_BYTES * 2, c);
+    for (i, value) in values.iter().enumerate() {
+        bits::put64(out, NUMBER_BYTES * i, *value);
+    }
 }
 
 // ---- the answer to a check
@@ -56,53 +48,41 @@ pub fn put_check(out: &mut [u8], number: u8, place: usize, rows: u16) -> u8
     if out.len() < CHECK_BYTES {
         return or_ten(number);
     }
-    put_three(out, 0, number as u64, place as u64, rows as u64);
+    put_numbers(out, &[number as u64, place as u64, rows as u64]);
     number
 }
 
 // ---- what a replay results in
 
-// Writes seven numbers to the front: what rows have given, a refusal number and its place; all else stays.
-fn put_seven(out: &mut [u8], counts: Counts, number: u8, place: usize)
-    requires { totals_bytes ≤ length out.old }
-    ensures { out.new ≡ sets out.old 0 (numbers (counts.records ∷ counts.rows ∷ counts.scans ∷ counts.live ∷ counts.exercised ∷ number ∷ place ∷ [])) }
+// The seven numbers of what a replay results in: a refusal has zeros beside its number and place.
+fn numbers_of(r: Result<Counts, Refused>) -> [u64; 7]
+    ensures { result ≡ crossing (as_replayed r) }
 {
-    put_three(
-        out,
-        0,
-        counts.records as u64,
-        counts.rows as u64,
-        counts.scans as u64,
-    );
-    put_two(
-        out,
-        NUMBER_BYTES * 3,
-        counts.live as u64,
-        counts.exercised as u64,
-    );
-    put_two(out, NUMBER_BYTES * 5, number as u64, place as u64);
+    match r {
+        Ok(counts) => [
+            counts.records as u64,
+            counts.rows as u64,
+            counts.scans as u64,
+            counts.live as u64,
+            counts.exercised as u64,
+            0,
+            0,
+        ],
+        Err(refused) => {
+            let number = u8::from(refused.refusal);
+            [0, 0, 0, 0, 0, number as u64, refused.place as u64]
+        }
+    }
 }
 
-// Writes what a replay results in, if it fits: a refusal has zeros beside its number and place.
+// Writes what a replay results in, if it fits.
 fn put_totals(out: &mut [u8], r: Result<Counts, Refused>)
     ensures { out.new ≡ fitted (numbers (crossing (as_replayed r))) out.old }
 {
     if out.len() < TOTALS_BYTES {
         return;
     }
-    match r {
-        Ok(counts) => put_seven(out, counts, 0, 0),
-        Err(refused) => {
-            let none = Counts {
-                records: 0,
-                rows: 0,
-                scans: 0,
-                live: 0,
-                exercised: 0,
-            };
-            put_seven(out, none, u8::from(refused.refusal), refused.place)
-        }
-    }
+    put_numbers(out, &numbers_of(r));
 }
 
 // The refusal number of what a replay results in.

@@ -6,6 +6,7 @@
 ghost use Rattle.std.specs.Prelude.{◌≡◌, ◌+◌, ◌*◌, ◌^◌, ◌≤◌, ◌<◌, length, take};
 ghost use mathlib.Core.List.{◌∷◌, [], flat_map};
 ghost use Rattle.std.proofs.lemmas.List.Edits.{sets};
+ghost use Rattle.bits.specs.Numbers.{digits};
 ghost use Rattle.bits.specs.Layout.{pack};
 ghost use Rattle.layout.specs.Entries.{put_effect, put_row};
 ghost use Rattle.layout.specs.declared.Kind.TheVariants.{Rows};
@@ -13,7 +14,7 @@ ghost use Rattle.layout.specs.Sections.{width_of};
 ghost use Rattle.recording.specs.Encode.{opening, opening_length};
 
 use layout::Kind;
-use settings::{Effect, Row, Settings, Words};
+use settings::{Effect, Row, Settings};
 
 // ---- places
 
@@ -42,28 +43,14 @@ pub fn rows_section(count: usize) -> usize
 
 // ---- stores
 
-// Puts the first five words of a row at `at`.
-fn put_first_words(s: &mut [u8], at: usize, w: Words)
-    requires { at + 10 ≤ length s.old }
-    ensures { s.new ≡ sets s.old at (pack (2 ∷ 2 ∷ 2 ∷ 2 ∷ 2 ∷ []) (w.values ∷ w.bad ∷ w.mask ∷ w.require_reset ∷ w.reset_permit ∷ [])) }
+// Puts words at `at`, one behind the other.
+fn put_words(s: &mut [u8], at: usize, words: &[u16])
+    requires { at + 2 * length words.now ≤ length s.old }
+    ensures { s.new ≡ sets s.old at (flat_map (digits 2) words.now) }
 {
-    bits::put16(s, at, w.values);
-    bits::put16(s, at + 2, w.bad);
-    bits::put16(s, at + 4, w.mask);
-    bits::put16(s, at + 6, w.require_reset);
-    bits::put16(s, at + 8, w.reset_permit);
-}
-
-// Puts the last five words of a row at `at`.
-fn put_last_words(s: &mut [u8], at: usize, w: Words)
-    requires { at + 10 ≤ length s.old }
-    ensures { s.new ≡ sets s.old at (pack (2 ∷ 2 ∷ 2 ∷ 2 ∷ 2 ∷ []) (w.start_permit ∷ w.reset ∷ w.force_permit ∷ w.force_trip ∷ w.force_normal ∷ [])) }
-{
-    bits::put16(s, at, w.start_permit);
-    bits::put16(s, at + 2, w.reset);
-    bits::put16(s, at + 4, w.force_permit);
-    bits::put16(s, at + 6, w.force_trip);
-    bits::put16(s, at + 8, w.force_normal);
+    for (i, word) in words.iter().enumerate() {
+        bits::put16(s, at + 2 * i, *word);
+    }
 }
 
 pub fn put_row(s: &mut [u8], at: usize, row: Row)
@@ -72,8 +59,19 @@ pub fn put_row(s: &mut [u8], at: usize, row: Row)
 {
     let w = row.words;
     bits::put32(s, at, row.hold);
-    put_first_words(s, at + 4, w);
-    put_last_words(s, at + 14, w);
+    let words = [
+        w.values,
+        w.bad,
+        w.mask,
+        w.require_reset,
+        w.reset_permit,
+        w.start_permit,
+        w.reset,
+        w.force_permit,
+        w.force_trip,
+        w.force_normal,
+    ];
+    put_words(s, at + 4, &words);
 }
 
 fn put_effect(s: &mut [u8], at: usize, e: Effect)
@@ -90,11 +88,8 @@ fn put_effects(s: &mut [u8], at: usize, effects: [Effect; 16], n: usize)
     ensures s_after { s.new ≡ sets s.old at (flat_map put_effect (take n effects)) }
     ensures effects_len { length (take n effects) ≡ n }
 {
-    let mut i = 0;
-    while i < n {
-        let e = effects[i];
-        put_effect(s, effect_place(at, i), e);
-        i += 1;
+    for (i, e) in effects[..n].iter().enumerate() {
+        put_effect(s, effect_place(at, i), *e);
     }
 }
 

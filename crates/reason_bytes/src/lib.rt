@@ -2,62 +2,34 @@
 // `bits`. How bytes are put may change without moving a contract; which bytes they are is specs/Bytes.
 #![tactic(auto)]
 
-ghost use Rattle.std.specs.Prelude.{◌≡◌, [], ◌∷◌, ◌+◌, ◌≤◌, length};
+ghost use Rattle.std.specs.Prelude.{◌≡◌, ◌+◌, ◌≤◌, length};
 ghost use Rattle.std.proofs.lemmas.List.Edits.{sets};
-ghost use Rattle.bits.specs.Layout.{pack};
 ghost use Rattle.reasons.specs.Reasons.{kind, mask, millis, thing, missing};
 ghost use Rattle.reason_bytes.specs.Bytes.{numbers_of};
 
 use reasons::{Missing, Reason};
 
-// The kind, in document 02's order.
-fn kind_of(r: Reason) -> u8
-    ensures { result ≡ kind r }
-{
-    match r {
-        Reason::ForcedTripped => 0,
-        Reason::ForcedNormal => 1,
-        Reason::Bad(_) => 2,
-        Reason::Active(_) => 3,
-        Reason::DelayRunning(_) => 4,
-        Reason::DelayEnded => 5,
-        Reason::Waiting(_) => 6,
-        Reason::Cleared => 7,
-        Reason::AtRest => 8,
-    }
+// The numbers of a reason: its kind, in document 02's order; the missing thing that it names, the causes, as a word, and the milliseconds
+// left; 0 for what it does not name.
+#[derive(Clone, Copy)]
+struct Numbers {
+    kind: u8,
+    missing: u8,
+    mask: u16,
+    millis: u32,
 }
 
-// The causes that it names, as a word.
-fn mask_of(r: Reason) -> u16
-    ensures { result ≡ mask r }
-{
-    match r {
-        Reason::ForcedTripped => 0,
-        Reason::ForcedNormal => 0,
-        Reason::Bad(w) => w,
-        Reason::Active(w) => w,
-        Reason::DelayRunning(_) => 0,
-        Reason::DelayEnded => 0,
-        Reason::Waiting(_) => 0,
-        Reason::Cleared => 0,
-        Reason::AtRest => 0,
-    }
-}
-
-// The milliseconds left that it names.
-fn millis_of(r: Reason) -> u32
-    ensures { result ≡ millis r }
-{
-    match r {
-        Reason::ForcedTripped => 0,
-        Reason::ForcedNormal => 0,
-        Reason::Bad(_) => 0,
-        Reason::Active(_) => 0,
-        Reason::DelayRunning(t) => t,
-        Reason::DelayEnded => 0,
-        Reason::Waiting(_) => 0,
-        Reason::Cleared => 0,
-        Reason::AtRest => 0,
+impl Numbers {
+    // Those of a kind that names nothing.
+    fn of_kind(kind: u8) -> Numbers
+        ensures { result ≡ record { kind = kind; missing = 0; mask = 0; millis = 0 } }
+    {
+        Numbers {
+            kind,
+            missing: 0,
+            mask: 0,
+            millis: 0,
+        }
     }
 }
 
@@ -71,43 +43,49 @@ fn thing_of(m: Missing) -> u8
     }
 }
 
-// The missing thing that it names; 0 where nothing is missing.
-fn missing_of(r: Reason) -> u8
-    ensures { result ≡ missing r }
+fn numbers_in(r: Reason) -> Numbers
+    ensures { result ≡ record { kind = kind r; missing = missing r; mask = mask r; millis = millis r } }
 {
     match r {
-        Reason::ForcedTripped => 0,
-        Reason::ForcedNormal => 0,
-        Reason::Bad(_) => 0,
-        Reason::Active(_) => 0,
-        Reason::DelayRunning(_) => 0,
-        Reason::DelayEnded => 0,
-        Reason::Waiting(m) => thing_of(m),
-        Reason::Cleared => 0,
-        Reason::AtRest => 0,
+        Reason::ForcedTripped => Numbers::of_kind(0),
+        Reason::ForcedNormal => Numbers::of_kind(1),
+        Reason::Bad(mask) => Numbers {
+            mask,
+            ..Numbers::of_kind(2)
+        },
+        Reason::Active(mask) => Numbers {
+            mask,
+            ..Numbers::of_kind(3)
+        },
+        Reason::DelayRunning(millis) => Numbers {
+            millis,
+            ..Numbers::of_kind(4)
+        },
+        Reason::DelayEnded => Numbers::of_kind(5),
+        Reason::Waiting(m) => Numbers {
+            missing: thing_of(m),
+            ..Numbers::of_kind(6)
+        },
+        Reason::Cleared => Numbers::of_kind(7),
+        Reason::AtRest => Numbers::of_kind(8),
     }
 }
 
 // ---- its bytes
-
-fn put_parts(out: &mut [u8], at: usize, kind: u8, missing: u8, mask: u16, millis: u32)
-    requires { at + 8 ≤ length out.old }
-    ensures { out.new ≡ sets out.old at (pack (1 ∷ 1 ∷ 2 ∷ 4 ∷ []) (kind ∷ missing ∷ mask ∷ millis ∷ [])) }
-{
-    bits::put8(out, at, kind);
-    bits::put8(out, at + 1, missing);
-    bits::put16(out, at + 2, mask);
-    bits::put32(out, at + 4, millis);
-}
 
 // The 8 bytes of a reason at `at`; all else stays.
 pub fn put_numbers(out: &mut [u8], at: usize, r: Reason)
     requires { at + 8 ≤ length out.old }
     ensures { out.new ≡ sets out.old at (numbers_of r) }
 {
-    let kind = kind_of(r);
-    let missing = missing_of(r);
-    let mask = mask_of(r);
-    let millis = millis_of(r);
-    put_parts(out, at, kind, missing, mask, millis);
+    let Numbers {
+        kind,
+        missing,
+        mask,
+        millis,
+    } = numbers_in(r);
+    bits::put8(out, at, kind);
+    bits::put8(out, at + 1, missing);
+    bits::put16(out, at + 2, mask);
+    bits::put32(out, at + 4, millis);
 }

@@ -14,7 +14,6 @@ pub fn sight_at(s: &[u8], run: Run) -> Sight
     requires { NextRow s.now run }
     ensures { result ≡ row_sight s.now run.rows }
 {
-    let plan = run.plan;
     let row = layout::row_at(s, run.place, run.width);
-    reasons::sight_of(plan.options, row.words)
+    reasons::sight_of(run.plan.options, row.words)
 }

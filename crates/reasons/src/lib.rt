@@ -70,12 +70,11 @@ pub fn signs_of(sight: Sight, association: u32, i: usize) -> Signs
     requires { i < 16 }
     ensures { result ≡ signs_in sight association i }
 {
-    let seen = sight.seen;
     Signs {
         trip: bits::bit(sight.trip, i),
         normal: bits::bit(sight.normal, i),
-        bad: (association & seen.bad as u32) as u16,
-        active: (association & seen.tripped as u32) as u16,
+        bad: (association & sight.seen.bad as u32) as u16,
+        active: (association & sight.seen.tripped as u32) as u16,
     }
 }
 
@@ -146,7 +145,5 @@ pub fn reason_in(sight: Sight, associations: &[u32; 64], e: Event) -> Reason
     ensures { result ≡ reason_in sight associations.now e }
 {
     let i = (e.effect - 1) as usize;
-    let p = e.from;
-    let q = e.to;
-    reason_by(signs_of(sight, associations[i], i), p, q, 0)
+    reason_by(signs_of(sight, associations[i], i), e.from, e.to, 0)
 }

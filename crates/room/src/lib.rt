@@ -27,8 +27,7 @@ pub fn check_records(
     requires { Going s.now run board.now × (run.rows ≡ 0) × (each ≤ record_length) }
     ensures { number_in result ≡ room_number (each * length (replay s.now).replay.events) room }
 {
-    let plan = run.plan;
-    let most = RECORDS_OF_EFFECT * plan.count * (run.row_count as usize);
+    let most = RECORDS_OF_EFFECT * run.plan.count * (run.row_count as usize);
     if each * most <= room {
         return Ok(());
     }

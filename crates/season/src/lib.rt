@@ -8,13 +8,14 @@ ghost use Rattle.recording.specs.Answer.{Accepted};
 ghost use Rattle.recording.specs.Answers.{row_count_of};
 ghost use Rattle.recording.specs.Reader.{reading};
 ghost use Rattle.rerun.specs.Replay.{replay};
-ghost use Rattle.tally.specs.Tally.{count_of};
+ghost use Rattle.tally.specs.Shown.{shown};
 ghost use Rattle.season.specs.Season.{empty as empty_report, added_to};
 ghost use Rattle.season.specs.Rows.{Tallying, PieceEnds, PieceCounted, AllCounted, refused_at, joined};
 
 use recording::Answer;
 use rerun::Run;
 use settings::Settings;
+use tally::Count;
 
 // 113 sums: for each effect, in its slot from 0, seven: the scans after which it stood in each state, by the state's code, and its
 // changes into Tripped; behind those of sixteen effects the exercised scans.
@@ -46,10 +47,7 @@ fn piece_end(row: u32, rows: u32) -> u32
     requires { row < rows }
     ensures { PieceEnds row rows result }
 {
-    if rows - row <= PIECE_ROWS {
-        return rows;
-    }
-    row + PIECE_ROWS
+    row.saturating_add(PIECE_ROWS).min(rows)
 }
 
 // A piece more, of a recording whose rows all run.
@@ -58,39 +56,28 @@ fn count_piece(
     run: Run,
     board: &mut [u32; 64],
     records: &mut [u8; PIECE_BYTES],
-    sums: &mut [u64; 113],
-    stretches: &mut [u32; 32],
+    count: &mut Count,
 ) -> Run
-    requires { Tallying s.now run board.old (count_of sums.old stretches.old) × (run.rows < row_count_of (reading s.now).answer) }
-    ensures { PieceCounted s.now run result board.new (count_of sums.new stretches.new) }
+    requires { Tallying s.now run board.old (shown count.old) × (run.rows < row_count_of (reading s.now).answer) }
+    ensures { PieceCounted s.now run result board.new (shown count.new) }
 {
     let until = piece_end(run.rows, run.row_count);
     let turn = rerun::go(s, run, until, board, records, true);
     let next = turn.run;
-    tally::count_events(
-        records,
-        (next.records - run.records) as usize,
-        sums,
-        stretches,
-    );
+    count.count_events(records, (next.records - run.records) as usize);
     next
 }
 
 // The rows of an accepted file that all run, from the first.
-fn count_rows(
-    s: &[u8],
-    run: Run,
-    board: &mut [u32; 64],
-    records: &mut [u8; PIECE_BYTES],
-    sums: &mut [u64; 113],
-    stretches: &mut [u32; 32],
-) -> Run
-    requires { Tallying s.now run board.old (count_of sums.old stretches.old) }
-    ensures { AllCounted s.now result (count_of sums.new stretches.new) }
+fn count_rows(s: &[u8], run: Run, board: &mut [u32; 64], count: &mut Count) -> Run
+    requires { Tallying s.now run board.old (shown count.old) }
+    ensures { AllCounted s.now result (shown count.new) }
 {
+    let mut records = [0u8; PIECE_BYTES];
     let mut t = run;
+    // a `for` would count the rows beside the run, which counts them itself
     while t.rows < t.row_count {
-        let next = count_piece(s, t, board, records, sums, stretches);
+        let next = count_piece(s, t, board, &mut records, count);
         t = next;
     }
     t
@@ -103,8 +90,8 @@ fn refusal(r: Report, number: u8, place: usize) -> Added
     ensures { result ≡ refused_at r number place }
 {
     Added {
-        number: number,
-        place: place,
+        number,
+        place,
         effects: 0,
         report: r,
     }
@@ -122,8 +109,8 @@ fn join(r: Report, effects: u8, more: [u64; 113]) -> Added
     Added {
         number: 0,
         place: 0,
-        effects: effects,
-        report: Report { sums: sums },
+        effects,
+        report: Report { sums },
     }
 }
 
@@ -134,14 +121,11 @@ fn add_whole(r: Report, s: &[u8], st: Settings, rows: u16, first: usize, width: 
 {
     let mut board = [0u32; 64];
     let run = rerun::begin(st, rows, first, width, &mut board);
-    let mut sums = [0u64; 113];
-    let mut stretches = [0u32; 32];
-    let mut records = [0u8; PIECE_BYTES];
-    let end = count_rows(s, run, &mut board, &mut records, &mut sums, &mut stretches);
-    let mark = end.mark;
-    tally::close_all(st.count as usize, mark.scans_done, &mut sums, &stretches);
-    sums[tally::EXERCISED_SUM] = end.exercised as u64;
-    join(r, st.count, sums)
+    let mut count = Count::empty();
+    let end = count_rows(s, run, &mut board, &mut count);
+    count.close_all(st.count as usize, end.mark.scans_done);
+    count.sums[tally::EXERCISED_SUM] = end.exercised as u64;
+    join(r, st.count, count.sums)
 }
 
 // A file that the reader accepts: 9 before anything is counted.

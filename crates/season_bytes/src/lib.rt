@@ -24,12 +24,10 @@ pub fn report_at(bytes: &[u8]) -> Report
     ensures { result ≡ report_of bytes.now }
 {
     let mut sums = [0u64; SUM_COUNT];
-    let mut k: usize = 0;
-    while k < SUM_COUNT {
-        sums[k] = bits::get64(bytes, NUMBER_BYTES * k);
-        k += 1;
+    for (k, sum) in sums.iter_mut().enumerate() {
+        *sum = bits::get64(bytes, NUMBER_BYTES * k);
     }
-    Report { sums: sums }
+    Report { sums }
 }
 
 // Writes a report to the front of `bytes`; what stands behind it stays.
@@ -37,12 +35,7 @@ pub fn put_report(bytes: &mut [u8], r: Report)
     requires { report_length ≤ length bytes.old }
     ensures { bytes.new ≡ sets bytes.old 0 (report_bytes r) }
 {
-    let sums = r.sums;
-    let mut k: usize = 0;
-    while k < SUM_COUNT {
-        bits::put64(bytes, NUMBER_BYTES * k, sums[k]);
-        k += 1;
-    }
+    numbers::put_numbers(bytes, &r.sums);
 }
 
 // Refuses a recording for which there is no report: what refuses the recording itself comes before 10.

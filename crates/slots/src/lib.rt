@@ -64,13 +64,10 @@ fn slot_ok(st: Settings, i: usize, x: Slot) -> bool
 pub fn slots_ok(st: Settings, slots: [Slot; 16]) -> bool
     ensures { result ≡ all_from (slot_ok st) 0 slots }
 {
-    let mut i = 0;
-    while i < 16 {
-        let x = slots[i];
-        if !slot_ok(st, i, x) {
+    for (i, x) in slots.iter().enumerate() {
+        if !slot_ok(st, i, *x) {
             return false;
         }
-        i += 1;
     }
     true
 }

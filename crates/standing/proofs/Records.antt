@@ -2,7 +2,7 @@
 use mathlib.Core.Path.{◌≡◌, refl, ap, ◌∙◌}
 use mathlib.Core.Bool.{Bool, true, false, cond}
 use mathlib.Core.List.{List, [], ◌∷◌, ◌++◌}
-use Prim.Native.Nat.{ℕ, ◌+◌, ◌-◌, ◌≤◌, ◌<◌}
+use Prim.Native.Nat.{ℕ, ◌+◌, ◌*◌, ◌-◌, ◌≤◌, ◌<◌}
 use native.Mathlib.Omega.{arith}
 use borrow.Author.Tests.{eqb-true, eqb-false}
 use lib.Dec.{eqb, leb}
@@ -13,12 +13,17 @@ use Rattle.rules.specs.declared.Slot.{Slot}
 use Rattle.rules.specs.Limits.{most_effects}
 use Rattle.rules.specs.Rules.{no_slot}
 use Rattle.effects.specs.declared.Event.{Event}
-use Rattle.effects.specs.Records.{Numbered}
-use Rattle.effects.proofs.Records.{no_event, left_first}
+use Rattle.effects.specs.Records.{record_length, Numbered, StandFrom, StandsAt}
+use Rattle.effects.proofs.Records.{no_event, left_first, nth, one_event}
 use Rattle.trace.specs.Effect.{only_if, change_of, own, told}
 use Rattle.standing.specs.Stands.{slot_in, told_by, told_all}
 
 -- ## In a loop
+
+-- the event that was read, of any whose records these are
+pub read_is : (records : List ℕ) (n i : ℕ) (e : Event) → StandsAt records (record_length * i) e → i < n
+    → (es : List Event) → length es ≡ n → StandFrom records 0 es → e ≡ get_or es i no_event
+read_is records n i e stands less es h all = one_event records (record_length * i) e _ stands (nth records es n i h all less)
 
 module _ (c : ℕ) (es : List Event) (i : ℕ) (xs : List Slot) where
   pub left_told : i < length es → told_all c (drop i es) xs ≡ told_all c (drop (i + 1) es) (told_by c (get_or es i no_event) xs)

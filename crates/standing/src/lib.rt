@@ -31,42 +31,30 @@ pub struct Standing {
 
 // ---- the states before the last scan
 
-// The slots with the state that an event leads to, if its scan is not after `scan`.
-fn tell(xs: [Slot; 16], e: Event, scan: u32) -> [Slot; 16]
+// Gives the slots the state that an event leads to, if its scan is not after `scan`.
+fn tell(slots: &mut [Slot; 16], e: Event, scan: u32)
     requires { (1 ≤ e.effect) × (e.effect ≤ most_effects) }
-    ensures { result ≡ told_by scan e xs }
+    ensures { slots.new ≡ told_by scan e slots.old }
 {
-    let mut ys = xs;
-    if scan < e.scan {
-        return ys;
+    if e.scan <= scan {
+        let i = (e.effect - 1) as usize;
+        slots[i] = Slot {
+            state: e.to,
+            timer: 0,
+            first_out: 0,
+        };
     }
-    let i = (e.effect - 1) as usize;
-    let to = e.to;
-    ys[i] = Slot {
-        state: to,
-        timer: 0,
-        first_out: 0,
-    };
-    ys
 }
 
-// The slots with the states that the n records at the front of `records` lead to, up to `scan`.
-fn tell_all(xs: [Slot; 16], records: &[u8], n: usize, scan: u32) -> [Slot; 16]
+// Gives the slots the states that the n records at the front of `records` lead to, up to `scan`.
+fn tell_all(slots: &mut [Slot; 16], records: &[u8], n: usize, scan: u32)
     requires { Recorded records.now n }
-    ensures { ToldAll scan records.now n xs result }
+    ensures { ToldAll scan records.now n slots.old slots.new }
 {
-    let mut ys = xs;
-    let mut i: usize = 0;
-    while i < n {
-        let next = tell(
-            ys,
-            effects::event_at(records, effects::RECORD_LENGTH * i),
-            scan,
-        );
-        ys = next;
-        i += 1;
+    for i in 0..n {
+        let e = effects::event_at(records, effects::RECORD_LENGTH * i);
+        tell(slots, e, scan);
     }
-    ys
 }
 
 // ---- the last row
@@ -76,11 +64,9 @@ fn after_last(s: &[u8], last: Run, board: &mut [u32; 64]) -> Standing
     requires { Going s.now last board.old × (last.rows + 1 ≡ row_count_of (reading s.now).answer) × ((replay s.now).number ≡ 0) }
     ensures { Stands s.now result }
 {
-    let plan = last.plan;
-    let mark = last.mark;
-    let planes = mark.planes;
+    let count = last.plan.count;
     let sight = reasoned::sight_at(s, last);
-    let slots = cells::slots_of(board, plan.count, planes);
+    let mut from = cells::slots_of(board, count, last.mark.planes);
     let mut records = [0u8; effects::MOST_ROW_BYTES];
     let end = rerun::run_of(rerun::go(
         s,
@@ -91,14 +77,13 @@ fn after_last(s: &[u8], last: Run, board: &mut [u32; 64]) -> Standing
         true,
     ));
     let reached = end.mark;
-    let reached_planes = reached.planes;
-    let from = tell_all(
-        slots,
+    tell_all(
+        &mut from,
         &records,
         (end.records - last.records) as usize,
         bits::minus(reached.scans_done, 1),
     );
-    let to = cells::slots_of(board, plan.count, reached_planes);
+    let to = cells::slots_of(board, count, reached.planes);
     Standing { from, to, sight }
 }
 
@@ -122,19 +107,8 @@ pub fn reason_now(st: Settings, x: Standing, i: usize) -> Reason
     requires { i < most_effects }
     ensures { result ≡ reason_now st x i }
 {
-    let effects = st.effects;
-    let effect = effects[i];
-    let from = x.from;
-    let was = from[i];
-    let to = x.to;
-    let is = to[i];
-    let sight = x.sight;
-    let p = was.state;
-    let q = is.state;
-    reasons::reason_by(
-        reasons::signs_of(sight, effect.association as u32, i),
-        p,
-        q,
-        is.timer,
-    )
+    let was = x.from[i];
+    let is = x.to[i];
+    let signs = reasons::signs_of(x.sight, st.effects[i].association as u32, i);
+    reasons::reason_by(signs, was.state, is.state, is.timer)
 }

@@ -1,3 +1,4 @@
 pub mod Counting
 pub mod Tallied
 pub mod Closing
+pub mod Shown

@@ -7,7 +7,8 @@ ghost use Rattle.std.specs.Prelude.{◌≡◌, ◌≤◌};
 ghost use Rattle.bits.specs.Words.{one};
 ghost use Rattle.rules.specs.declared.EffectState.TheVariants.{Tripped};
 ghost use Rattle.rules.specs.Rules.{same as same_as};
-ghost use Rattle.tally.specs.Tally.{count_of, closed_at, Closable, closed_to, AllClosable, count_event, Countable, Waiting, CountedAll};
+ghost use Rattle.tally.specs.Tally.{none, closed_at, Closable, closed_to, AllClosable, count_event, Countable, Waiting, CountedAll};
+ghost use Rattle.tally.specs.Shown.{shown, with_sums};
 
 use effects::Event;
 use rules::EffectState;
@@ -22,6 +23,20 @@ const SLOTS: usize = 16;
 
 pub const EXERCISED_SUM: usize = SUMS_OF_EFFECT * SLOTS;
 
+// A stretch that is open: the effect has stood in `state` after each scan behind scan number `since`.
+#[derive(Clone, Copy)]
+pub struct Stretch {
+    pub since: u32,
+    pub state: EffectState,
+}
+
+// The sums so far, and the stretch that is open for each slot.
+#[derive(Clone, Copy)]
+pub struct Count {
+    pub sums: [u64; 113],
+    pub stretches: [Stretch; 16],
+}
+
 // 1 for Tripped, else 0. The bound is in the contract, so that a caller need not show it.
 fn is_tripped(p: EffectState) -> u64
     ensures { (result ≡ one (same_as p Tripped)) × (result ≤ 1) }
@@ -32,54 +47,63 @@ fn is_tripped(p: EffectState) -> u64
     0
 }
 
-// The stretch of slot i ends with this scan.
-fn close(i: usize, scan: u32, sums: &mut [u64; 113], stretches: &[u32; 32])
-    requires { Closable i scan (count_of sums.old stretches.now) }
-    ensures { sums.new ≡ closed_at i scan (count_of sums.old stretches.now) }
-{
-    let stood = SUMS_OF_EFFECT * i + stretches[SLOTS + i] as usize;
-    sums[stood] += bits::minus(scan, stretches[i]) as u64;
-}
-
-// The stretches of the first n slots end with this scan.
-pub fn close_all(n: usize, scan: u32, sums: &mut [u64; 113], stretches: &[u32; 32])
-    requires { AllClosable n scan (count_of sums.old stretches.now) }
-    ensures { sums.new ≡ closed_to n scan (count_of sums.old stretches.now) }
-{
-    let mut slot: usize = 0;
-    while slot < n {
-        close(slot, scan, sums, stretches);
-        slot += 1;
+impl Count {
+    // Nothing is counted: every effect stands in Tripped from the beginning.
+    pub fn empty() -> Count
+        ensures { shown result ≡ none }
+    {
+        Count {
+            sums: [0; 113],
+            stretches: [Stretch {
+                since: 0,
+                state: EffectState::Tripped,
+            }; 16],
+        }
     }
-}
 
-// One event more.
-fn count_event(e: Event, sums: &mut [u64; 113], stretches: &mut [u32; 32])
-    requires { Countable e (count_of sums.old stretches.old) }
-    ensures { count_of sums.new stretches.new ≡ count_event e (count_of sums.old stretches.old) }
-{
-    let to = e.to;
-    let i = (e.effect - 1) as usize;
-    let before = bits::minus(e.scan, 1);
-    close(i, before, sums, stretches);
-    let trips = SUMS_OF_EFFECT * i + TRIP_PLACE;
-    sums[trips] += is_tripped(to);
-    stretches[i] = before;
-    stretches[SLOTS + i] = rules::code(to) as u32;
-}
+    // The stretch of slot i ends with this scan.
+    fn close(&mut self, i: usize, scan: u32)
+        requires { Closable i scan (shown self.old) }
+        ensures { self.new ≡ with_sums self.old (closed_at i scan (shown self.old)) }
+    {
+        let open = self.stretches[i];
+        let state = open.state;
+        let stood = SUMS_OF_EFFECT * i + rules::code(state) as usize;
+        self.sums[stood] += bits::minus(scan, open.since) as u64;
+    }
 
-// The events of the n records at the front of `records`.
-pub fn count_events(records: &[u8], n: usize, sums: &mut [u64; 113], stretches: &mut [u32; 32])
-    requires { Waiting records.now n (count_of sums.old stretches.old) }
-    ensures { CountedAll records.now n (count_of sums.old stretches.old) (count_of sums.new stretches.new) }
-{
-    let mut i: usize = 0;
-    while i < n {
-        count_event(
-            effects::event_at(records, effects::RECORD_LENGTH * i),
-            sums,
-            stretches,
-        );
-        i += 1;
+    // The stretches of the first n slots end with this scan.
+    pub fn close_all(&mut self, n: usize, scan: u32)
+        requires { AllClosable n scan (shown self.old) }
+        ensures { self.new ≡ with_sums self.old (closed_to n scan (shown self.old)) }
+    {
+        for slot in 0..n {
+            self.close(slot, scan);
+        }
+    }
+
+    // One event more.
+    fn count_event(&mut self, e: Event)
+        requires { Countable e (shown self.old) }
+        ensures { shown self.new ≡ count_event e (shown self.old) }
+    {
+        let state = e.to;
+        let i = (e.effect - 1) as usize;
+        let since = bits::minus(e.scan, 1);
+        self.close(i, since);
+        let trips = SUMS_OF_EFFECT * i + TRIP_PLACE;
+        self.sums[trips] += is_tripped(state);
+        self.stretches[i] = Stretch { since, state };
+    }
+
+    // The events of the n records at the front of `records`.
+    pub fn count_events(&mut self, records: &[u8], n: usize)
+        requires { Waiting records.now n (shown self.old) }
+        ensures { CountedAll records.now n (shown self.old) (shown self.new) }
+    {
+        for i in 0..n {
+            let e = effects::event_at(records, effects::RECORD_LENGTH * i);
+            self.count_event(e);
+        }
     }
 }

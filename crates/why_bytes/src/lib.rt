@@ -44,12 +44,10 @@ fn put_row(
     requires { Recorded records.now n × (at + reason_length * n ≤ length out.old) }
     ensures { RowPut sight associations.now records.now n at out.old out.new }
 {
-    let mut i: usize = 0;
-    while i < n {
+    for i in 0..n {
         let e = effects::event_at(records, effects::RECORD_LENGTH * i);
         let r = reasons::reason_in(sight, associations, e);
         reason_bytes::put_numbers(out, at + REASON_LENGTH * i, r);
-        i += 1;
     }
 }
 
@@ -96,6 +94,7 @@ fn put_rows(s: &[u8], run: Run, board: &mut [u32; 64], out: &mut [u8])
 {
     let mut records = [0u8; ROW_BYTES];
     let mut t = run;
+    // a `for` would count the rows beside the run, which counts them itself
     while t.rows < t.row_count {
         let next = put_next(s, t, board, &mut records, out);
         t = next;
@@ -131,12 +130,9 @@ fn put_effects(out: &mut [u8], st: Settings, x: Standing)
     requires { (st.count ≤ most_effects) × (reason_length * st.count ≤ length out.old) }
     ensures { out.new ≡ sets out.old 0 (flat_map numbers_of (tabulate (reason_now st x) st.count)) }
 {
-    let n = st.count as usize;
-    let mut i: usize = 0;
-    while i < n {
+    for i in 0..st.count as usize {
         let r = standing::reason_now(st, x, i);
         reason_bytes::put_numbers(out, REASON_LENGTH * i, r);
-        i += 1;
     }
 }
 

@@ -1,9 +1,8 @@
 -- `findings::count_at` meets its contract: from the test on the way.
-use borrow.Author.Tests.{le-leb, lt-leb}
 use Rattle.findings.proofs.count_at.Goals as goal
 
-pub returns-then-at-s : goal.returns-then-at-s
-returns-then-at-s c = rw (le-leb _ _ c.if-at-s.true) c.get16.ensures
+pub returns-then-is_there : goal.returns-then-is_there
+returns-then-is_there c = rw (← c.is_there.ensures, c.if-is_there.true) c.get16.ensures
 
-pub returns-else-at-s : goal.returns-else-at-s
-returns-else-at-s c = rw (lt-leb _ _ c.if-at-s.false)
+pub returns-else-is_there : goal.returns-else-is_there
+returns-else-is_there c = rw (← c.is_there.ensures, c.if-is_there.false)

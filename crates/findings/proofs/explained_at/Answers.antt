@@ -2,4 +2,4 @@
 use Rattle.findings.proofs.explained_at.Goals as goal
 
 pub returns : goal.returns
-returns c = rw c.finding_of-finding.ensures
+returns c = rw c.finding_of.ensures

@@ -6,6 +6,7 @@ use Rattle.bits.proofs.Lists.{length_mapped}
 use Rattle.settings.specs.declared.Settings.{Settings}
 use Rattle.recording.specs.Answers.{number, place}
 use Rattle.rerun.proofs.Turns.{few_effects}
+use Rattle.tally.specs.declared.Count.{Count}
 use Rattle.tally.specs.Tally.{sum_count}
 use Rattle.season.proofs.Answers.{closable, joined_is, whole_added}
 use Rattle.season.proofs.Loop.{tallying_begins}
@@ -18,7 +19,7 @@ begin-run-requires c =
 
 pub count_rows-end-requires : goal.count_rows-end-requires
 count_rows-end-requires c =
-    tallying_begins (rw c.requires.1 at c.begin-run.ensures) c.requires.0 c.requires.2
+    rw c.empty-count.ensures (tallying_begins (rw c.requires.1 at c.begin-run.ensures) c.requires.0 c.requires.2)
 
 pub close_all-requires : goal.close_all-requires
 close_all-requires c =
@@ -31,5 +32,5 @@ returns c =
     let file = c.args.s.now in
     let all = c.count_rows-end.ensures in
     c.join.ensures
-    ∙ joined_is file (ap number c.requires.0) _ all.counts _ _ _ (ap (λ (z : Settings). z.count) c.requires.1) all.scans all.exercised _ c.close_all.ensures c.args.r long
+    ∙ joined_is file (ap number c.requires.0) _ all.counts _ _ _ (ap (λ (z : Settings). z.count) c.requires.1) all.scans all.exercised _ (ap (λ (t : Count). t.sums) c.close_all.ensures) c.args.r long
     ∙ whole_added c.args.r file (ap place c.requires.0) c.requires.2

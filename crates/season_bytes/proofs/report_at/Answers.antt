@@ -3,7 +3,6 @@ use mathlib.Core.Path.{◌≡◌, refl}
 use mathlib.Core.List.{append-nil}
 use native.Mathlib.Omega.{arith}
 use lib.ListN.{replicate}
-use borrow.Author.Rules.{rules}
 use Rattle.bits.specs.Lists.{tabulate}
 use Rattle.bits.proofs.Lists.{fill}
 use Rattle.tally.specs.Tally.{sum_count}
@@ -12,15 +11,15 @@ use Rattle.season_bytes.proofs.report_at.Goals as goal
 
 pub loop-k-init : goal.loop-k-init
 unfolding tabulate
-loop-k-init c = (search rules, refl)
+loop-k-init c = refl
 
 pub loop-k-preserved : goal.loop-k-preserved
 loop-k-preserved c =
     let l = c.loop-k in
-    (omega arith, rw (l.invariant.1, c.get64.ensures) (fill _ (replicate sum_count 0) l.k 0 (omega arith)))
+    rw (l.invariant, c.get64.ensures) (fill _ (replicate sum_count 0) l.k 0 (omega arith))
 
 pub returns : goal.returns
 unfolding report_of
 returns c =
     let e : c.loop-k.k ≡ sum_count = omega arith in
-    rw (c.loop-k.invariant.1, e, append-nil)
+    rw (c.loop-k.invariant, e, append-nil)

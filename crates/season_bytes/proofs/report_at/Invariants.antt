@@ -1,7 +1,7 @@
 -- `season_bytes::report_at` meets its contract. The loop's invariant: the sums before k stand, and the rest is 0.
 use mathlib.Core.Path.{◌≡◌}
 use mathlib.Core.List.{◌++◌}
-use Prim.Native.Nat.{◌*◌, ◌≤◌, ◌-◌}
+use Prim.Native.Nat.{◌*◌}
 use lib.ListN.{drop, replicate}
 use Rattle.bits.specs.Numbers.{num_at}
 use Rattle.bits.specs.Lists.{tabulate}
@@ -10,7 +10,4 @@ use Rattle.numbers.specs.Numbers.{number_bytes}
 use Rattle.season_bytes.proofs.report_at.Given as goal
 
 abbrev pub invariant-loop-k : goal.invariant-loop-k
-invariant-loop-k l = (l.k ≤ sum_count) × (l.sums ≡ tabulate (λ i. num_at number_bytes l.bytes (number_bytes * i)) l.k ++ drop l.k (replicate sum_count 0))
-
-abbrev pub decreases-loop-k : goal.decreases-loop-k
-decreases-loop-k l = sum_count - l.k
+invariant-loop-k l = l.sum-items ≡ tabulate (λ i. num_at number_bytes l.bytes (number_bytes * i)) l.k ++ drop l.k (replicate sum_count 0)

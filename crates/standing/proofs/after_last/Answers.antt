@@ -8,8 +8,8 @@ use Rattle.standing.proofs.after_last.Goals as goal
 pub sight_at-sight-requires : goal.sight_at-sight-requires
 sight_at-sight-requires c = let p = c.requires in next_row p.0 (more p.0 p.1 p.2)
 
-pub slots_of-slots-requires : goal.slots_of-slots-requires
-slots_of-slots-requires c = let p = c.requires in (few_planned p.0, narrow p.0)
+pub slots_of-from-requires : goal.slots_of-from-requires
+slots_of-from-requires c = let p = c.requires in (few_planned p.0, narrow p.0)
 
 pub go-turn-requires : goal.go-turn-requires
 go-turn-requires c =
@@ -21,8 +21,8 @@ overflow_sub-end c =
     let p = c.requires in
     records_grow p.0 (more p.0 p.1 p.2) p.2 c.go-turn.ensures (omega arith)
 
-pub tell_all-from-requires : goal.tell_all-from-requires
-tell_all-from-requires c =
+pub tell_all-requires : goal.tell_all-requires
+tell_all-requires c =
     let p = c.requires in
     recorded p.0 (more p.0 p.1 p.2) p.2 c.go-turn.ensures (omega arith)
 
@@ -33,5 +33,5 @@ slots_of-to-requires c =
 pub returns : goal.returns
 returns c =
     let p = c.requires in
-    stands p.0 p.1 p.2 c.go-turn.ensures (omega arith) _ _ _ _ _ c.sight_at-sight.ensures c.slots_of-slots.ensures c.minus.ensures
-    c.tell_all-from.ensures c.slots_of-to.ensures
+    stands p.0 p.1 p.2 c.go-turn.ensures (omega arith) _ _ _ _ _ c.sight_at-sight.ensures c.slots_of-from.ensures c.minus.ensures
+    c.tell_all.ensures c.slots_of-to.ensures

@@ -2,4 +2,4 @@
 use Rattle.standing.proofs.reason_now.Goals as goal
 
 pub returns : goal.returns
-returns c = rw (c.reason_by.ensures, c.signs_of.ensures)
+returns c = rw (c.reason_by.ensures, c.signs_of-signs.ensures)

@@ -2,7 +2,6 @@
 -- would be those after all of them.
 use mathlib.Core.Path.{◌≡◌}
 use mathlib.Core.List.{List}
-use Prim.Native.Nat.{◌-◌, ◌≤◌}
 use lib.ListN.{length, drop}
 use Rattle.effects.specs.declared.Event.{Event}
 use Rattle.effects.specs.Records.{StandFrom}
@@ -10,8 +9,5 @@ use Rattle.standing.specs.Stands.{told_all}
 use Rattle.standing.proofs.tell_all.Given as goal
 
 abbrev pub invariant-loop-i : goal.invariant-loop-i
-invariant-loop-i l = (l.i ≤ l.n)
-    × ((es : List Event) → length es ≡ l.n → StandFrom l.records 0 es → told_all l.scan (drop l.i es) l.ys ≡ told_all l.scan es l.initial.ys)
-
-abbrev pub decreases-loop-i : goal.decreases-loop-i
-decreases-loop-i l = l.n - l.i
+invariant-loop-i l =
+    ((es : List Event) → length es ≡ l.n → StandFrom l.records 0 es → told_all l.scan (drop l.i es) l.slots ≡ told_all l.scan es l.initial.slots)

@@ -3,7 +3,7 @@ use mathlib.Core.Path.{◌≡◌, refl, ap, ◌∙◌}
 use mathlib.Core.List.{List, ◌++◌, append-nil}
 use Prim.Native.Nat.{ℕ, ◌≤◌, ◌<◌, ◌+◌}
 use native.Mathlib.Omega.{arith}
-use lib.ListN.{length, drop, get_or, set, length-set, drop_of_length-le}
+use lib.ListN.{length, drop, get_or, set, drop_of_length-le}
 use Rattle.bits.specs.Lists.{tabulate}
 use Rattle.bits.proofs.Lists.{fill}
 use Rattle.sums.proofs.Sums.{sum_fits, unfilled}
@@ -11,15 +11,15 @@ use Rattle.sums.proofs.add_all.Goals as goal
 
 pub loop-k-init : goal.loop-k-init
 unfolding tabulate
-loop-k-init c = (omega arith, refl, refl)
+loop-k-init c = refl
 
-pub overflow_add-a : goal.overflow_add-a
-overflow_add-a c =
+pub overflow_add-x : goal.overflow_add-x
+overflow_add-x c =
     let l = c.loop-k in
     let a = c.args.a.now in
     let b = c.args.b.now in
     let h : l.k < length a = omega arith in
-    let had : get_or l.a l.k 0 ≡ get_or a l.k 0 = ap (λ (x : List ℕ). get_or x l.k 0) l.invariant.2 ∙ unfilled _ a l.k in
+    let had : get_or l.a l.k 0 ≡ get_or a l.k 0 = ap (λ (x : List ℕ). get_or x l.k 0) l.invariant ∙ unfilled _ a l.k in
     omega (arith, had, sum_fits (λ i. get_or b i 0) a l.k c.requires.1 h)
 
 pub loop-k-preserved : goal.loop-k-preserved
@@ -28,16 +28,10 @@ loop-k-preserved c =
     let a = c.args.a.now in
     let b = c.args.b.now in
     let h : l.k < length a = omega arith in
-    let f : ℕ → ℕ = λ i. get_or a i 0 + get_or b i 0 in (
-      omega arith,
-      length-set l.a l.k (get_or l.a l.k 0 + get_or b l.k 0) ∙ l.invariant.1,
-      ap (λ (x : List ℕ). set x l.k (get_or x l.k 0 + get_or b l.k 0)) l.invariant.2
-          ∙ ap (λ (v : ℕ). set (tabulate f l.k ++ drop l.k a) l.k (v + get_or b l.k 0)) (unfilled f a l.k)
-          ∙ fill f a l.k 0 h,
-    )
-
-pub shape_of-a : goal.shape_of-a
-shape_of-a c = c.loop-k.invariant.1
+    let f : ℕ → ℕ = λ i. get_or a i 0 + get_or b i 0 in
+    ap (λ (x : List ℕ). set x l.k (get_or x l.k 0 + get_or b l.k 0)) l.invariant
+    ∙ ap (λ (v : ℕ). set (tabulate f l.k ++ drop l.k a) l.k (v + get_or b l.k 0)) (unfilled f a l.k)
+    ∙ fill f a l.k 0 h
 
 pub returns : goal.returns
 returns c =
@@ -46,4 +40,4 @@ returns c =
     let b = c.args.b.now in
     let e : l.k ≡ length a = omega arith in
     let all : length a ≤ length a = omega arith in
-    l.invariant.2 ∙ ap (λ (n : ℕ). tabulate (λ i. get_or a i 0 + get_or b i 0) n ++ drop n a) e ∙ ap (λ (x : List ℕ). tabulate (λ i. get_or a i 0 + get_or b i 0) (length a) ++ x) (drop_of_length-le a all) ∙ append-nil _
+    l.invariant ∙ ap (λ (n : ℕ). tabulate (λ i. get_or a i 0 + get_or b i 0) n ++ drop n a) e ∙ ap (λ (x : List ℕ). tabulate (λ i. get_or a i 0 + get_or b i 0) (length a) ++ x) (drop_of_length-le a all) ∙ append-nil _

@@ -1,7 +1,6 @@
 -- `why_bytes::put_effects` meets its contract. The loop's invariant: the reasons of the first i effects stand.
 use mathlib.Core.Path.{◌≡◌}
 use mathlib.Core.List.{flat_map}
-use Prim.Native.Nat.{◌-◌, ◌≤◌}
 use lib.Seq.{sets}
 use Rattle.bits.specs.Lists.{tabulate}
 use Rattle.reason_bytes.specs.Bytes.{numbers_of}
@@ -9,7 +8,4 @@ use Rattle.standing.specs.Stands.{reason_now}
 use Rattle.why_bytes.proofs.put_effects.Given as goal
 
 abbrev pub invariant-loop-i : goal.invariant-loop-i
-invariant-loop-i l = (l.i ≤ l.n) × (l.out ≡ sets l.initial.out 0 (flat_map numbers_of (tabulate (reason_now l.st l.x) l.i)))
-
-abbrev pub decreases-loop-i : goal.decreases-loop-i
-decreases-loop-i l = l.n - l.i
+invariant-loop-i l = l.out ≡ sets l.initial.out 0 (flat_map numbers_of (tabulate (reason_now l.st l.x) l.i))

@@ -1,31 +1,26 @@
 -- `why_bytes::put_row` meets its contract. The loop's invariant: with the reasons of the events that are left, of any whose records these are,
 -- the lent bytes would hold those of all of them.
-use mathlib.Core.Path.{◌≡◌, refl, ap, ◌∙◌}
+use mathlib.Core.Path.{refl, ap, ◌∙◌}
 use mathlib.Core.List.{List}
-use Prim.Native.Nat.{ℕ, ◌+◌, ◌*◌, ◌<◌}
+use Prim.Native.Nat.{ℕ, ◌+◌, ◌*◌}
 use native.Mathlib.Nat.{add-zero}
 use native.Mathlib.Omega.{arith}
-use lib.ListN.{length, drop, get_or}
+use lib.ListN.{drop, get_or}
 use lib.Seq.{sets, length-sets}
 use Rattle.bits.proofs.Lists.{store_turn, store_ends}
 use Rattle.rules.specs.Limits.{most_effects}
 use Rattle.effects.specs.declared.Event.{Event}
-use Rattle.effects.specs.Records.{record_length, StandFrom, StandsAt}
-use Rattle.effects.proofs.Records.{no_event, nth, one_event, numbered_at}
+use Rattle.effects.proofs.Records.{no_event, nth, numbered_at}
 use Rattle.reasons.specs.Reasons.{reason_in}
 use Rattle.reason_bytes.specs.Bytes.{numbers_of}
+use Rattle.standing.proofs.Records.{read_is}
 use Rattle.why_bytes.specs.Bytes.{reason_length}
 use Rattle.why_bytes.specs.Rows.{record_reasons}
 use Rattle.why_bytes.proofs.Rows.{length-reason}
 use Rattle.why_bytes.proofs.put_row.Goals as goal
 
--- the event that was read, of any whose records these are
-read_is : (records : List ℕ) (n i : ℕ) (e : Event) → StandsAt records (record_length * i) e → i < n
-    → (es : List Event) → length es ≡ n → StandFrom records 0 es → e ≡ get_or es i no_event
-read_is records n i e stands less es h all = one_event records (record_length * i) e _ stands (nth records es n i h all less)
-
 pub loop-i-init : goal.loop-i-init
-loop-i-init c = (omega arith, refl, λ es n h. rw add-zero)
+loop-i-init c = (refl, λ es n h. rw add-zero)
 
 pub event_at-e-requires : goal.event_at-e-requires
 event_at-e-requires c =
@@ -42,18 +37,17 @@ pub loop-i-preserved : goal.loop-i-preserved
 loop-i-preserved c =
     let a = c.args in
     let piece : Event → List ℕ = λ e. numbers_of (reason_in a.sight a.associations.now e) in (
-      omega arith,
-      rw (c.put_numbers.ensures, length-sets) c.loop-i.invariant.1,
+      rw (c.put_numbers.ensures, length-sets) c.loop-i.invariant.0,
       λ es n h.
           let is = c.reason_in-r.ensures ∙ ap (reason_in a.sight a.associations.now) (read_is c.args.records.now c.args.n c.loop-i.i _ c.event_at-e.ensures (omega arith) es n h) in
           ap (λ (l : List ℕ). sets l (a.at + reason_length * (c.loop-i.i + 1)) (record_reasons a.sight a.associations.now (drop (c.loop-i.i + 1) es)))
           (c.put_numbers.ensures ∙ ap (λ r. sets c.loop-i.out (a.at + reason_length * c.loop-i.i) (numbers_of r)) is)
           ∙ store_turn piece reason_length (λ e. length-reason (reason_in a.sight a.associations.now e)) c.loop-i.out a.at c.loop-i.i es no_event (omega (arith, n))
-          ∙ c.loop-i.invariant.2 es n h,
+          ∙ c.loop-i.invariant.1 es n h,
     )
 
 pub returns : goal.returns
 returns c =
     let a = c.args in
     λ es n h.
-    store_ends (λ (e : Event). numbers_of (reason_in a.sight a.associations.now e)) c.loop-i.out _ (a.at + reason_length * c.loop-i.i) c.loop-i.i es (omega (arith, n)) (c.loop-i.invariant.2 es n h)
+    store_ends (λ (e : Event). numbers_of (reason_in a.sight a.associations.now e)) c.loop-i.out _ (a.at + reason_length * c.loop-i.i) c.loop-i.i es (omega (arith, n)) (c.loop-i.invariant.1 es n h)

@@ -1,0 +1,89 @@
+-- The open stretches as numbers: what is read of them, and what a stretch that is put in makes of them.
+use mathlib.Core.Path.{◌≡◌, refl, ap, ap₂, sym, ◌∙◌}
+use mathlib.Core.List.{List, [], ◌∷◌, ◌++◌, map}
+use Prim.Native.Nat.{ℕ, ◌+◌, ◌-◌, ◌<◌}
+use native.Mathlib.Omega.{arith}
+use lib.ListN.{length, get_or, set, length-map, length-set, length-append}
+use Rattle.std.proofs.lemmas.List.{get_or-map, map-set, set-append_left, set-append_right, get_or_append_left, get_or-append_right}
+use Rattle.rules.specs.Limits.{most_effects}
+use Rattle.rules.specs.Rules.{code}
+use Rattle.rules.proofs.States.{code_injective}
+use Rattle.tally.specs.declared.Stretch.{Stretch}
+use Rattle.tally.specs.declared.Count.{Count}
+use Rattle.tally.specs.Tally.{Count as Counted}
+use Rattle.tally.specs.Shown.{cells, shown}
+
+module _ (xs : List Stretch) (long : length xs ≡ most_effects) (i : ℕ) (h : i < most_effects) where
+  abbrev sinces : List ℕ
+  sinces = map (λ (x : Stretch). x.since) xs
+
+  abbrev codes : List ℕ
+  codes = map (λ (x : Stretch). code x.state) xs
+
+  long_sinces : length sinces ≡ most_effects
+  long_sinces = length-map xs (λ (x : Stretch). x.since) ∙ long
+
+  pub since_shown : (d : Stretch) → get_or (cells xs) i 0 ≡ (get_or xs i d).since
+  since_shown d =
+      get_or_append_left sinces codes 0 i (omega (arith, long_sinces)) ∙ get_or-map (λ (x : Stretch). x.since) xs i d 0 (omega (arith, long))
+
+  behind : most_effects + i - most_effects ≡ i
+  behind = omega arith
+
+  pub code_shown : (d : Stretch) → get_or (cells xs) (most_effects + i) 0 ≡ code (get_or xs i d).state
+  code_shown d =
+      get_or-append_right sinces codes most_effects (most_effects + i) 0 long_sinces (omega arith)
+      ∙ ap (λ (k : ℕ). get_or codes k 0) behind
+      ∙ get_or-map (λ (x : Stretch). code x.state) xs i d 0 (omega (arith, long))
+
+  pub put_shown : (x : Stretch) → cells (set xs i x) ≡ set (set (cells xs) i x.since) (most_effects + i) (code x.state)
+  put_shown x =
+      let left = set-append_left sinces codes i x.since (omega (arith, long_sinces)) in
+      let as_long : length (set sinces i x.since) ≡ most_effects = length-set sinces i x.since ∙ long_sinces in
+      ap₂ (λ (a b : List ℕ). a ++ b) (map-set (λ (y : Stretch). y.since) xs i x) (map-set (λ (y : Stretch). code y.state) xs i x)
+      ∙ sym
+      (ap (λ (l : List ℕ). set l (most_effects + i) (code x.state)) left
+      ∙ set-append_right (set sinces i x.since) codes most_effects (most_effects + i) (code x.state) as_long (omega arith)
+      ∙ ap (λ (k : ℕ). set sinces i x.since ++ set codes k (code x.state)) behind)
+
+-- ## What is shown tells the count
+
+-- from since when the stretches are open and in which states, the stretches
+told_apart : (xs ys : List Stretch) → map (λ (x : Stretch). x.since) xs ≡ map (λ (x : Stretch). x.since) ys
+    → map (λ (x : Stretch). code x.state) xs ≡ map (λ (x : Stretch). code x.state) ys → xs ≡ ys
+told_apart [] [] e f = refl
+told_apart [] (y ∷ ys) e f = (cc)
+told_apart (x ∷ xs) [] e f = (cc)
+told_apart (x ∷ xs) (y ∷ ys) e f =
+    let since : x.since ≡ y.since = cc in
+    let state : code x.state ≡ code y.state = cc in
+    let same : x ≡ y = λ j. record { since = since j; state = code_injective x.state y.state state j } in
+    ap₂ (λ (z : Stretch) (zs : List Stretch). z ∷ zs) same (told_apart xs ys (cc) (cc))
+
+halves : (a b c d : List ℕ) → length a ≡ length c → a ++ b ≡ c ++ d → (a ≡ c) × (b ≡ d)
+halves [] b [] d l e = (refl, e)
+halves [] b (z ∷ c) d l e = absurd (omega (arith, l))
+halves (y ∷ a) b [] d l e = absurd (omega (arith, l))
+halves (y ∷ a) b (z ∷ c) d l e =
+    let rest : a ++ b ≡ c ++ d = cc in
+    let h = halves a b c d (omega (arith, l)) rest in
+    let here : y ≡ z = cc in
+    (ap₂ (λ (u : ℕ) (us : List ℕ). u ∷ us) here h.0, h.1)
+
+pub cells_injective : (xs ys : List Stretch) → cells xs ≡ cells ys → xs ≡ ys
+cells_injective xs ys e =
+    let a = map (λ (x : Stretch). x.since) xs in
+    let b = map (λ (x : Stretch). code x.state) xs in
+    let c = map (λ (x : Stretch). x.since) ys in
+    let d = map (λ (x : Stretch). code x.state) ys in
+    let as_long : length a ≡ length c =
+    omega (arith, ap length e, length-append a b, length-append c d, length-map xs (λ (x : Stretch). x.since), length-map xs (λ (x : Stretch). code x.state), length-map ys (λ (x : Stretch). x.since), length-map ys (λ (x : Stretch). code x.state))
+    in
+    let h = halves a b c d as_long e in
+    told_apart xs ys h.0 h.1
+
+-- two counts that are shown alike are one
+pub shown_injective : (t u : Count) → shown t ≡ shown u → t ≡ u
+shown_injective t u e =
+    let stretches = cells_injective t.stretches u.stretches (ap (λ (c : Counted). c.stretches) e) in
+    λ j. record { sums = (e j).sums; stretches = stretches j }
