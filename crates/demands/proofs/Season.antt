@@ -21,7 +21,7 @@ use Rattle.rerun.specs.Replay.{Outcome, replay, sum_of_holds}
 use Rattle.rerun.proofs.Theorems.{a_refused_file_is_not_run, nine_for_too_many_scans}
 use Rattle.tally.specs.Tally.{sum_count}
 use Rattle.season.specs.declared.Report.{Report}
-use Rattle.season.specs.declared.Added.{Added}
+use Rattle.season.specs.Answer.{Added}
 use Rattle.season.specs.Season.{season_number, accepted, refused, added_to}
 use Rattle.season.proofs.Theorems as season
 use Rattle.season.proofs.Theorems.{the_answer's_number, a_refusal_leaves_the_report, an_accepted_file_has_no_place, else_it_grows}

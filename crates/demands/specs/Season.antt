@@ -14,7 +14,7 @@ use Rattle.rerun.specs.Replay.{replay, sum_of_holds}
 use Rattle.trace.specs.Effect.{stood, tripped}
 use Rattle.trace.specs.States.{states_at, trace}
 use Rattle.season.specs.declared.Report.{Report}
-use Rattle.season.specs.declared.Added.{Added}
+use Rattle.season.specs.Answer.{Added}
 use Rattle.season.specs.Season.{sum_in, added_to}
 use Rattle.season_bytes.specs.Bytes.{report_of, report_bytes}
 

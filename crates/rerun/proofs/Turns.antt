@@ -403,6 +403,12 @@ module _ {s : List ℕ} {run : Run} {until : ℕ} {keep : Bool} {buf : List ℕ}
 
 -- ## A file that the reader refuses
 
+-- the run that rows ended with, by itself
+pub ended : {s : List ℕ} {run : Run} {until : ℕ} {keep : Bool} {buf array' buf' : List ℕ} (r : Turn) → RowsDone s run until keep buf r array' buf'
+    → (end : Run) → end ≡ r.run → RowsDone s run until keep buf (record { number = r.number; records = r.records; run = end }) array' buf'
+ended r d end e =
+    record { number_is = d.number_is; records_are = d.records_are; going = rw e d.going; rows_are = rw e d.rows_are; laid = d.laid }
+
 pub refused_answer : (s : List ℕ) (n p : ℕ) → (reading s).answer ≡ A.Refused n p → refusal p n ≡ answered (replay s)
 refused_answer s n p e =
     sym (granted_refused (counts started) (refusal p) n (refusal_number s n p e)) ∙ ap answered (sym (refused_replay s n p e))

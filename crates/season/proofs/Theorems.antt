@@ -28,7 +28,7 @@ use Rattle.sums.specs.Sums.{most_sum, in_range}
 use Rattle.sums.proofs.Sums.{sum_fits, in_range_if}
 use Rattle.tally.specs.Tally.{sums_of_effect, exercised_sum, sum_count, state_sum, trip_sum}
 use Rattle.season.specs.declared.Report.{Report}
-use Rattle.season.specs.declared.Added.{Added}
+use Rattle.season.specs.Answer.{Added}
 use Rattle.season.specs.Season.{empty, has, sum_of, sum_in, season_number, refused, accepted, added_to}
 use Rattle.season.specs.Overall.{over_all, six_of, holds_of}
 

@@ -1,3 +1,4 @@
+pub mod Answer
 pub mod Season
 pub mod Rows
 pub mod Overall

@@ -8,7 +8,7 @@ use Rattle.rerun.specs.Replay.{replay, first_rows}
 use Rattle.rerun.specs.Turn.{Going}
 use Rattle.tally.specs.Tally.{Count, none, counted, sum_count}
 use Rattle.season.specs.declared.Report.{Report}
-use Rattle.season.specs.declared.Added.{Added}
+use Rattle.season.specs.Answer.{Added}
 use Rattle.sums.specs.Sums.{in_range, summed}
 
 -- in a recording whose rows all run: the count is that of the events of as many first rows as the run counts

@@ -12,7 +12,7 @@ use Rattle.trace.specs.States.{states_at, trace}
 use Rattle.tally.specs.Tally.{trip_place, sums_of_effect, exercised_sum, sum_count}
 use Rattle.sums.specs.Sums.{in_range, summed}
 use Rattle.season.specs.declared.Report.{Report}
-use Rattle.season.specs.declared.Added.{Added}
+use Rattle.season.specs.Answer.{Added}
 
 -- an empty report
 abbrev pub empty : Report

@@ -4,17 +4,19 @@
 #![tactic(auto)]
 
 ghost use Rattle.std.specs.Prelude.{◌≡◌, ◌<◌};
-ghost use Rattle.recording.specs.Answer.{Accepted};
+ghost use Rattle.settings.specs.Refusals.{number_of};
 ghost use Rattle.recording.specs.Answers.{row_count_of};
+ghost use Rattle.recording.specs.Opened.{IsRead};
 ghost use Rattle.recording.specs.Reader.{reading};
 ghost use Rattle.rerun.specs.Replay.{replay};
 ghost use Rattle.tally.specs.Shown.{shown};
+ghost use Rattle.season.specs.Answer.{as_added};
 ghost use Rattle.season.specs.Season.{empty as empty_report, added_to};
 ghost use Rattle.season.specs.Rows.{Tallying, PieceEnds, PieceCounted, AllCounted, refused_at, joined};
 
-use recording::Answer;
+use recording::Recording;
 use rerun::Run;
-use settings::Settings;
+use settings::{Refusal, Refused};
 use tally::Count;
 
 // 113 sums: for each effect, in its slot from 0, seven: the scans after which it stood in each state, by the state's code, and its
@@ -24,14 +26,26 @@ pub struct Report {
     pub sums: [u64; 113],
 }
 
-// The answer to one recording more: 0, the effect count of the recording and the report after it; or the refusal number, its place and the
-// report as it was.
+// A recording that was added: its effect count, and the report after it.
 #[derive(Clone, Copy)]
 pub struct Added {
-    pub number: u8,
-    pub place: usize,
     pub effects: u8,
     pub report: Report,
+}
+
+// A recording that was not added: what refuses it, and the report as it was.
+#[derive(Clone, Copy)]
+pub struct NotAdded {
+    pub refused: Refused,
+    pub report: Report,
+}
+
+impl From<NotAdded> for Refusal {
+    ghost from_gives = { λ added refusal. refusal ≡ added.refused.refusal };
+
+    fn from(added: NotAdded) -> Refusal {
+        added.refused.refusal
+    }
 }
 
 // ---- counting
@@ -62,8 +76,7 @@ fn count_piece(
     ensures { PieceCounted s.now run result board.new (shown count.new) }
 {
     let until = piece_end(run.rows, run.row_count);
-    let turn = rerun::go(s, run, until, board, records, true);
-    let next = turn.run;
+    let next = rerun::run_of(rerun::go(s, run, until, board, records, true));
     count.count_events(records, (next.records - run.records) as usize);
     next
 }
@@ -86,58 +99,43 @@ fn count_rows(s: &[u8], run: Run, board: &mut [u32; 64], count: &mut Count) -> R
 // ---- the report
 
 // The report as it was.
-fn refusal(r: Report, number: u8, place: usize) -> Added
-    ensures { result ≡ refused_at r number place }
+fn not_added(report: Report, refusal: Refusal, place: usize) -> NotAdded
+    ensures { as_added (Err result) ≡ refused_at report (number_of refusal) place }
 {
-    Added {
-        number,
-        place,
-        effects: 0,
-        report: r,
+    NotAdded {
+        refused: Refused { refusal, place },
+        report,
     }
 }
 
 // The sums of one recording more, of so many effects: 11 if one would pass 64 bits.
-fn join(r: Report, effects: u8, more: [u64; 113]) -> Added
-    ensures { result ≡ joined r effects more }
+fn join(r: Report, effects: u8, more: [u64; 113]) -> Result<Added, NotAdded>
+    ensures { as_added result ≡ joined r effects more }
 {
     let mut sums = r.sums;
     if !sums::in_range(&sums, &more) {
-        return refusal(r, 11, 0);
+        return Err(not_added(r, Refusal::Sums, 0));
     }
     sums::add_all(&mut sums, &more);
-    Added {
-        number: 0,
-        place: 0,
+    Ok(Added {
         effects,
         report: Report { sums },
-    }
+    })
 }
 
 // A file that the reader accepts and none of whose rows ends it.
-fn add_whole(r: Report, s: &[u8], st: Settings, rows: u16, first: usize, width: usize) -> Added
-    requires { ((reading s.now).answer ≡ Accepted rows first width) × (st ≡ (reading s.now).settings) × ((replay s.now).number ≡ 0) }
-    ensures { result ≡ added_to r s.now }
+fn add_whole(r: Report, s: &[u8], file: Recording) -> Result<Added, NotAdded>
+    requires { IsRead file s.now × ((replay s.now).number ≡ 0) }
+    ensures { as_added result ≡ added_to r s.now }
 {
     let mut board = [0u32; 64];
-    let run = rerun::begin(st, rows, first, width, &mut board);
+    let run = rerun::begin(file, &mut board);
     let mut count = Count::empty();
     let end = count_rows(s, run, &mut board, &mut count);
-    count.close_all(st.count as usize, end.mark.scans_done);
+    let effects = file.settings.count;
+    count.close_all(effects as usize, end.mark.scans_done);
     count.sums[tally::EXERCISED_SUM] = end.exercised as u64;
-    join(r, st.count, count.sums)
-}
-
-// A file that the reader accepts: 9 before anything is counted.
-fn add_accepted(r: Report, s: &[u8], st: Settings, rows: u16, first: usize, width: usize) -> Added
-    requires { ((reading s.now).answer ≡ Accepted rows first width) × (st ≡ (reading s.now).settings) }
-    ensures { result ≡ added_to r s.now }
-{
-    let stop = rerun::stop_of(s, rows, first, width);
-    if stop.number != 0 {
-        return refusal(r, stop.number, 0);
-    }
-    add_whole(r, s, st, rows, first, width)
+    join(r, effects, count.sums)
 }
 
 impl Report {
@@ -148,18 +146,18 @@ impl Report {
         Report { sums: [0; 113] }
     }
 
-    // One recording more, from a fresh state.
-    pub fn add(self, s: &[u8]) -> Added
-        ensures { result ≡ added_to self s.now }
+    // One recording more, from a fresh state. Only what the reader refuses has a place.
+    pub fn add(self, s: &[u8]) -> Result<Added, NotAdded>
+        ensures { as_added result ≡ added_to self s.now }
     {
-        let reading = recording::read(s);
-        let answer = reading.answer;
-        let st = reading.settings;
-        match answer {
-            Answer::Accepted { rows, first, width } => add_accepted(
-                self, s, st, rows, first, width,
-            ),
-            Answer::Refused { number, place } => refusal(self, number, place),
+        let read = recording::read(s);
+        let Ok(file) = read else {
+            let refused = read.unwrap_err();
+            return Err(not_added(self, refused.refusal, refused.place));
+        };
+        if let Err(stop) = rerun::check_holds(s, file) {
+            return Err(not_added(self, stop.refusal, 0));
         }
+        add_whole(self, s, file)
     }
 }

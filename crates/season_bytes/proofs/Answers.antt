@@ -8,7 +8,7 @@ use lib.Seq.{sets}
 use Rattle.settings.specs.Refusals.{or_else, room_number}
 use Rattle.settings.proofs.Refusals.{granted_none, granted_refused, room_enough, room_short, or_else_none}
 use Rattle.rerun.specs.Replay.{replay}
-use Rattle.season.specs.declared.Added.{Added}
+use Rattle.season.specs.Answer.{Added}
 use Rattle.season.specs.Season.{season_number, added_to}
 use Rattle.season.proofs.Theorems.{the_answer's_number}
 use Rattle.season_bytes.specs.Bytes.{report_length, report_of, report_bytes, into_number, season_into}

@@ -14,7 +14,7 @@ use Rattle.settings.specs.Refusals.{granted}
 use Rattle.settings.proofs.Refusals.{granted_refused, granted_either}
 use Rattle.tally.specs.Tally.{sum_count}
 use Rattle.season.specs.declared.Report.{Report}
-use Rattle.season.specs.declared.Added.{Added}
+use Rattle.season.specs.Answer.{Added}
 use Rattle.season.specs.Season.{empty, added_to}
 use Rattle.season.specs.Overall.{over_all}
 use Rattle.season.proofs.Theorems.{a_refusal_leaves_the_report, else_it_grows}

@@ -11,7 +11,7 @@ use Rattle.settings.specs.Refusals.{granted}
 use Rattle.settings.proofs.Refusals.{granted_none, granted_refused, granted_either}
 use Rattle.rerun.proofs.Files.{most-effects}
 use Rattle.season.specs.declared.Report.{Report}
-use Rattle.season.specs.declared.Added.{Added}
+use Rattle.season.specs.Answer.{Added}
 use Rattle.season.specs.Season.{empty, season_number, refused, accepted, added_to}
 use Rattle.season.specs.Overall.{over_all}
 use Rattle.season.proofs.Theorems.{a_refusal_leaves_the_report, else_it_grows, added_is_replayed}

@@ -2,7 +2,7 @@
 -- for the report.
 use Rattle.std.specs.Prelude.{ℕ, ◌+◌, max, ◌≡◌, List, [], ◌∷◌}
 use Rattle.settings.specs.Refusals.{granted}
-use Rattle.season.specs.declared.Added.{Added}
+use Rattle.season.specs.Answer.{Added}
 use Rattle.season.specs.Season.{empty, added_to}
 use Rattle.season_table.specs.declared.Table.{Table}
 

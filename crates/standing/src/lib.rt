@@ -68,14 +68,7 @@ fn after_last(s: &[u8], last: Run, board: &mut [u32; 64]) -> Standing
     let sight = reasoned::sight_at(s, last);
     let mut from = cells::slots_of(board, count, last.mark.planes);
     let mut records = [0u8; effects::MOST_ROW_BYTES];
-    let end = rerun::run_of(rerun::go(
-        s,
-        last,
-        last.rows + 1,
-        board,
-        &mut records,
-        true,
-    ));
+    let end = rerun::run_of(rerun::go(s, last, last.rows + 1, board, &mut records, true));
     let reached = end.mark;
     tell_all(
         &mut from,

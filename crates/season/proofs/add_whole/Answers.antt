@@ -5,6 +5,7 @@ use borrow.Author.Rules.{rules}
 use Rattle.bits.proofs.Lists.{length_mapped}
 use Rattle.settings.specs.declared.Settings.{Settings}
 use Rattle.recording.specs.Answers.{number, place}
+use Rattle.recording.proofs.Opened.{answer_is, settings_are}
 use Rattle.rerun.proofs.Turns.{few_effects}
 use Rattle.tally.specs.declared.Count.{Count}
 use Rattle.tally.specs.Tally.{sum_count}
@@ -15,16 +16,16 @@ use Rattle.season.proofs.add_whole.Goals as goal
 pub begin-run-requires : goal.begin-run-requires
 begin-run-requires c =
     let a = c.args in
-    (few_effects a.s.now a.st a.rows a.first a.width c.requires.0 c.requires.1, refl)
+    (few_effects a.s.now _ _ _ _ (answer_is _ a.file c.requires.0) (settings_are _ a.file c.requires.0), refl)
 
 pub count_rows-end-requires : goal.count_rows-end-requires
 count_rows-end-requires c =
-    rw c.empty-count.ensures (tallying_begins (rw c.requires.1 at c.begin-run.ensures) c.requires.0 c.requires.2)
+    rw c.empty-count.ensures (tallying_begins (rw (settings_are _ c.args.file c.requires.0) at c.begin-run.ensures) (answer_is _ c.args.file c.requires.0) c.requires.1)
 
 pub close_all-requires : goal.close_all-requires
 close_all-requires c =
     let all = c.count_rows-end.ensures in
-    closable c.args.s.now (ap number c.requires.0) _ all.counts _ _ _ (ap (λ (z : Settings). z.count) c.requires.1) all.scans all.exercised
+    closable c.args.s.now (ap number (answer_is _ c.args.file c.requires.0)) _ all.counts _ _ _ (ap (λ (z : Settings). z.count) (settings_are _ c.args.file c.requires.0)) all.scans all.exercised
 
 pub returns : goal.returns
 returns c =
@@ -32,5 +33,5 @@ returns c =
     let file = c.args.s.now in
     let all = c.count_rows-end.ensures in
     c.join.ensures
-    ∙ joined_is file (ap number c.requires.0) _ all.counts _ _ _ (ap (λ (z : Settings). z.count) c.requires.1) all.scans all.exercised _ (ap (λ (t : Count). t.sums) c.close_all.ensures) c.args.r long
-    ∙ whole_added c.args.r file (ap place c.requires.0) c.requires.2
+    ∙ joined_is file (ap number (answer_is _ c.args.file c.requires.0)) _ all.counts _ _ _ (ap (λ (z : Settings). z.count) (settings_are _ c.args.file c.requires.0)) all.scans all.exercised _ (ap (λ (t : Count). t.sums) c.close_all.ensures) c.args.r long
+    ∙ whole_added c.args.r file (ap place (answer_is _ c.args.file c.requires.0)) c.requires.1

@@ -18,7 +18,7 @@ in_range-requires c =
 pub returns-then-not-in_range : goal.returns-then-not-in_range
 returns-then-not-in_range c =
     let a = c.args in
-    c.refusal.ensures ∙ refused_sums a.r a.effects a.more (sym c.in_range.ensures ∙ c.if-not-in_range.true)
+    c.not_added.ensures ∙ refused_sums a.r a.effects a.more (sym c.in_range.ensures ∙ c.if-not-in_range.true)
 
 pub add_all-requires : goal.add_all-requires
 add_all-requires c =
