@@ -63,14 +63,7 @@ fn put_next(
     requires { Telling s.now run board.old (length out.old) × (run.rows < row_count_of (reading_of s.now).answer) }
     ensures { RowTold s.now run out.old result board.new out.new }
 {
-    let next = rerun::run_of(rerun::go(
-        s,
-        run,
-        run.rows + 1,
-        board,
-        records,
-        true,
-    ));
+    let next = rerun::run_of(rerun::go(s, run, run.rows + 1, board, records, true));
     let n = (next.records - run.records) as usize;
     if n == 0 {
         return next;
