@@ -10,7 +10,7 @@ use Rattle.findings.specs.declared.Spot.{Spot}
 use Rattle.findings.specs.declared.Spot.TheVariants.{Count, Entry, Past}
 use Rattle.findings.specs.declared.Finding.{Finding}
 use Rattle.findings.specs.declared.Finding.TheVariants.{Nothing, CountEnds, EntryEnds, CountWrong, EntryWrong, Spare}
-use Rattle.findings.specs.declared.Explained.{Explained}
+use Rattle.findings.specs.Answer.{Explained}
 use Rattle.findings.specs.Spots.{section_at, end_of, entry_at, spot_of}
 use Rattle.findings.specs.Faults.{fault_at, fault_number, fault_test}
 

@@ -1,3 +1,4 @@
+pub mod Answer
 pub mod Spots
 pub mod Faults
 pub mod Findings

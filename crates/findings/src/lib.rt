@@ -12,11 +12,11 @@ ghost use Rattle.layout.specs.Sections.{width_of};
 ghost use Rattle.findings.specs.declared.Spot.TheVariants.{Count, Entry};
 ghost use Rattle.findings.specs.Spots.{farthest, most_count, count_at, after_section, spot_in, spot_of};
 ghost use Rattle.findings.specs.Faults.{block_fault, effect_fault, permitted, together_fault, forces_fault, resets_fault, inputs_fault, row_fault, fault_at};
+ghost use Rattle.findings.specs.Answer.{number_at, place_at, as_explained};
 ghost use Rattle.findings.specs.Findings.{finding_in, finding_of, explanation, explained};
 
 use layout::Kind;
-use recording::Answer;
-use settings::{Effect, Row, Words};
+use settings::{Effect, Refused, Row, Words};
 
 // Where a byte stands: in the count of a section, in an entry, counted from 1, or past the last row.
 #[derive(Clone, Copy)]
@@ -81,12 +81,10 @@ pub enum Finding {
     Spare,
 }
 
-// What a whole file is answered: its refusal number and place, or 0 and 0; the number of its rows, or 0 where the reader refuses it;
-// and why.
+// What a whole file is answered: what refuses it, if anything does; the number of its rows, or 0 where the reader refuses it; and why.
 #[derive(Clone, Copy)]
 pub struct Explained {
-    pub number: u8,
-    pub place: usize,
+    pub refused: Option<Refused>,
     pub rows: u16,
     pub finding: Finding,
 }
@@ -356,38 +354,32 @@ fn finding_in(spot: Spot, s: &[u8], p: usize) -> Finding
     }
 }
 
-// By the refusal number and place that a file is answered.
-fn finding_of(s: &[u8], number: u8, place: usize) -> Finding
-    ensures { result ≡ finding_of s.now number place }
+// By what a file is answered.
+fn finding_of(s: &[u8], refused: Option<Refused>) -> Finding
+    ensures { result ≡ finding_of s.now (number_at refused) (place_at refused) }
 {
-    if number == 0 {
-        return Finding::Nothing;
+    match refused {
+        Some(refused) => finding_in(spot_of(s, refused.place), s, refused.place),
+        None => Finding::Nothing,
     }
-    finding_in(spot_of(s, place), s, place)
 }
 
-fn explained_at(s: &[u8], number: u8, place: usize, rows: u16) -> Explained
-    ensures { result ≡ explanation s.now number place rows }
+fn explained_at(s: &[u8], refused: Option<Refused>, rows: u16) -> Explained
+    ensures { as_explained result ≡ explanation s.now (number_at refused) (place_at refused) rows }
 {
     Explained {
-        number,
-        place,
+        refused,
         rows,
-        finding: finding_of(s, number, place),
+        finding: finding_of(s, refused),
     }
 }
 
 // Why any bytes are refused, or that nothing is wrong with them. The rows are not run: where a replay stops is known from the holds.
 pub fn explain(s: &[u8]) -> Explained
-    ensures { result ≡ explained s.now }
+    ensures { as_explained result ≡ explained s.now }
 {
-    let reading = recording::read(s);
-    let answer = reading.answer;
-    match answer {
-        Answer::Accepted { rows, first, width } => {
-            let stop = rerun::stop_of(s, rows, first, width);
-            explained_at(s, stop.number, stop.place, rows)
-        }
-        Answer::Refused { number, place } => explained_at(s, number, place, 0),
+    match recording::read(s) {
+        Ok(file) => explained_at(s, rerun::check_holds(s, file).err(), file.rows),
+        Err(refused) => explained_at(s, Some(refused), 0),
     }
 }

@@ -11,7 +11,7 @@ use Rattle.text.specs.Pieces.{total}
 use Rattle.bits.proofs.Puts.{Put}
 use Rattle.text.proofs.Room.{refusal_at_most}
 use Rattle.findings.specs.declared.Finding.{Finding}
-use Rattle.findings.specs.declared.Explained.{Explained}
+use Rattle.findings.specs.Answer.{Explained}
 use Rattle.settings.proofs.Refusals.{granted_none, granted_refused}
 use Rattle.sentences.specs.Sentences.{sentence}
 use Rattle.reports.specs.Reports.{heading, accepted_line, refused_line, refused_at, refused_why, explained_line, most_name, most_report}

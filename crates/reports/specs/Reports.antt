@@ -6,7 +6,7 @@ use Rattle.text.specs.Pieces.{total}
 use Rattle.text.specs.Text.{refusal_line}
 use Rattle.settings.specs.Refusals.{granted}
 use Rattle.findings.specs.declared.Finding.{Finding}
-use Rattle.findings.specs.declared.Explained.{Explained}
+use Rattle.findings.specs.Answer.{Explained}
 use Rattle.sentences.specs.Sentences.{sentence}
 use Rattle.recording.specs.Encode.{most_length}
 use Rattle.recording.specs.Answer.{Answer}
