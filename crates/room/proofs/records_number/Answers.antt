@@ -59,12 +59,6 @@ returns-then-each-most c =
     let a = c.args in
     sym (room_enough (a.each * length (replay a.s.now).replay.events) a.room (omega (arith, mul-le-mul_left a.each (enough _ _ _ c.requires.0), c.if-each-most.true)))
 
-pub overflow_mul-each-2 : goal.overflow_mul-each-2
-overflow_mul-each-2 c =
-    let a = c.args in
-    let counted = counted_all c.go-end.ensures c.requires.0.many in
-    omega (arith, bytes_small _ _ _ c.requires.0 a.each c.go-end.result.run.records c.requires.2 (omega (arith, counted, enough _ _ _ c.requires.0)))
-
 pub returns-then-each-last : goal.returns-then-each-last
 returns-then-each-last c =
     let a = c.args in

@@ -10,7 +10,3 @@ returns-then-stop-ne0 c =
     let a = c.args in
     c.refusal.ensures
     ∙ refused_added a.r a.s.now _ 0 (sym (ap (λ (x : Stop). x.number) c.stop_of-stop.ensures)) c.if-stop-ne0.true (ap place c.requires.0)
-
-pub add_whole-requires : goal.add_whole-requires
-add_whole-requires c =
-    (c.requires.0, c.requires.1, sym (ap (λ (x : Stop). x.number) c.stop_of-stop.ensures) ∙ c.if-stop-ne0.false)

@@ -5,12 +5,6 @@ use Rattle.season.specs.Season.{added_to}
 use Rattle.season_bytes.proofs.Answers.{too_few, refused_in_room, added_in_room}
 use Rattle.season_bytes.proofs.add.Goals as goal
 
-pub returns-then-bytes-lt-REPORT_BYTES : goal.returns-then-bytes-lt-REPORT_BYTES
-returns-then-bytes-lt-REPORT_BYTES c =
-    let a = c.args in
-    let w = too_few a.s.now a.bytes.now _ c.if-bytes-lt-REPORT_BYTES.true c.without_room.ensures in
-    record { value = w.0; bytes_after = w.1 }
-
 pub returns-then-refused : goal.returns-then-refused
 returns-then-refused c =
     let a = c.args in

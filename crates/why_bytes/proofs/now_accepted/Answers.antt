@@ -22,42 +22,20 @@ use Rattle.why_bytes.specs.Bytes.{reason_length}
 use Rattle.why_bytes.proofs.Answers as answers
 use Rattle.why_bytes.proofs.now_accepted.Goals as goal
 
-pub returns-then-stop-ne0 : goal.returns-then-stop-ne0
-returns-then-stop-ne0 c =
-    let file = c.args.s.now in
-    let is = ap (λ (x : Stop). x.number) c.stop_of-stop.ensures in
-    let both = answers.refused-first (replay file).number (reason_length * (reading file).settings.count) c.args.out.now (flat_map numbers_of (reasons_now file)) _ is c.if-stop-ne0.true in
-    record { value = both.0; out_after = both.1 }
-
-pub returns-then-out-st : goal.returns-then-out-st
-returns-then-out-st c =
-    let file = c.args.s.now in
-    let out = c.args.out.now in
-    let due = reason_length * (reading file).settings.count in
-    let whole = sym (ap (λ (x : Stop). x.number) c.stop_of-stop.ensures) ∙ c.if-stop-ne0.false in
-    let same = ap (λ (x : Settings). x.count) c.requires.1 in
-    let both = answers.refused_room (replay file).number due out (flat_map numbers_of (reasons_now file)) whole 10
-    (sym (room_short due (length out) (omega (arith, c.if-out-st.true, same)))) (λ z. omega (arith, z)) in
-    record { value = both.0; out_after = both.1 }
-
-pub at_end-x-requires : goal.at_end-x-requires
-at_end-x-requires c = (c.requires.0, c.requires.1, sym (ap (λ (x : Stop). x.number) c.stop_of-stop.ensures) ∙ c.if-stop-ne0.false)
-
 pub put_effects-requires : goal.put_effects-requires
 put_effects-requires c =
     let a = c.args in
     (few_effects a.s.now a.st a.rows a.first a.width c.requires.0 c.requires.1, c.if-out-st.false)
 
-pub returns : goal.returns
-returns c =
+pub returns-clause-out_after : goal.returns-clause-out_after
+returns-clause-out_after c =
     let file = c.args.s.now in
     let out = c.args.out.now in
     let x = c.at_end-x.result in
     let whole = sym (ap (λ (x : Stop). x.number) c.stop_of-stop.ensures) ∙ c.if-stop-ne0.false in
     let same = ap (λ (x : Settings). x.count) c.requires.1 in
     let all = the_reasons_now (ap number c.requires.0) whole c.at_end-x.ensures in
-    let both = answers.crosses (replay file).number (reason_length * (reading file).settings.count) out (flat_map numbers_of (reasons_now file)) whole (omega (arith, c.if-out-st.false, same)) _
+    (answers.crosses (replay file).number (reason_length * (reading file).settings.count) out (flat_map numbers_of (reasons_now file)) whole (omega (arith, c.if-out-st.false, same)) _
     (c.put_effects.ensures
     ∙ ap (λ (st : Settings). sets out 0 (flat_map numbers_of (tabulate (reason_now st x) st.count))) c.requires.1
-    ∙ ap (λ (rs : List Reason). sets out 0 (flat_map numbers_of rs)) (sym all)) in
-    record { value = both.0; out_after = both.1 }
+    ∙ ap (λ (rs : List Reason). sets out 0 (flat_map numbers_of rs)) (sym all))).1

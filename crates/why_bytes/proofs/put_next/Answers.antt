@@ -13,11 +13,6 @@ overflow_sub-n c =
     let p = c.requires in
     records_grow p.0.going p.1 p.0.all_run c.go-turn.ensures (omega arith)
 
-pub overflow_cast-n : goal.overflow_cast-n
-overflow_cast-n c =
-    let p = c.requires in
-    omega (arith, few_records p.0.going p.1 p.0.all_run c.go-turn.ensures (omega arith))
-
 pub returns-then-n-eq0 : goal.returns-then-n-eq0
 returns-then-n-eq0 c =
     let p = c.requires in

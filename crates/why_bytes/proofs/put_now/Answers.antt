@@ -12,11 +12,6 @@ use Rattle.why_bytes.specs.Bytes.{reason_length}
 use Rattle.why_bytes.proofs.Answers.{refused-first}
 use Rattle.why_bytes.proofs.put_now.Goals as goal
 
-pub now_accepted-requires : goal.now_accepted-requires
-now_accepted-requires c =
-    let read = c.read-reading.ensures in
-    (sym (ap (λ (r : Reading). r.answer) read) ∙ c.in-Accepted.is, ap (λ (r : Reading). r.settings) read)
-
 pub returns-in-Refused : goal.returns-in-Refused
 returns-in-Refused c =
     let file = c.args.s.now in

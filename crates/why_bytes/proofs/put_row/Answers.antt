@@ -19,9 +19,6 @@ use Rattle.why_bytes.specs.Rows.{record_reasons}
 use Rattle.why_bytes.proofs.Rows.{length-reason}
 use Rattle.why_bytes.proofs.put_row.Goals as goal
 
-pub loop-i-init : goal.loop-i-init
-loop-i-init c = (refl, λ es n h. rw add-zero)
-
 pub event_at-e-requires : goal.event_at-e-requires
 event_at-e-requires c =
     let a = c.args in

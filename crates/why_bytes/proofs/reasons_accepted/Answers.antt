@@ -14,13 +14,6 @@ use Rattle.why_bytes.proofs.Rows.{telling_begins}
 use Rattle.why_bytes.proofs.Answers as answers
 use Rattle.why_bytes.proofs.reasons_accepted.Goals as goal
 
-pub returns-then-stop-ne0 : goal.returns-then-stop-ne0
-returns-then-stop-ne0 c =
-    let file = c.args.s.now in
-    let is = ap (λ (x : Stop). x.number) c.stop_of-stop.ensures in
-    let both = answers.refused-first (replay file).number (reason_length * length (replay file).replay.events) c.args.out.now (reason_bytes (reasoned file)) _ is c.if-stop-ne0.true in
-    record { value = both.0; out_after = both.1 }
-
 pub begin-run-requires : goal.begin-run-requires
 begin-run-requires c =
     let a = c.args in
@@ -31,13 +24,6 @@ records_number-number-requires c =
     let begun = rw c.requires.1 at c.begin-run.ensures in
     (begins begun c.requires.0, ap (λ (u : Totals). u.rows) begun.totals, omega arith)
 
-pub returns-then-number-ne0 : goal.returns-then-number-ne0
-returns-then-number-ne0 c =
-    let file = c.args.s.now in
-    let whole = sym (ap (λ (x : Stop). x.number) c.stop_of-stop.ensures) ∙ c.if-stop-ne0.false in
-    let both = answers.refused_room (replay file).number (reason_length * length (replay file).replay.events) c.args.out.now (reason_bytes (reasoned file)) whole _ c.records_number-number.ensures c.if-number-ne0.true in
-    record { value = both.0; out_after = both.1 }
-
 pub put_rows-requires : goal.put_rows-requires
 put_rows-requires c =
     let file = c.args.s.now in
@@ -45,11 +31,3 @@ put_rows-requires c =
     let begun = rw c.requires.1 at c.begin-run.ensures in
     let fit = limit_kept (reason_length * length (replay file).replay.events) (length c.args.out.now) 9 (sym c.records_number-number.ensures ∙ c.if-number-ne0.false) in
     (telling_begins begun c.requires.0 whole fit, ap (λ (u : Totals). u.rows) begun.totals)
-
-pub returns : goal.returns
-returns c =
-    let file = c.args.s.now in
-    let whole = sym (ap (λ (x : Stop). x.number) c.stop_of-stop.ensures) ∙ c.if-stop-ne0.false in
-    let fit = limit_kept (reason_length * length (replay file).replay.events) (length c.args.out.now) 9 (sym c.records_number-number.ensures ∙ c.if-number-ne0.false) in
-    let both = answers.crosses (replay file).number (reason_length * length (replay file).replay.events) c.args.out.now (reason_bytes (reasoned file)) whole fit _ c.put_rows.ensures in
-    record { value = both.0; out_after = both.1 }

@@ -7,11 +7,6 @@ use Rattle.rerun.proofs.Files.{refused_replay, refusal_number}
 use Rattle.season.proofs.Answers.{refused_added}
 use Rattle.season.proofs.Report.add.Goals as goal
 
-pub add_accepted-requires : goal.add_accepted-requires
-add_accepted-requires c =
-    let read = c.read-reading.ensures in
-    (sym (ap (λ (x : Reading). x.answer) read) ∙ c.in-Accepted.is, ap (λ (x : Reading). x.settings) read)
-
 pub returns-in-Refused : goal.returns-in-Refused
 returns-in-Refused c =
     let a = c.args in

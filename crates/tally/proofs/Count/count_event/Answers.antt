@@ -17,20 +17,6 @@ use Rattle.tally.specs.Shown.{shown}
 use Rattle.tally.proofs.Shown.{put_shown}
 use Rattle.tally.proofs.Count.count_event.Goals as goal
 
-pub overflow_add-self : goal.overflow_add-self
-overflow_add-self c =
-    let a = c.args in
-    let t = shown a.self.now in
-    let i = slot_of a.e in
-    let k = state_sum i (code_in t i) in
-    let apart = get_or-set_other t.sums k (trip_sum i) (get_or t.sums k 0 + (c.minus-since.result - since_of t i)) 0 (λ z. omega (arith, z, c.requires.closable.code_fits)) in
-    omega (
-      arith,
-      ap (λ (u : Count). get_or u.sums (trip_sum i) 0) c.close.ensures ∙ apart,
-      c.is_tripped.ensures.1,
-      c.requires.trips_fit,
-    )
-
 pub returns : goal.returns
 returns c =
     let e = c.args.e in

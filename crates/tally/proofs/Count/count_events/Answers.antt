@@ -39,7 +39,3 @@ loop-i-preserved c =
       λ es n h. rw (next, is es n h) (sym (left_counted es i (omega (arith, n)) t) ∙ c.loop-i.invariant.0 es n h),
       λ es n all h. rw (next, is es n h) (left_countable es i (omega (arith, n)) t (c.loop-i.invariant.1 es n all h)).1,
     )
-
-pub returns : goal.returns
-returns c =
-    λ es n h. sym (none_left es c.loop-i.i (shown c.loop-i.self) (omega (arith, n))) ∙ c.loop-i.invariant.0 es n h
