@@ -367,6 +367,7 @@ fn finding_in(spot: Spot, s: &[u8], p: usize) -> Finding
 }
 
 // By the refusal number and place that a file is answered.
+#[tactic(auto, unfolding(crate::specs::Findings::finding_of))]
 fn finding_of(s: &[u8], number: u8, place: usize) -> Finding
     ensures { result ≡ finding_of s.now number place }
 {

@@ -6,9 +6,6 @@ use Rattle.rerun.proofs.Files.{refused_replay}
 use Rattle.findings.specs.Findings.{explanation, explained}
 use Rattle.findings.proofs.explain.Goals as goal
 
-pub stop_of-stop-requires : goal.stop_of-stop-requires
-stop_of-stop-requires c = sym (ap (λ (x : Reading). x.answer) c.read-reading.ensures) ∙ c.in-Accepted.is
-
 pub returns-in-Accepted : goal.returns-in-Accepted
 unfolding explained
 returns-in-Accepted c =
