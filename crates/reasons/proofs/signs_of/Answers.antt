@@ -1,6 +1,4 @@
 -- `reasons::signs_of` meets its contract: a word and what is seen of the causes have 16 bits together.
-use native.Mathlib.Omega.{arith}
-use lib.Bits.{and_le_r}
 use Rattle.reasons.specs.Given.{signs_in}
 use Rattle.reasons.proofs.signs_of.Goals as goal
 

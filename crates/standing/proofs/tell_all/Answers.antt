@@ -5,7 +5,7 @@ use native.Mathlib.Omega.{arith}
 use lib.ListN.{get_or}
 use Rattle.rules.specs.Limits.{most_effects}
 use Rattle.effects.proofs.Records.{no_event, nth, numbered_at}
-use Rattle.standing.proofs.Records.{read_is, left_told, none_left}
+use Rattle.standing.proofs.Records.{read_is, left_told}
 use Rattle.standing.proofs.tell_all.Goals as goal
 
 pub event_at-e-requires : goal.event_at-e-requires

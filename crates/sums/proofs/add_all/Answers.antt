@@ -1,9 +1,9 @@
 -- `sums::add_all` meets its contract. The loop's invariant: the sums before k stand, and the rest is as it was.
 use mathlib.Core.Path.{◌≡◌, refl, ap, ◌∙◌}
-use mathlib.Core.List.{List, ◌++◌, append-nil}
-use Prim.Native.Nat.{ℕ, ◌≤◌, ◌<◌, ◌+◌}
+use mathlib.Core.List.{List, ◌++◌}
+use Prim.Native.Nat.{ℕ, ◌<◌, ◌+◌}
 use native.Mathlib.Omega.{arith}
-use lib.ListN.{length, drop, get_or, set, drop_of_length-le}
+use lib.ListN.{length, drop, get_or, set}
 use Rattle.bits.specs.Lists.{tabulate}
 use Rattle.bits.proofs.Lists.{fill}
 use Rattle.sums.proofs.Sums.{sum_fits, unfilled}

@@ -9,7 +9,7 @@ use Rattle.effects.specs.declared.Event.{Event}
 use Rattle.effects.specs.Records.{record_length, StandFrom}
 use Rattle.effects.proofs.Records.{no_event, nth, one_event}
 use Rattle.tally.specs.Shown.{shown}
-use Rattle.tally.proofs.Counting.{left_counted, left_countable, none_left}
+use Rattle.tally.proofs.Counting.{left_counted, left_countable}
 use Rattle.tally.proofs.Count.count_events.Goals as goal
 
 pub event_at-e-requires : goal.event_at-e-requires
