@@ -2,7 +2,7 @@
 use mathlib.Core.Path.{ap, ◌∙◌}
 use Rattle.season.specs.declared.Report.{Report}
 use Rattle.season.specs.Season.{added_to}
-use Rattle.season_bytes.proofs.Answers.{too_few, refused_in_room, added_in_room}
+use Rattle.season_bytes.proofs.Answers.{refused_in_room, added_in_room}
 use Rattle.season_bytes.proofs.add.Goals as goal
 
 pub returns-then-refused : goal.returns-then-refused

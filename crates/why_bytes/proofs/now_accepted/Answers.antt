@@ -3,11 +3,9 @@ use mathlib.Core.Path.{sym, ap, ◌∙◌}
 use mathlib.Core.List.{List, flat_map}
 use Prim.Native.Nat.{◌*◌}
 use native.Mathlib.Omega.{arith}
-use lib.ListN.{length}
 use lib.Seq.{sets}
 use Rattle.bits.specs.Lists.{tabulate}
 use Rattle.settings.specs.declared.Settings.{Settings}
-use Rattle.settings.proofs.Refusals.{room_short}
 use Rattle.reasons.specs.declared.Reason.{Reason}
 use Rattle.recording.specs.Answers.{number}
 use Rattle.recording.specs.Reader.{reading}

@@ -1,10 +1,8 @@
 -- `why_bytes::put_effects` meets its contract. The loop's invariant: the reasons of the first i effects stand.
-use mathlib.Core.Path.{◌≡◌, refl, ap, ◌∙◌}
+use mathlib.Core.Path.{refl, ◌∙◌}
 use mathlib.Core.List.{flat_map}
-use Prim.Native.Nat.{ℕ, ◌*◌}
-use native.Mathlib.Omega.{arith}
-use lib.ListN.{length}
-use lib.Seq.{sets, length-sets}
+use Prim.Native.Nat.{◌*◌}
+use lib.Seq.{sets}
 use Rattle.bits.specs.Lists.{tabulate}
 use Rattle.reason_bytes.specs.Bytes.{numbers_of}
 use Rattle.standing.specs.Stands.{reason_now}

@@ -1,7 +1,7 @@
 -- `why_bytes::put_next` meets its contract, by the laws of `Rows`.
 use native.Mathlib.Omega.{arith}
 use Rattle.reasoned.proofs.Rows.{next_row}
-use Rattle.standing.proofs.Rows.{row_ready, few_records, records_grow, recorded}
+use Rattle.standing.proofs.Rows.{row_ready, records_grow, recorded}
 use Rattle.why_bytes.proofs.Rows.{no_record, row_fits, row_told}
 use Rattle.why_bytes.proofs.put_next.Goals as goal
 

@@ -1,9 +1,8 @@
 -- `why_bytes::put_row` meets its contract. The loop's invariant: with the reasons of the events that are left, of any whose records these are,
 -- the lent bytes would hold those of all of them.
-use mathlib.Core.Path.{refl, ap, ◌∙◌}
+use mathlib.Core.Path.{ap, ◌∙◌}
 use mathlib.Core.List.{List}
 use Prim.Native.Nat.{ℕ, ◌+◌, ◌*◌}
-use native.Mathlib.Nat.{add-zero}
 use native.Mathlib.Omega.{arith}
 use lib.ListN.{drop, get_or}
 use lib.Seq.{sets, length-sets}

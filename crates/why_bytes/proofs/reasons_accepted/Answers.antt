@@ -8,10 +8,8 @@ use Rattle.rerun.specs.declared.Stop.{Stop}
 use Rattle.rerun.specs.Replay.{replay}
 use Rattle.rerun.specs.Turn.{Totals}
 use Rattle.rerun.proofs.Turns.{few_effects, begins}
-use Rattle.reasoned.specs.Reasoned.{reasoned}
-use Rattle.why_bytes.specs.Bytes.{reason_length, reason_bytes}
+use Rattle.why_bytes.specs.Bytes.{reason_length}
 use Rattle.why_bytes.proofs.Rows.{telling_begins}
-use Rattle.why_bytes.proofs.Answers as answers
 use Rattle.why_bytes.proofs.reasons_accepted.Goals as goal
 
 pub begin-run-requires : goal.begin-run-requires
