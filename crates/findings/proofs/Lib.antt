@@ -1,5 +1,4 @@
 pub mod Spots
-pub mod Chains
 pub mod Numbers
 pub mod Named
 pub mod Stops

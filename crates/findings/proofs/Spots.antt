@@ -1,30 +1,13 @@
--- Which section a place stands in, and the bounds that the code needs.
+-- Which section a place stands in.
 use mathlib.Core.Path.{◌≡◌, sym, ap, ◌∙◌}
 use mathlib.Core.List.{List}
-use Prim.Native.Nat.{ℕ, ◌*◌, ◌/◌, ◌≤◌, ◌<◌}
-use native.Mathlib.Omega.{arith}
+use Prim.Native.Nat.{ℕ, ◌≤◌, ◌<◌}
 use mathlib.Core.Bool.{false}
 use lib.Dec.{ltb}
 use borrow.Author.Tests.{lt-ltb, le-ltb}
-use Rattle.layout.specs.declared.Kind.{Kind}
 use Rattle.layout.specs.declared.Kind.TheVariants.{Block, Effects, Rows}
-use Rattle.layout.specs.Sections.{width_of}
 use Rattle.findings.specs.declared.Spot.TheVariants.{Past}
-use Rattle.findings.specs.Spots.{most_count, farthest, after_section, section_at, end_of, spot_in, spot_of}
-
--- ## Bounds
-
--- the entries of a section take at most the bytes of the largest count, and these are few
-pub most_bytes : (kind : Kind) (w n : ℕ) → w ≡ width_of kind → n ≤ most_count → (w * n ≤ width_of kind * most_count) × (width_of kind * most_count ≤ farthest)
-most_bytes Block w n e h = rw e (omega arith, omega arith)
-most_bytes Effects w n e h = rw e (omega arith, omega arith)
-most_bytes Rows w n e h = rw e (omega arith, omega arith)
-
--- the entries before a place are fewer than n if their bytes are
-pub passed_below : (kind : Kind) (w x n : ℕ) → w ≡ width_of kind → x < width_of kind * n → x / w < n
-passed_below Block w x n e h = rw e (omega (arith, h))
-passed_below Effects w x n e h = rw e (omega (arith, h))
-passed_below Rows w x n e h = rw e (omega (arith, h))
+use Rattle.findings.specs.Spots.{after_section, section_at, end_of, spot_in, spot_of}
 
 -- ## Where a place stands, section by section
 

@@ -1,16 +1,12 @@
 -- `pieces::put_words` meets its contract. The loop's invariant: the words written so far and those that are left make the whole.
-use mathlib.Core.Path.{refl, ◌∙◌}
+use mathlib.Core.Path.{◌∙◌}
 use Prim.Native.Nat.{◌+◌, ◌*◌}
-use native.Mathlib.Nat.{add-zero}
 use native.Mathlib.Omega.{arith}
 use lib.Seq.{length-sets}
 use Rattle.bits.specs.Numbers.{digits}
 use Rattle.bits.proofs.Lists.{store_turn, store_ends}
 use Rattle.bits.proofs.Numbers.{length_digits}
 use Rattle.pieces.proofs.put_words.Goals as goal
-
-pub loop-i-init : goal.loop-i-init
-loop-i-init c = (refl, rw add-zero)
 
 pub loop-i-preserved : goal.loop-i-preserved
 loop-i-preserved c =

@@ -9,22 +9,10 @@ use Rattle.tally.specs.Tally.{sum_count}
 use Rattle.season.proofs.Joins.{refused_sums, joined_sums}
 use Rattle.season.proofs.join.Goals as goal
 
-pub in_range-requires : goal.in_range-requires
-in_range-requires c =
-    let long : length c.args.r.sums ≡ sum_count = search (rules, length_mapped) in
-    let as_long : length c.args.more ≡ sum_count = search (rules, length_mapped) in
-    long ∙ sym as_long
-
 pub returns-then-not-in_range : goal.returns-then-not-in_range
 returns-then-not-in_range c =
     let a = c.args in
     c.not_added.ensures ∙ refused_sums a.r a.effects a.more (sym c.in_range.ensures ∙ c.if-not-in_range.true)
-
-pub add_all-requires : goal.add_all-requires
-add_all-requires c =
-    let long : length c.args.r.sums ≡ sum_count = search (rules, length_mapped) in
-    let as_long : length c.args.more ≡ sum_count = search (rules, length_mapped) in
-    (long ∙ sym as_long, sym c.in_range.ensures ∙ c.if-not-in_range.false)
 
 pub returns : goal.returns
 returns c =

@@ -5,7 +5,7 @@ use native.Mathlib.Omega.{arith}
 use lib.ListN.{get_or}
 use Rattle.rules.specs.Limits.{most_effects}
 use Rattle.effects.proofs.Records.{no_event, nth, numbered_at}
-use Rattle.standing.proofs.Records.{read_is, left_told, none_left}
+use Rattle.standing.proofs.Records.{read_is, left_told}
 use Rattle.standing.proofs.tell_all.Goals as goal
 
 pub event_at-e-requires : goal.event_at-e-requires
@@ -23,8 +23,3 @@ pub loop-i-preserved : goal.loop-i-preserved
 loop-i-preserved c =
     let a = c.args in
     λ es n h. rw (c.tell.ensures, read_is c.args.records.now c.args.n c.loop-i.i _ c.event_at-e.ensures (omega arith) es n h) (sym (left_told a.scan es c.loop-i.i c.loop-i.slots (omega (arith, n))) ∙ c.loop-i.invariant es n h)
-
-pub returns : goal.returns
-returns c =
-    let a = c.args in
-    λ es n h. sym (none_left a.scan es c.loop-i.i c.loop-i.slots (omega (arith, n))) ∙ c.loop-i.invariant es n h

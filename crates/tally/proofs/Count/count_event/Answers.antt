@@ -1,35 +1,18 @@
 -- `tally::Count::count_event` meets its contract. The two sums that grow are two: the highest code is below the place of the trips.
-use mathlib.Core.Path.{◌≡◌, ap, ◌∙◌}
+use mathlib.Core.Path.{◌≡◌, ap}
 use mathlib.Core.List.{List}
-use Prim.Native.Nat.{ℕ, ◌+◌, ◌-◌}
-use native.Mathlib.Omega.{arith}
+use Prim.Native.Nat.{ℕ, ◌-◌}
 use borrow.Author.Rules.{rules}
-use lib.ListN.{length, get_or}
-use lib.Seq.{get_or-set_other}
+use lib.ListN.{length}
 use Rattle.bits.proofs.Lists.{length_mapped}
 use Rattle.bits.specs.Words.{one}
 use Rattle.rules.specs.declared.EffectState.TheVariants.{Tripped}
 use Rattle.rules.specs.Limits.{most_effects}
 use Rattle.rules.specs.Rules.{same}
-use Rattle.tally.specs.declared.Count.{Count}
-use Rattle.tally.specs.Tally.{slot_of, state_sum, trip_sum, code_in, since_of, count_of, closed_at, raised}
+use Rattle.tally.specs.Tally.{slot_of, trip_sum, count_of, closed_at, raised}
 use Rattle.tally.specs.Shown.{shown}
 use Rattle.tally.proofs.Shown.{put_shown}
 use Rattle.tally.proofs.Count.count_event.Goals as goal
-
-pub overflow_add-self : goal.overflow_add-self
-overflow_add-self c =
-    let a = c.args in
-    let t = shown a.self.now in
-    let i = slot_of a.e in
-    let k = state_sum i (code_in t i) in
-    let apart = get_or-set_other t.sums k (trip_sum i) (get_or t.sums k 0 + (c.minus-since.result - since_of t i)) 0 (λ z. omega (arith, z, c.requires.closable.code_fits)) in
-    omega (
-      arith,
-      ap (λ (u : Count). get_or u.sums (trip_sum i) 0) c.close.ensures ∙ apart,
-      c.is_tripped.ensures.1,
-      c.requires.trips_fit,
-    )
 
 pub returns : goal.returns
 returns c =

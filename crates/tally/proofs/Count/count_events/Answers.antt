@@ -9,7 +9,7 @@ use Rattle.effects.specs.declared.Event.{Event}
 use Rattle.effects.specs.Records.{record_length, StandFrom}
 use Rattle.effects.proofs.Records.{no_event, nth, one_event}
 use Rattle.tally.specs.Shown.{shown}
-use Rattle.tally.proofs.Counting.{left_counted, left_countable, none_left}
+use Rattle.tally.proofs.Counting.{left_counted, left_countable}
 use Rattle.tally.proofs.Count.count_events.Goals as goal
 
 pub event_at-e-requires : goal.event_at-e-requires
@@ -39,7 +39,3 @@ loop-i-preserved c =
       λ es n h. rw (next, is es n h) (sym (left_counted es i (omega (arith, n)) t) ∙ c.loop-i.invariant.0 es n h),
       λ es n all h. rw (next, is es n h) (left_countable es i (omega (arith, n)) t (c.loop-i.invariant.1 es n all h)).1,
     )
-
-pub returns : goal.returns
-returns c =
-    λ es n h. sym (none_left es c.loop-i.i (shown c.loop-i.self) (omega (arith, n))) ∙ c.loop-i.invariant.0 es n h
