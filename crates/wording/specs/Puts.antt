@@ -1,0 +1,7 @@
+-- What a function that writes a text promises.
+use Rattle.std.specs.Prelude.{ℕ, ◌+◌, ◌≡◌, List, length}
+use Rattle.std.proofs.lemmas.List.Edits.{sets}
+
+-- the text was written at a place of `out`, which is `out'` now, and r is the place after it; all else stays
+abbrev pub Puts : (out : List ℕ) (at : ℕ) (text : List ℕ) (r : ℕ) (out' : List ℕ) → Type 0
+Puts out at text r out' = (r ≡ at + length text) × (out' ≡ sets out at text)
