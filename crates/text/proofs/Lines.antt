@@ -7,11 +7,12 @@ use native.Mathlib.Numerals.{add-one}
 use native.Mathlib.Omega.{arith}
 use lib.ListN.{length, drop, get_or, length-append, drop_of_length-le}
 use lib.Seq.{drop-cons}
+use Rattle.std.specs.Prelude.{Option, None, Some}
 use Rattle.bits.specs.Decimal.{ascii, decimal}
 use Rattle.effects.specs.declared.Event.{Event}
+use Rattle.reasons.specs.declared.Sight.{Sight}
 use Rattle.reasons.specs.Reasons.{reason_in}
 use Rattle.wording.specs.Text.{words_of}
-use Rattle.text.specs.declared.Column.{Column}
 use Rattle.text.specs.Text.{name, header_with, line_with, last_line, refusal_line}
 use Rattle.text.specs.Pieces.{when, change, further, column_line, total}
 
@@ -38,36 +39,34 @@ halves_and_end : (e : Event) (field : List ℕ) → line_with e (field ∷ []) �
 unfolding line_with when change
 halves_and_end e field = sym (simp append_assoc)
 
-module _ (c : Column) (associations : List ℕ) (e : Event) where
+module _ (associations : List ℕ) (e : Event) where
   -- without a reason
-  pub plain : c.why ≡ false → column_line c associations e ≡ when e ++ change e 10
+  pub plain : column_line None associations e ≡ when e ++ change e 10
   unfolding further
-  plain h = rw h (halves e)
+  plain = halves e
 
-  pub length_plain : c.why ≡ false → length (column_line c associations e) ≡ length (when e) + length (change e 10)
-  length_plain h = ap length (plain h) ∙ length-append (when e) (change e 10)
+  pub length_plain : length (column_line None associations e) ≡ length (when e) + length (change e 10)
+  length_plain = ap length plain ∙ length-append (when e) (change e 10)
 
   -- with its reason
-  abbrev pub end : List ℕ
-  end = words_of (reason_in c.sight associations e) ++ ascii "\n"
+  module _ (sight : Sight) where
+    abbrev pub end : List ℕ
+    end = words_of (reason_in sight associations e) ++ ascii "\n"
 
-  pub told : c.why ≡ true → column_line c associations e ≡ when e ++ (change e 32 ++ end)
-  unfolding further
-  told h = rw h (halves_and_end e (words_of (reason_in c.sight associations e)))
+    pub told : column_line (Some sight) associations e ≡ when e ++ (change e 32 ++ end)
+    unfolding further
+    told = halves_and_end e (words_of (reason_in sight associations e))
 
-  pub length-told : c.why ≡ true → length (column_line c associations e) ≡ length (when e) + (length (change e 32) + length end)
-  length-told h =
-      ap length (told h)
-      ∙ length-append (when e) (change e 32 ++ end)
-      ∙ ap (λ (n : ℕ). length (when e) + n) (length-append (change e 32) end)
+    pub length-told : length (column_line (Some sight) associations e) ≡ length (when e) + (length (change e 32) + length end)
+    length-told =
+        ap length told
+        ∙ length-append (when e) (change e 32 ++ end)
+        ∙ ap (λ (n : ℕ). length (when e) + n) (length-append (change e 32) end)
 
 -- in any case its first half stands at the front
-pub length_when_first : (c : Column) (associations : List ℕ) (e : Event) → length (when e) ≤ length (column_line c associations e)
-length_when_first c associations e = go c.why refl
-  where
-    go : (b : Bool) → c.why ≡ b → length (when e) ≤ length (column_line c associations e)
-    go true h = omega (arith, length-told c associations e h)
-    go false h = omega (arith, length_plain c associations e h)
+pub length_when_first : (c : Option Sight) (associations : List ℕ) (e : Event) → length (when e) ≤ length (column_line c associations e)
+length_when_first None associations e = omega (arith, length_plain associations e)
+length_when_first (Some sight) associations e = omega (arith, length-told associations e sight)
 
 -- ## The fields of each half, and of a word with its number
 

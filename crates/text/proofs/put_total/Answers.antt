@@ -7,13 +7,13 @@ use Rattle.text.proofs.Lines.{length-total}
 use Rattle.bits.proofs.Puts.{put_then}
 use Rattle.text.proofs.put_total.Goals as goal
 
-pub put_word-next-requires : goal.put_word-next-requires
-put_word-next-requires c =
+pub put_field-next-requires : goal.put_field-next-requires
+put_field-next-requires c =
     let a = c.args in
     omega (arith, length-total a.word.now a.v a.end)
 
-pub put_number-requires : goal.put_number-requires
-put_number-requires c =
+pub put_field-requires : goal.put_field-requires
+put_field-requires c =
     let a = c.args in
     omega (arith, length-total a.word.now a.v a.end)
 
@@ -21,4 +21,4 @@ pub returns : goal.returns
 unfolding total
 returns c =
     let a = c.args in
-    put_then a.out.now _ _ a.at _ _ (a.word.now ++ ascii " ") (decimal a.v ++ (a.end ∷ [])) c.put_word-next.ensures c.put_number.ensures
+    put_then a.out.now _ _ a.at _ _ (a.word.now ++ ascii " ") (decimal a.v ++ (a.end ∷ [])) c.put_field-next.ensures c.put_field.ensures
