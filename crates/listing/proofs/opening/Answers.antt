@@ -8,16 +8,16 @@ pub returns-then-not-has_room : goal.returns-then-not-has_room
 returns-then-not-has_room c =
     let a = c.args in
     let w = full a.out.now a.at _ c.has_room.ensures (opening a.why a.reading.answer) c.if-not-has_room.true in
-    record { value = w.0; out_after = w.1; at_in_bounds = λ h. h }
+    record { value = w.0; out_after = w.1; at_in_bounds = tt }
 
-pub put_opening-next-requires : goal.put_opening-next-requires
-put_opening-next-requires c =
+pub put_opening-requires : goal.put_opening-requires
+put_opening-requires c =
     let a = c.args in
     omega (arith, fits a.out.now a.at _ c.has_room.ensures c.if-not-has_room.false)
 
 pub returns : goal.returns
 returns c =
     let a = c.args in
-    let p = c.put_opening-next.ensures in
+    let p = c.put_opening.ensures in
     let w = whole a.out.now a.at _ c.has_room.ensures (opening a.why a.reading.answer) c.if-not-has_room.false _ _ p.value.0 p.value.1 in
-    record { value = w.0; out_after = w.1; at_in_bounds = λ h. p.upper_bound }
+    record { value = w.0; out_after = w.1; at_in_bounds = p.upper_bound }
