@@ -85,11 +85,7 @@ fn column_of(s: &[u8], run: Run, why: bool) -> Option<Sight>
     requires { NextRow s.now run }
     ensures { result ≡ column_of why s.now run.rows }
 {
-    if why {
-        Some(reasoned::sight_at(s, run))
-    } else {
-        None
-    }
+    why.then(|| reasoned::sight_at(s, run))
 }
 
 // Runs the run's next row, and puts its lines. Most rows have no record, and then there is no column to find. Where the buffer is full, no
