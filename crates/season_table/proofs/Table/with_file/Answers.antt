@@ -10,7 +10,7 @@ returns-then-added-eq0 c =
     let a = c.args in
     let t = a.self in
     let more : ℕ → Table = λ n. record { report = a.added.report; effects = n; recordings = t.recordings + 1; refused = t.refused } in
-    ap more c.larger.ensures ∙ sym (file_added t a.added c.if-added-eq0.true)
+    ap more c.max.ensures ∙ sym (file_added t a.added c.if-added-eq0.true)
 
 pub returns : goal.returns
 returns c =
