@@ -48,26 +48,20 @@ impl Field for u64 {
     }
 }
 
-// The name of a state.
-#[tactic(auto, unfolding(crate::specs::Text::name))]
-fn name_of(p: EffectState) -> &'static [u8]
-    ensures { result.now ≡ name p }
-{
-    match p {
-        EffectState::Tripped => b"tripped",
-        EffectState::WaitReset => b"wait-reset",
-        EffectState::Ready => b"ready",
-        EffectState::WaitStart => b"wait-start",
-        EffectState::Normal => b"normal",
-        EffectState::Delayed => b"delayed",
-    }
-}
-
 impl Field for EffectState {
     ghost text = { λ p. name p };
 
+    // A call for each name: as a value of one function the names take a listing beyond its bar of speed.
+    #[tactic(auto, unfolding(crate::specs::Text::name))]
     fn put(self, out: &mut [u8], at: usize) -> usize {
-        bits::put_text(out, at, name_of(self))
+        match self {
+            EffectState::Tripped => bits::put_text(out, at, b"tripped"),
+            EffectState::WaitReset => bits::put_text(out, at, b"wait-reset"),
+            EffectState::Ready => bits::put_text(out, at, b"ready"),
+            EffectState::WaitStart => bits::put_text(out, at, b"wait-start"),
+            EffectState::Normal => bits::put_text(out, at, b"normal"),
+            EffectState::Delayed => bits::put_text(out, at, b"delayed"),
+        }
     }
 }
 
