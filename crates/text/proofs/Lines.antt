@@ -1,33 +1,18 @@
 -- Laws of lines: the pieces of a line, and the lines that are left in a loop.
-use mathlib.Core.Path.{◌≡◌, refl, sym, ap, ◌∙◌}
-use mathlib.Core.Bool.{Bool, true, false}
+use mathlib.Core.Path.{◌≡◌, sym, ap, ◌∙◌}
 use mathlib.Core.List.{List, [], ◌∷◌, ◌++◌, flat_map, append_assoc}
 use Prim.Native.Nat.{ℕ, ◌+◌, ◌<◌, ◌≤◌}
 use native.Mathlib.Numerals.{add-one}
-use native.Mathlib.Omega.{arith}
 use lib.ListN.{length, drop, get_or, length-append, drop_of_length-le}
 use lib.Seq.{drop-cons}
-use Rattle.std.specs.Prelude.{Option, None, Some}
-use Rattle.bits.specs.Decimal.{ascii, decimal}
+use Rattle.std.specs.Prelude.{None, Some}
+use Rattle.bits.specs.Decimal.{ascii}
 use Rattle.effects.specs.declared.Event.{Event}
 use Rattle.reasons.specs.declared.Sight.{Sight}
 use Rattle.reasons.specs.Reasons.{reason_in}
 use Rattle.wording.specs.Text.{words_of}
-use Rattle.text.specs.Text.{name, header_with, line_with, last_line, refusal_line}
+use Rattle.text.specs.Text.{line_with, last_line, refusal_line}
 use Rattle.text.specs.Pieces.{when, change, further, column_line, total}
-
--- ## The header, in two pieces
-
-abbrev pub columns : List ℕ
-columns = ascii "seq scan effect from to first"
-
-pub header_told : header_with (ascii "reason" ∷ []) ≡ columns ++ ascii " reason\n"
-unfolding header_with
-header_told = refl
-
-pub header_plain : header_with [] ≡ columns ++ ascii "\n"
-unfolding header_with
-header_plain = refl
 
 -- ## The line of a record, in its halves
 
@@ -45,9 +30,6 @@ module _ (associations : List ℕ) (e : Event) where
   unfolding further
   plain = halves e
 
-  pub length_plain : length (column_line None associations e) ≡ length (when e) + length (change e 10)
-  length_plain = ap length plain ∙ length-append (when e) (change e 10)
-
   -- with its reason
   module _ (sight : Sight) where
     abbrev pub end : List ℕ
@@ -56,38 +38,6 @@ module _ (associations : List ℕ) (e : Event) where
     pub told : column_line (Some sight) associations e ≡ when e ++ (change e 32 ++ end)
     unfolding further
     told = halves_and_end e (words_of (reason_in sight associations e))
-
-    pub length-told : length (column_line (Some sight) associations e) ≡ length (when e) + (length (change e 32) + length end)
-    length-told =
-        ap length told
-        ∙ length-append (when e) (change e 32 ++ end)
-        ∙ ap (λ (n : ℕ). length (when e) + n) (length-append (change e 32) end)
-
--- in any case its first half stands at the front
-pub length_when_first : (c : Option Sight) (associations : List ℕ) (e : Event) → length (when e) ≤ length (column_line c associations e)
-length_when_first None associations e = omega (arith, length_plain associations e)
-length_when_first (Some sight) associations e = omega (arith, length-told associations e sight)
-
--- ## The fields of each half, and of a word with its number
-
-module _ (e : Event) where
-  pub length-when : length (when e) ≡ length (decimal e.seq ++ ascii " ") + (length (decimal e.scan ++ ascii " ") + length (decimal e.effect ++ ascii " "))
-  unfolding when
-  length-when =
-      let last = decimal e.effect ++ ascii " " in
-      length-append (decimal e.seq ++ ascii " ") (decimal e.scan ++ ascii " " ++ last)
-      ∙ ap (λ (n : ℕ). length (decimal e.seq ++ ascii " ") + n) (length-append (decimal e.scan ++ ascii " ") last)
-
-  pub length-change : (end : ℕ) → length (change e end) ≡ length (name e.from ++ ascii " ") + (length (name e.to ++ ascii " ") + length (decimal e.first_out ++ (end ∷ [])))
-  unfolding change
-  length-change end =
-      let last = decimal e.first_out ++ (end ∷ []) in
-      length-append (name e.from ++ ascii " ") (name e.to ++ ascii " " ++ last)
-      ∙ ap (λ (n : ℕ). length (name e.from ++ ascii " ") + n) (length-append (name e.to ++ ascii " ") last)
-
-pub length-total : (word : List ℕ) (v end : ℕ) → length (total word v end) ≡ length (word ++ ascii " ") + length (decimal v ++ (end ∷ []))
-unfolding total
-length-total word v end = length-append (word ++ ascii " ") (decimal v ++ (end ∷ []))
 
 -- ## The other lines, in pieces
 

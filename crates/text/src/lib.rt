@@ -84,6 +84,7 @@ pub fn put_field<F: Field>(out: &mut [u8], at: usize, field: F, end: u8) -> usiz
 }
 
 // Puts a word, a space, a number, and the byte behind it.
+#[tactic(auto, unfolding(crate::specs::Pieces::total))]
 pub fn put_total(out: &mut [u8], at: usize, word: &[u8], v: u64, end: u8) -> usize
     requires { at + length (total word.now v end) ≤ length out.old }
     ensures { Puts out.old at (total word.now v end) result out.new }
@@ -95,6 +96,7 @@ pub fn put_total(out: &mut [u8], at: usize, word: &[u8], v: u64, end: u8) -> usi
 // ---- the line of a record
 
 // Puts the sequence number of an event, its scan and its effect, with a space behind each.
+#[tactic(auto, unfolding(crate::specs::Pieces::when))]
 fn put_when(out: &mut [u8], at: usize, e: Event) -> usize
     requires { at + length (when e) ≤ length out.old }
     ensures { Puts out.old at (when e) result out.new }
@@ -105,6 +107,7 @@ fn put_when(out: &mut [u8], at: usize, e: Event) -> usize
 }
 
 // Puts the states and the first-out of an event, and the byte behind it.
+#[tactic(auto, unfolding(crate::specs::Pieces::change))]
 fn put_change(out: &mut [u8], at: usize, e: Event, end: u8) -> usize
     requires { at + length (change e end) ≤ length out.old }
     ensures { Puts out.old at (change e end) result out.new }
@@ -115,6 +118,7 @@ fn put_change(out: &mut [u8], at: usize, e: Event, end: u8) -> usize
 }
 
 // Puts the line of a record, with its reason where a column tells what reasons read of the row.
+#[tactic(auto, unfolding(crate::specs::Pieces::further, crate::specs::Pieces::when, crate::specs::Pieces::change, crate::specs::Text::line_with))]
 fn put_line(
     out: &mut [u8],
     at: usize,
@@ -161,6 +165,7 @@ pub fn put_lines(
 // ---- the other lines
 
 // Puts the header, with a column for reasons or without.
+#[tactic(auto, unfolding(crate::specs::Text::header_with))]
 pub fn put_header(out: &mut [u8], at: usize, why: bool) -> usize
     requires { at + most_piece ≤ length out.old }
     ensures value { Puts out.old at (header_of why) result out.new }

@@ -1,23 +1,10 @@
 -- `text::put_change` meets its contract: three fields, one after the other.
 use mathlib.Core.List.{[], ◌∷◌, ◌++◌}
-use native.Mathlib.Omega.{arith}
 use Rattle.bits.specs.Decimal.{ascii, decimal}
 use Rattle.text.specs.Text.{name}
 use Rattle.text.specs.Pieces.{change}
-use Rattle.text.proofs.Lines.{length-change}
 use Rattle.bits.proofs.Puts.{put_then}
 use Rattle.text.proofs.put_change.Goals as goal
-
-pub put_field-to-requires : goal.put_field-to-requires
-put_field-to-requires c = omega (arith, length-change c.args.e c.args.end)
-
-pub put_field-first-requires : goal.put_field-first-requires
-put_field-first-requires c = let a = c.args in omega (arith, length-change a.e a.end)
-
-pub put_field-requires : goal.put_field-requires
-put_field-requires c =
-    let a = c.args in
-    omega (arith, length-change a.e a.end)
 
 pub returns : goal.returns
 unfolding change

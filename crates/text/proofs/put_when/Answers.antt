@@ -1,21 +1,9 @@
 -- `text::put_when` meets its contract: three fields, one after the other.
 use mathlib.Core.List.{◌++◌}
-use native.Mathlib.Omega.{arith}
 use Rattle.bits.specs.Decimal.{ascii, decimal}
 use Rattle.text.specs.Pieces.{when}
-use Rattle.text.proofs.Lines.{length-when}
 use Rattle.bits.proofs.Puts.{put_then}
 use Rattle.text.proofs.put_when.Goals as goal
-
-pub put_field-scan-requires : goal.put_field-scan-requires
-put_field-scan-requires c = omega (arith, length-when c.args.e)
-
-pub put_field-effect-requires : goal.put_field-effect-requires
-put_field-effect-requires c = omega (arith, length-when c.args.e)
-
-pub put_field-requires : goal.put_field-requires
-put_field-requires c =
-    omega (arith, length-when c.args.e)
 
 pub returns : goal.returns
 unfolding when
