@@ -64,6 +64,7 @@ pub fn put_check(out: &mut [u8], name: &[u8], answer: Answer) -> usize
 // ---- a refusal in words
 
 // What stands between the name and the words of a refusal.
+#[tactic(auto, using(crate::proofs::Front::short_number, crate::proofs::Front::short_place), unfolding(crate::specs::Reports::refused_at))]
 fn put_refused_at(out: &mut [u8], at: usize, number: u8, place: usize) -> usize
     requires { at + most_refused_at ≤ length out.old }
     ensures value { Puts out.old at (refused_at number place) result out.new }
@@ -86,6 +87,7 @@ fn put_why(out: &mut [u8], name: &[u8], number: u8, place: usize, finding: Findi
 }
 
 // What a replay would be refused by, in words.
+#[tactic(auto, using(crate::proofs::Front::explained_accepted, crate::proofs::Front::explained_refused))]
 pub fn put_explained(out: &mut [u8], name: &[u8], e: Explained) -> usize
     requires { Roomy name.now out.old }
     ensures value { PutsFirst out.old (explained_line name.now e) result out.new }

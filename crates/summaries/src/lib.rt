@@ -30,6 +30,7 @@ fn is_quoted(name: &[u8]) -> bool
 }
 
 // A byte of a name, a quote twice.
+#[tactic(auto, using(crate::proofs::Doubled::twice_quote, crate::proofs::Doubled::twice_other))]
 fn put_twice(out: &mut [u8], at: usize, byte: u8) -> usize
     requires { at + 2 ≤ length out.old }
     ensures value { Puts out.old at (twice byte) result out.new }
@@ -67,6 +68,7 @@ fn put_quoted(out: &mut [u8], name: &[u8]) -> usize
 }
 
 // A name as the first field of a line.
+#[tactic(auto, using(crate::proofs::Fields::field_quoted, crate::proofs::Fields::field_plain))]
 fn put_field(out: &mut [u8], name: &[u8]) -> usize
     requires { Roomy name.now out.old }
     ensures value { PutsFirst out.old (field name.now) result out.new }
