@@ -36,6 +36,7 @@ pub fn most_piece() -> usize
 }
 
 // Any piece fits from `at` on in a buffer of n bytes.
+#[tactic(auto, using(crate::proofs::Placing::too_short, crate::proofs::Placing::less_a_piece))]
 pub fn has_room(n: usize, at: usize) -> bool
     ensures { result ≡ has_room n at }
 {
@@ -114,6 +115,7 @@ pub fn row(
     Some(Printed { at: next, turn })
 }
 
+#[tactic(auto, unfolding(crate::specs::Listing::closing))]
 fn put_closing(out: &mut [u8], at: usize, end: Replayed) -> usize
     requires { at + most_piece ≤ length out.old }
     ensures value { Puts out.old at (closing_of end) result out.new }

@@ -34,6 +34,7 @@ pub struct Shown {
 // ---- the table
 
 // Puts the line of an effect: its number, its state, its first-out and its reason.
+#[tactic(auto, using(crate::proofs::Lines::length_fields))]
 fn put_effect(
     out: &mut [u8],
     at: usize,

@@ -39,6 +39,7 @@ impl Table {
     }
 
     // The table with one file more, by the answer to adding it to the report.
+    #[tactic(auto, using(crate::proofs::Theorems::file_added, crate::proofs::Theorems::file_refused))]
     pub fn with_file(self, added: Added) -> Table
         requires { files_of self < most_sum }
         ensures { result ≡ with_file self added }
@@ -86,6 +87,7 @@ fn put_effect(out: &mut [u8], at: usize, sums: &[u64; 113], i: usize) -> usize
 }
 
 // Puts the lines of the first n effects.
+#[tactic(auto, unfolding(crate::specs::Lines::effect_lines))]
 fn put_effects(out: &mut [u8], at: usize, sums: &[u64; 113], n: usize) -> usize
     requires { (n ≤ most_effects) × (at + most_effect_line * n ≤ length out.old) }
     ensures value { Puts out.old at (effect_lines sums.now n) result out.new }

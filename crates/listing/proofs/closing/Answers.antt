@@ -1,7 +1,6 @@
 -- `listing::closing` meets its contract: it puts nothing where the buffer is full, and else the closing.
-use native.Mathlib.Omega.{arith}
 use Rattle.listing.specs.Listing.{closing}
-use Rattle.listing.proofs.Placing.{fits, full, whole}
+use Rattle.listing.proofs.Placing.{full, whole}
 use Rattle.listing.proofs.closing.Goals as goal
 
 pub returns-then-not-has_room : goal.returns-then-not-has_room
@@ -9,11 +8,6 @@ returns-then-not-has_room c =
     let a = c.args in
     let w = full a.out.now a.at _ c.has_room.ensures (closing a.end) c.if-not-has_room.true in
     record { value = w.0; out_after = w.1; at_in_bounds = tt }
-
-pub put_closing-requires : goal.put_closing-requires
-put_closing-requires c =
-    let a = c.args in
-    omega (arith, fits a.out.now a.at _ c.has_room.ensures c.if-not-has_room.false)
 
 pub returns : goal.returns
 returns c =

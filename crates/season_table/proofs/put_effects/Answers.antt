@@ -1,14 +1,9 @@
 -- `season_table::put_effects` meets its contract. The loop's invariant: the lines of the first i effects stand.
-use mathlib.Core.Path.{◌≡◌, refl}
 use native.Mathlib.Omega.{arith}
 use Rattle.bits.proofs.Puts.{put_then}
 use Rattle.season_table.specs.Lines.{effect_line, effect_lines}
 use Rattle.season_table.proofs.Texts.{one_line_more}
 use Rattle.season_table.proofs.put_effects.Goals as goal
-
-pub loop-i-init : goal.loop-i-init
-unfolding effect_lines
-loop-i-init c = (omega arith, (omega arith, refl))
 
 pub loop-i-preserved : goal.loop-i-preserved
 loop-i-preserved c =
