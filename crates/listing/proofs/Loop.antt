@@ -13,9 +13,8 @@ use Rattle.rerun.specs.declared.Run.{Run}
 use Rattle.rerun.specs.Replay.{Outcome, first_rows}
 use Rattle.rerun.specs.Turn.{Going, row_into, RowDone}
 use Rattle.rerun.proofs.Turns as turns
-use Rattle.listing.specs.declared.Printed.{Printed}
 use Rattle.text.specs.Room.{most_piece}
-use Rattle.listing.specs.Printed.{has_room, lines_of_row, row_lines, PrintedRow, Last}
+use Rattle.listing.specs.Printed.{has_room, lines_of_row, row_lines, PrintedPiece, PrintedRow, Last}
 use Rattle.bits.proofs.Puts.{Put}
 
 module _ {s : List ℕ} {run : Run} {array : List ℕ} (g : Going s run array) where
@@ -29,7 +28,7 @@ module _ {s : List ℕ} {run : Run} {array : List ℕ} (g : Going s run array) w
         answer_is = turns.ends_answered g 0 e;
       }
 
-  module _ {at : ℕ} {out : List ℕ} {r : Printed} {array' out' : List ℕ} {why : Bool} (p : PrintedRow why s run at out r array' out') where
+  module _ {at : ℕ} {out : List ℕ} {r : PrintedPiece} {array' out' : List ℕ} {why : Bool} (p : PrintedRow why s run at out r array' out') where
     -- ## The buffer was full: nothing has changed
 
     module _ (h : r.full ≡ true) where

@@ -8,12 +8,12 @@ use borrow.Author.Tests.{leb-true, leb-false, le-leb, lt-leb}
 use lib.Dec.{leb}
 use lib.ListN.{length}
 use lib.Seq.{sets}
+use Rattle.std.specs.Prelude.{Option, None, Some}
 use Rattle.rerun.specs.declared.Run.{Run}
 use Rattle.rerun.specs.Answer.{Turn}
 use Rattle.rerun.specs.Turn.{Going, RowDone}
-use Rattle.listing.specs.declared.Piece.{Piece}
 use Rattle.text.specs.Room.{most_piece}
-use Rattle.listing.specs.Printed.{has_room, placed, written, row_lines, PrintedRow}
+use Rattle.listing.specs.Printed.{has_room, placed, written, place_of, printed_of, row_lines, PrintedRow}
 use Rattle.bits.proofs.Puts.{Put}
 
 -- ## The test
@@ -36,11 +36,11 @@ module _ (out : List ℕ) (at : ℕ) (b : Bool) (is : b ≡ has_room (length out
   fits h = leb-true (at + most_piece) (length out) (sym is ∙ h)
 
   module _ (text : List ℕ) where
-    pub full : b ≡ false → (◌≡◌ {A = Piece} (record { full = true; at = at }) (written (length out) at text)) × (out ≡ placed out at text)
+    pub full : b ≡ false → (◌≡◌ {A = Option ℕ} None (place_of (written (length out) at text))) × (out ≡ placed out at text)
     full h = let e = sym is ∙ h in (rw e, rw e)
 
     pub whole : b ≡ true → (out' : List ℕ) (r : ℕ) → r ≡ at + length text → out' ≡ sets out at text
-        → (◌≡◌ {A = Piece} (record { full = false; at = r }) (written (length out) at text)) × (out' ≡ placed out at text)
+        → (Some r ≡ place_of (written (length out) at text)) × (out' ≡ placed out at text)
     whole h out' r p q = let e = sym is ∙ h in (rw (e, p), rw e q)
 
   -- ## A row
@@ -48,14 +48,14 @@ module _ (out : List ℕ) (at : ℕ) (b : Bool) (is : b ≡ has_room (length out
   module _ {s : List ℕ} {run : Run} {why : Bool} where
     -- where the buffer is full, the row is not run
     pub full_row : {array : List ℕ} → Going s run array → b ≡ false
-        → PrintedRow why s run at out (record { full = true; at = at; turn = record { number = 0; records = 0; run = run } }) array out
+        → PrintedRow why s run at out (printed_of run at None) array out
     full_row g h =
         let e = sym is ∙ h in
         record { full_is = rw e; at-is = rw e; within = λ l. l; text = rw e; number_is = rw e; records_are = rw e; going = g; rows_are = rw e }
 
     -- where there is room, the row is run, and results in u
     pub whole_row : {space space' array' out' : List ℕ} {u : Turn} {r : ℕ} → RowDone s run space u array' space' → b ≡ true
-        → Put out out' at r (row_lines why s run.rows) → r ≤ length out → PrintedRow why s run at out (record { full = false; at = r; turn = u }) array' out'
+        → Put out out' at r (row_lines why s run.rows) → r ≤ length out → PrintedRow why s run at out (printed_of run at (Some (record { at = r; turn = u }))) array' out'
     whole_row d h p l =
         let e = sym is ∙ h in
         record {

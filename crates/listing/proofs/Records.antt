@@ -4,7 +4,7 @@ use mathlib.Core.Bool.{Bool, true, false}
 use mathlib.Core.List.{List, [], ◌∷◌, ◌++◌, flat_map, map}
 use Prim.Native.Nat.{ℕ, zero, suc, ◌+◌, ◌-◌, ◌*◌, ◌≤◌}
 use native.Mathlib.Omega.{arith}
-use lib.Dec.{lit≤}
+use Rattle.std.specs.Prelude.{None, Some, IfSome}
 use lib.ListN.{length, get_or}
 use lib.Seq.{sets, length-sets}
 use Rattle.rules.specs.Limits.{most_effects}
@@ -24,7 +24,7 @@ use Rattle.reasons.specs.declared.Signs.{Signs}
 use Rattle.reasons.specs.Given.{Narrow, signs_in}
 use Rattle.reasons.proofs.Given.{sight_is_narrow}
 use Rattle.reasons.specs.Reasons.{reason_by}
-use Rattle.reasoned.specs.Told.{signs_for, with_reason, row_sight, no_sight}
+use Rattle.reasoned.specs.Told.{signs_for, with_reason, row_sight}
 use Rattle.reasoned.proofs.Rows.{signs_in_array}
 use Rattle.reasoned.proofs.Theorems.{a_row_tells_its_reasons}
 use Rattle.wording.specs.Text.{words_of}
@@ -36,16 +36,16 @@ use Rattle.listing.specs.Printed.{lines_of_row, row_lines, column_of}
 -- ## The column
 
 -- what is read of a row has 16 bits
-pub narrow : (why : Bool) (s : List ℕ) (i : ℕ) → Narrow (column_of why s i).sight
+pub narrow : (why : Bool) (s : List ℕ) (i : ℕ) → IfSome (column_of why s i) Narrow
 narrow true s i = sight_is_narrow (reading s).settings.options (row_of s i).words
-narrow false s i = record { tripped = lit≤ tt; bad = lit≤ tt }
+narrow false s i = tt
 
 -- ## The lines
 
 -- records that are told the same have the same lines
 same_lines : (sight : Sight) (array : List ℕ) (signs : ℕ → Signs) (n : ℕ)
     → ((k : ℕ) → 1 ≤ k → k ≤ n → signs_in sight (get_or array (k - 1) 0) (k - 1) ≡ signs k)
-    → (es : List Event) → Numbered n es → column_lines (record { why = true; sight = sight }) array es ≡ reason_lines (map (with_reason signs) es)
+    → (es : List Event) → Numbered n es → column_lines (Some sight) array es ≡ reason_lines (map (with_reason signs) es)
 unfolding flat_map further
 same_lines sight array signs n same [] h = refl
 same_lines sight array signs n same (e ∷ es) h =
@@ -53,10 +53,10 @@ same_lines sight array signs n same (e ∷ es) h =
     (same e.effect h.0 h.1)
     (same_lines sight array signs n same es h.2)
 
-plain_lines : (sight : Sight) (array : List ℕ) (es : List Event) → column_lines (record { why = false; sight = sight }) array es ≡ lines es
+plain_lines : (array : List ℕ) (es : List Event) → column_lines None array es ≡ lines es
 unfolding flat_map further
-plain_lines sight array [] = refl
-plain_lines sight array (e ∷ es) = ap (λ (l : List ℕ). line_with e [] ++ l) (plain_lines sight array es)
+plain_lines array [] = refl
+plain_lines array (e ∷ es) = ap (λ (l : List ℕ). line_with e [] ++ l) (plain_lines array es)
 
 module _ {s : List ℕ} {run : Run} {array : List ℕ} (g : Going s run array) (i : ℕ) where
   few_numbered : Numbered most_effects (row_run s i).events
@@ -68,7 +68,7 @@ module _ {s : List ℕ} {run : Run} {array : List ℕ} (g : Going s run array) (
       (λ k low high. signs_in_array (reading s).settings run.plan array g.wired (row_of s i).words k low high)
       (row_run s i).events few_numbered
       ∙ ap reason_lines (sym (a_row_tells_its_reasons s i))
-  lines_are false = plain_lines no_sight array (row_run s i).events
+  lines_are false = plain_lines array (row_run s i).events
 
   -- the records of the row, if it was not refused
   left_in : (why : Bool) (n : ℕ) (space : List ℕ) → let es = (row_run s i).events in

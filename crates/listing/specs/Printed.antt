@@ -1,7 +1,7 @@
 -- A listing piece by piece, as the code gives it, with a column for reasons (why) or without: the opening, the lines of each row, and the
 -- closing, each at a place of a lent buffer. Where fewer bytes are left than a piece may take, the buffer is full: nothing is written, and
 -- the caller goes on with more room. The pieces together are the listing of document 01, "One session, whole", or of document 02, L4.
-use Rattle.std.specs.Prelude.{ℕ, zero, suc, ◌+◌, ◌≤◌, ◌≡◌, Bool, true, false, not, cond, List, [], ◌++◌, leb, length}
+use Rattle.std.specs.Prelude.{ℕ, zero, suc, ◌+◌, ◌≤◌, ◌≡◌, Bool, true, false, not, cond, Option, None, Some, List, [], ◌++◌, leb, length}
 use Rattle.std.proofs.lemmas.List.Edits.{sets}
 use Rattle.settings.specs.Refusals.{granted}
 use Rattle.recording.specs.Answer.{Answer}
@@ -10,13 +10,12 @@ use Rattle.recording.specs.Reader.{reading}
 use Rattle.rerun.specs.declared.Run.{Run}
 use Rattle.rerun.specs.Answer.{Turn}
 use Rattle.rerun.specs.Replay.{replay, answered, first_rows, row_run}
+use Rattle.reasons.specs.declared.Sight.{Sight}
 use Rattle.reasoned.specs.Reasoned.{reasoned, reasoned_row}
-use Rattle.reasoned.specs.Told.{row_sight, no_sight}
+use Rattle.reasoned.specs.Told.{row_sight}
 use Rattle.rerun.specs.Turn.{Going, records_of, answer_of}
-use Rattle.listing.specs.declared.Piece.{Piece}
 use Rattle.listing.specs.declared.Printed.{Printed}
 use Rattle.text.specs.Room.{most_piece}
-use Rattle.text.specs.declared.Column.{Column}
 use Rattle.text.specs.Pieces.{header_of}
 use Rattle.text.specs.Text.{lines, refusal_line}
 use Rattle.listing.specs.Listing.{listed_as}
@@ -51,9 +50,9 @@ abbrev pub rows_lines : (why : Bool) → List ℕ → (n : ℕ) → List ℕ
 rows_lines why s zero = []
 rows_lines why s (suc n) = rows_lines why s n ++ row_lines why s n
 
--- what stands behind the first-out in the lines of row i
-abbrev pub column_of : (why : Bool) → List ℕ → (i : ℕ) → Column
-column_of why s i = record { why = why; sight = cond why (row_sight s i) no_sight }
+-- what stands behind the first-out in the lines of row i: nothing, or reasons by what they read of it
+abbrev pub column_of : (why : Bool) → List ℕ → (i : ℕ) → Option Sight
+column_of why s i = cond why (Some (row_sight s i)) None
 
 -- ## A piece at a place
 
@@ -66,11 +65,30 @@ abbrev pub placed : List ℕ → ℕ → List ℕ → List ℕ
 placed out at text = cond (has_room (length out) at) (sets out at text) out
 
 -- the answer for a piece: whether the buffer was full, and the place after the piece
+pub record Piece : Type 0 where
+  pub full : Bool
+  pub at : ℕ
+
 abbrev pub written : (n at : ℕ) → List ℕ → Piece
 written n at text = cond (has_room n at) (record { full = false; at = at + length text }) (record { full = true; at = at })
 
+-- as the code answers it: that place, or none where the buffer was full
+abbrev pub place_of : Piece → Option ℕ
+place_of p = cond p.full None (Some p.at)
+
+-- the answer for a row: whether the buffer was full, the place after the row's lines, and the row's turn
+pub record PrintedPiece : Type 0 where
+  pub full : Bool
+  pub at : ℕ
+  pub turn : Turn
+
+-- as the code answers it, from a run and a place: where the buffer was full, none, and both are as they were
+abbrev pub printed_of : Run → (at : ℕ) → Option Printed → PrintedPiece
+printed_of run at None = record { full = true; at = at; turn = record { number = 0; records = 0; run = run } }
+printed_of run at (Some p) = record { full = false; at = p.at; turn = p.turn }
+
 -- the lines of a row at a place, and what the row results in. If the buffer was full, the row was not run
-pub record PrintedRow (why : Bool) (s : List ℕ) (run : Run) (at : ℕ) (out : List ℕ) (r : Printed) (array' out' : List ℕ) : Type 0 where
+pub record PrintedRow (why : Bool) (s : List ℕ) (run : Run) (at : ℕ) (out : List ℕ) (r : PrintedPiece) (array' out' : List ℕ) : Type 0 where
   pub full_is : r.full ≡ not (has_room (length out) at)
   pub at-is : r.at ≡ cond (has_room (length out) at) (at + length (row_lines why s run.rows)) at
   pub within : at ≤ length out → r.at ≤ length out

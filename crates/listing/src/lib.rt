@@ -5,33 +5,23 @@
 // without moving a contract; the text is specs/Text of `text`, and when a buffer is full is part of every contract.
 #![tactic(auto)]
 
-ghost use Rattle.std.specs.Prelude.{◌≡◌, ◌+◌, ◌<◌, ◌≤◌, length};
-ghost use Rattle.std.proofs.lemmas.List.Edits.{sets};
+ghost use Rattle.std.specs.Prelude.{◌≡◌, ◌+◌, ◌<◌, ◌≤◌, length, IfSome};
 ghost use Rattle.recording.specs.Answers.{row_count_of};
 ghost use Rattle.recording.specs.Reader.{reading as reading_of};
 ghost use Rattle.rerun.specs.Turn.{Going};
+ghost use Rattle.wording.specs.Puts.{Puts};
 ghost use Rattle.text.specs.Room.{most_piece};
 ghost use Rattle.listing.specs.Listing.{closing as closing_of};
 ghost use Rattle.reasoned.specs.Told.{NextRow};
-ghost use Rattle.listing.specs.Printed.{opening as opening_of, column_of, has_room, placed, written, PrintedRow};
+ghost use Rattle.listing.specs.Printed.{opening as opening_of, column_of, has_room, placed, written, place_of, printed_of, PrintedRow};
 
 use reasons::Sight;
 use recording::{Answer, Reading};
 use rerun::{Replayed, Run, Turn};
-use rules::Seen;
-use text::Column;
 
-// Whether the buffer was full, and the place after the piece.
-#[derive(Clone, Copy)]
-pub struct Piece {
-    pub full: bool,
-    pub at: usize,
-}
-
-// Whether the buffer was full, the place after a row's lines, and the row's turn. Where the buffer was full, no row was run.
+// The place after a row's lines, and the row's turn.
 #[derive(Clone, Copy)]
 pub struct Printed {
-    pub full: bool,
     pub at: usize,
     pub turn: Turn,
 }
@@ -46,6 +36,7 @@ pub fn most_piece() -> usize
 }
 
 // Any piece fits from `at` on in a buffer of n bytes.
+#[tactic(auto, using(crate::proofs::Placing::too_short, crate::proofs::Placing::less_a_piece))]
 pub fn has_room(n: usize, at: usize) -> bool
     ensures { result ≡ has_room n at }
 {
@@ -57,7 +48,7 @@ pub fn has_room(n: usize, at: usize) -> bool
 
 fn put_opening(out: &mut [u8], at: usize, answer: Answer, why: bool) -> usize
     requires { at + most_piece ≤ length out.old }
-    ensures value { (result ≡ at + length (opening_of why answer)) × (out.new ≡ sets out.old at (opening_of why answer)) }
+    ensures value { Puts out.old at (opening_of why answer) result out.new }
     ensures upper_bound { result ≤ length out.old }
 {
     match answer {
@@ -77,47 +68,29 @@ fn put_opening(out: &mut [u8], at: usize, answer: Answer, why: bool) -> usize
 }
 
 // The opening of a listing, from the reader's answer: the header; or, for a refused file, the line of the refusal, which is then the whole
-// listing. Refusal number 0 refuses nothing.
-pub fn opening(reading: Reading, out: &mut [u8], at: usize, why: bool) -> Piece
-    ensures value { result ≡ written (length out.old) at (opening_of why reading.answer) }
+// listing. Refusal number 0 refuses nothing. The place after it; none where the buffer is full.
+pub fn opening(reading: Reading, out: &mut [u8], at: usize, why: bool) -> Option<usize>
+    ensures value { result ≡ place_of (written (length out.old) at (opening_of why reading.answer)) }
     ensures out_after { out.new ≡ placed out.old at (opening_of why reading.answer) }
-    ensures at_in_bounds { at ≤ length out.old → result.at ≤ length out.old }
+    ensures at_in_bounds { IfSome result (λ r. r ≤ length out.old) }
 {
     let answer = reading.answer;
     if !has_room(out.len(), at) {
-        return Piece { full: true, at: at };
+        return None;
     }
-    let next = put_opening(out, at, answer, why);
-    Piece {
-        full: false,
-        at: next,
-    }
+    Some(put_opening(out, at, answer, why))
 }
 
-// What stands behind the first-out in the lines of the row at the run's place. Without reasons the row is not read.
-fn column_of(s: &[u8], run: Run, why: bool) -> Column
+// What reasons read of the row at the run's place. Without reasons the row is not read.
+fn column_of(s: &[u8], run: Run, why: bool) -> Option<Sight>
     requires { NextRow s.now run }
     ensures { result ≡ column_of why s.now run.rows }
 {
-    if why {
-        return Column {
-            why: true,
-            sight: reasoned::sight_at(s, run),
-        };
-    }
-    let none = Seen { tripped: 0, bad: 0 };
-    let sight = Sight {
-        trip: 0,
-        normal: 0,
-        seen: none,
-    };
-    Column {
-        why: false,
-        sight: sight,
-    }
+    why.then(|| reasoned::sight_at(s, run))
 }
 
-// Runs the run's next row, and puts its lines. Most rows have no record, and then there is no column to find.
+// Runs the run's next row, and puts its lines. Most rows have no record, and then there is no column to find. Where the buffer is full, no
+// row is run.
 pub fn row(
     s: &[u8],
     run: Run,
@@ -125,43 +98,27 @@ pub fn row(
     out: &mut [u8],
     at: usize,
     why: bool,
-) -> Printed
+) -> Option<Printed>
     requires { Going s.now run board.old × (run.rows < row_count_of (reading_of s.now).answer) }
-    ensures { PrintedRow why s.now run at out.old result board.new out.new }
+    ensures { PrintedRow why s.now run at out.old (printed_of run at result) board.new out.new }
 {
     if !has_room(out.len(), at) {
-        let turn = Turn {
-            number: 0,
-            records: 0,
-            run: run,
-        };
-        return Printed {
-            full: true,
-            at: at,
-            turn: turn,
-        };
+        return None;
     }
     let mut records = [0u8; effects::MOST_ROW_BYTES];
     let turn = rerun::row(s, run, board, &mut records);
     if turn.records == 0 {
-        return Printed {
-            full: false,
-            at: at,
-            turn: turn,
-        };
+        return Some(Printed { at, turn });
     }
     let column = column_of(s, run, why);
     let next = text::put_lines(out, at, &records, turn.records, column, board);
-    Printed {
-        full: false,
-        at: next,
-        turn: turn,
-    }
+    Some(Printed { at: next, turn })
 }
 
+#[tactic(auto, unfolding(crate::specs::Listing::closing))]
 fn put_closing(out: &mut [u8], at: usize, end: Replayed) -> usize
     requires { at + most_piece ≤ length out.old }
-    ensures value { (result ≡ at + length (closing_of end)) × (out.new ≡ sets out.old at (closing_of end)) }
+    ensures value { Puts out.old at (closing_of end) result out.new }
     ensures upper_bound { result ≤ length out.old }
 {
     if end.number == 0 {
@@ -171,18 +128,15 @@ fn put_closing(out: &mut [u8], at: usize, end: Replayed) -> usize
     }
 }
 
-// The closing of a listing, from the answer of the replay: the last line, or the line of a refusal.
-pub fn closing(end: Replayed, out: &mut [u8], at: usize) -> Piece
-    ensures value { result ≡ written (length out.old) at (closing_of end) }
+// The closing of a listing, from the answer of the replay: the last line, or the line of a refusal. The place after it; none where the
+// buffer is full.
+pub fn closing(end: Replayed, out: &mut [u8], at: usize) -> Option<usize>
+    ensures value { result ≡ place_of (written (length out.old) at (closing_of end)) }
     ensures out_after { out.new ≡ placed out.old at (closing_of end) }
-    ensures at_in_bounds { at ≤ length out.old → result.at ≤ length out.old }
+    ensures at_in_bounds { IfSome result (λ r. r ≤ length out.old) }
 {
     if !has_room(out.len(), at) {
-        return Piece { full: true, at: at };
+        return None;
     }
-    let next = put_closing(out, at, end);
-    Piece {
-        full: false,
-        at: next,
-    }
+    Some(put_closing(out, at, end))
 }

@@ -12,6 +12,7 @@ ghost use Rattle.recording.specs.Reader.{reading as reading_of};
 ghost use Rattle.rerun.specs.Replay.{replay};
 ghost use Rattle.reasons.specs.Given.{Narrow};
 ghost use Rattle.standing.specs.Stands.{Stands};
+ghost use Rattle.wording.specs.Puts.{Puts, PutsFirst};
 ghost use Rattle.text.specs.Room.{most_piece};
 ghost use Rattle.text.specs.Text.{refusal_line};
 ghost use Rattle.now_table.specs.Now.{now_header, now_line};
@@ -33,6 +34,7 @@ pub struct Shown {
 // ---- the table
 
 // Puts the line of an effect: its number, its state, its first-out and its reason.
+#[tactic(auto, using(crate::proofs::Lines::length_fields))]
 fn put_effect(
     out: &mut [u8],
     at: usize,
@@ -42,15 +44,15 @@ fn put_effect(
     r: Reason,
 ) -> usize
     requires { at + length (now_line n p first_out r) ≤ length out.old }
-    ensures { (result ≡ at + length (now_line n p first_out r)) × (out.new ≡ sets out.old at (now_line n p first_out r)) }
+    ensures { Puts out.old at (now_line n p first_out r) result out.new }
 {
-    let state = text::put_number(out, at, n as u64, b' ');
-    let first = text::put_state(out, state, p);
-    let reason = text::put_number(out, first, first_out as u64, b' ');
-    text::put_end(out, reason, r)
+    let state = text::put_field(out, at, n as u64, b' ');
+    let first = text::put_field(out, state, p, b' ');
+    let reason = text::put_field(out, first, first_out as u64, b' ');
+    text::put_field(out, reason, r, b'\n')
 }
 
-// The slot of effect i, from 0, after the last scan.
+// The slot of effect i, from 0, after the last scan. The call says that its numbers fit their types, which an index does not.
 fn slot_now(x: Standing, i: usize) -> Slot
     requires { i < most_effects }
     ensures { result ≡ get_or x.to i no_slot }
@@ -62,18 +64,15 @@ fn slot_now(x: Standing, i: usize) -> Slot
 // Puts the lines of all effects.
 fn put_effects(out: &mut [u8], at: usize, st: Settings, x: Standing) -> usize
     requires { (st.count ≤ most_effects) × Narrow x.sight × (at + most_now_lines ≤ length out.old) }
-    ensures value { (result ≡ at + length (standing_lines st x st.count)) × (out.new ≡ sets out.old at (standing_lines st x st.count)) }
+    ensures value { Puts out.old at (standing_lines st x st.count) result out.new }
     ensures upper_bound { result ≤ length out.old }
 {
     let count = st.count as usize;
     let mut next = at;
-    let mut i: usize = 0;
-    while i < count {
+    for i in 0..count {
         let reason = standing::reason_now(st, x, i);
         let slot = slot_now(x, i);
-        let p = slot.state;
-        next = put_effect(out, next, i + 1, p, slot.first_out, reason);
-        i += 1;
+        next = put_effect(out, next, i + 1, slot.state, slot.first_out, reason);
     }
     next
 }
@@ -81,7 +80,7 @@ fn put_effects(out: &mut [u8], at: usize, st: Settings, x: Standing) -> usize
 // Puts the whole table at the front.
 fn put_table(out: &mut [u8], st: Settings, x: Standing) -> usize
     requires { (st.count ≤ most_effects) × Narrow x.sight × (most_piece ≤ length out.old) }
-    ensures value { (result ≡ length (standing_table st x)) × (out.new ≡ sets out.old 0 (standing_table st x)) }
+    ensures value { PutsFirst out.old (standing_table st x) result out.new }
     ensures upper_bound { result ≤ length out.old }
 {
     let first = bits::put_text(out, 0, b"effect state first reason\n");

@@ -7,6 +7,7 @@ use native.Mathlib.Omega.{arith}
 use borrow.Author.Tests.{le-leb, not-true}
 use lib.ListN.{length, take, drop, length-append}
 use lib.Seq.{sets, sets-eq, take_at, drop_at, take-append_seam, length-take-le}
+use Rattle.std.specs.Prelude.{Option, Some, unwrap_or}
 use Rattle.recording.specs.Answer.{Answer}
 use Rattle.recording.specs.Answer.{Refused}
 use Rattle.recording.specs.Reader.{reading}
@@ -17,10 +18,8 @@ use Rattle.rerun.specs.Turn.{answer_of}
 use Rattle.rerun.specs.Replay.{Outcome, replay}
 use Rattle.rerun.proofs.Files.{refused_replay}
 use Rattle.text.specs.Room.{most_piece}
-use Rattle.listing.specs.declared.Piece.{Piece}
-use Rattle.listing.specs.declared.Printed.{Printed}
 use Rattle.listing.specs.Listing.{closing}
-use Rattle.listing.specs.Printed.{listing_of, opening, written, placed}
+use Rattle.listing.specs.Printed.{listing_of, opening, written, place_of, placed, PrintedPiece}
 use Rattle.listing.proofs.Theorems.{pieces_are_the_listing}
 use Rattle.printing.specs.declared.sending.Sent.{Sent}
 use Rattle.printing.specs.declared.Ending.{Ending}
@@ -37,16 +36,19 @@ front_grows out text at h =
     let l : length (take at out ++ text) ≡ at + length text = length-append (take at out) text ∙ ap (λ (n : ℕ). n + length text) (length-take-le at out (omega (arith, h))) in
     ap (take (at + length text)) (sets-eq text out at h) ∙ take_at (take at out ++ text) (drop (at + length text) out) (at + length text) l
 
-pub piece_put : (out text : List ℕ) (at : ℕ) → at + most_piece ≤ length out → {r : Piece} {out' : List ℕ}
-    → r ≡ written (length out) at text → out' ≡ placed out at text → r.at ≤ length out → take r.at out' ≡ take at out ++ text
+-- where it fits, there is a place after it
+pub piece_fits : (n at : ℕ) (text : List ℕ) → at + most_piece ≤ n → place_of (written n at text) ≡ Some (at + length text)
+piece_fits n at text room = rw (le-leb (at + most_piece) n room)
+
+pub piece_put : (out text : List ℕ) (at : ℕ) → at + most_piece ≤ length out → {r : ℕ} {out' : List ℕ}
+    → Some r ≡ place_of (written (length out) at text) → out' ≡ placed out at text → r ≤ length out → take r out' ≡ take at out ++ text
 piece_put out text at room {r} {out'} e f within =
-    let fits = le-leb (at + most_piece) (length out) room in
-    let place : r.at ≡ at + length text = ap (λ (p : Piece). p.at) (rw fits at e) in
-    rw (place, rw fits at f) (front_grows out text at (omega (arith, place, within)))
+    let place : r ≡ at + length text = ap (λ (o : Option ℕ). unwrap_or o at) (e ∙ piece_fits (length out) at text room) in
+    rw (place, rw (le-leb (at + most_piece) (length out) room) at f) (front_grows out text at (omega (arith, place, within)))
 
 -- the opening at the front
-pub opening_put : (why : Bool) (s out : List ℕ) (a : Answer) → most_piece ≤ length out → {r : Piece} {out' : List ℕ}
-    → r ≡ written (length out) 0 (opening why a) → out' ≡ placed out 0 (opening why a) → r.at ≤ length out → (reading s).answer ≡ a → take r.at out' ≡ opening why (reading s).answer
+pub opening_put : (why : Bool) (s out : List ℕ) (a : Answer) → most_piece ≤ length out → {r : ℕ} {out' : List ℕ}
+    → Some r ≡ place_of (written (length out) 0 (opening why a)) → out' ≡ placed out 0 (opening why a) → r ≤ length out → (reading s).answer ≡ a → take r out' ≡ opening why (reading s).answer
 opening_put why s out a room e f within is = piece_put out (opening why a) 0 (omega (arith, room)) e f within ∙ ap (opening why) (sym is)
 
 -- ## What waits
@@ -99,7 +101,7 @@ module _ {why : Bool} {s : List ℕ} {sent : Sent} {text front : List ℕ} (w : 
         }
 
 -- a buffer that was filled
-pub filled : {why : Bool} {s : List ℕ} {sent : Sent} {run : Run} {at : ℕ} {out : List ℕ} {r : Printed} {array' out' : List ℕ} → Waiting why s sent (take at out) (so_far why s run.rows)
+pub filled : {why : Bool} {s : List ℕ} {sent : Sent} {run : Run} {at : ℕ} {out : List ℕ} {r : PrintedPiece} {array' out' : List ℕ} → Waiting why s sent (take at out) (so_far why s run.rows)
     → Filled why s run at out r array' out' → Waiting why s sent (take r.at out') (so_far why s r.turn.run.rows)
 filled {why} {s} {sent} w f = record { written = w.written; within = w.within; joined = f.text (take sent.gone (listing_of why s)) w.joined }
 

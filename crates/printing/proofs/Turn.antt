@@ -12,9 +12,8 @@ use Rattle.recording.specs.Answers.{row_count_of}
 use Rattle.recording.specs.Reader.{reading}
 use Rattle.rerun.specs.declared.Run.{Run}
 use Rattle.rerun.specs.Turn.{Going}
-use Rattle.listing.specs.declared.Printed.{Printed}
 use Rattle.text.specs.Room.{most_piece}
-use Rattle.listing.specs.Printed.{listing_of, opening, row_lines, rows_lines, PrintedRow, Last}
+use Rattle.listing.specs.Printed.{listing_of, opening, row_lines, rows_lines, PrintedPiece, PrintedRow, Last}
 use Rattle.bits.proofs.Puts.{Put}
 use Rattle.listing.proofs.Loop as loop
 use Rattle.printing.specs.declared.sending.Sent.{Sent}
@@ -59,7 +58,7 @@ module _ {why : Bool} {s : List ℕ} {start : Run} {from : ℕ} {out₀ : List �
   pub more_left : run.rows < run.row_count → run.rows < row_count_of (reading s).answer
   more_left l = omega (arith, l, g.many)
 
-  module _ (l : run.rows < run.row_count) {p : Printed} {array' out' : List ℕ} (r : PrintedRow why s run at out p array' out') where
+  module _ (l : run.rows < run.row_count) {p : PrintedPiece} {array' out' : List ℕ} (r : PrintedRow why s run at out p array' out') where
     more : run.rows < row_count_of (reading s).answer
     more = more_left l
 
@@ -147,11 +146,11 @@ module _ {why : Bool} {s : List ℕ} {start : Run} {from : ℕ} {out₀ : List �
 -- ## Buffer after buffer
 
 -- a number that falls with each: the rows that are left, and one more while the buffer is full
-abbrev pub left : List ℕ → Printed → ℕ
+abbrev pub left : List ℕ → PrintedPiece → ℕ
 left s p = row_count_of (reading s).answer - p.turn.run.rows + cond p.full 1 0
 
 -- what the loop over buffers of n bytes has: the buffer that was filled last waits
-pub record Poured (why : Bool) (n : ℕ) (s : List ℕ) (sent : Sent) (p : Printed) (array out : List ℕ) : Type 0 where
+pub record Poured (why : Bool) (n : ℕ) (s : List ℕ) (sent : Sent) (p : PrintedPiece) (array out : List ℕ) : Type 0 where
   pub going : Going s p.turn.run array
   pub buffer : Buffer n
   pub long : length out ≡ n
@@ -161,7 +160,7 @@ pub record Poured (why : Bool) (n : ℕ) (s : List ℕ) (sent : Sent) (p : Print
   pub small : sent.gone + most_buffer * left s p ≤ most_buffer * (row_count_of (reading s).answer + 1)
   pub last : p.full ≡ false → Last s p.turn
 
-pub falls : {why : Bool} {s : List ℕ} (p : Printed) {out : List ℕ} {r : Printed} {array' out' : List ℕ} → p.full ≡ true → most_piece ≤ length out
+pub falls : {why : Bool} {s : List ℕ} (p : PrintedPiece) {out : List ℕ} {r : PrintedPiece} {array' out' : List ℕ} → p.full ≡ true → most_piece ≤ length out
     → Filled why s p.turn.run 0 out r array' out' → left s r < left s p
 falls {s = s} p {out} {r} h room f = rw h (go r.full refl)
   where
@@ -170,14 +169,14 @@ falls {s = s} p {out} {r} h room f = rw h (go r.full refl)
     go false e = omega (arith, f.kept)
 
 -- nothing has gone
-pub at_first : (s : List ℕ) (p : Printed) {gone : ℕ} → gone ≡ 0 → gone + most_buffer * left s p ≤ most_buffer * (row_count_of (reading s).answer + 1)
+pub at_first : (s : List ℕ) (p : PrintedPiece) {gone : ℕ} → gone ≡ 0 → gone + most_buffer * left s p ≤ most_buffer * (row_count_of (reading s).answer + 1)
 at_first s p {gone} e = go p.full
   where
     go : (b : Bool) → gone + most_buffer * (row_count_of (reading s).answer - p.turn.run.rows + cond b 1 0) ≤ most_buffer * (row_count_of (reading s).answer + 1)
     go true = omega (arith, e)
     go false = omega (arith, e)
 
-module _ {why : Bool} {n : ℕ} {s : List ℕ} {sent : Sent} {p : Printed} {array out : List ℕ} (i : Poured why n s sent p array out) where
+module _ {why : Bool} {n : ℕ} {s : List ℕ} {sent : Sent} {p : PrintedPiece} {array out : List ℕ} (i : Poured why n s sent p array out) where
   pub rest_follows : so_far why s p.turn.run.rows ++ after why s i.going.accepted p.turn.run.rows ≡ listing_of why s
   rest_follows = so_far_is_a_front why s i.going.accepted p.turn.run.rows i.going.counted
 
@@ -192,6 +191,6 @@ module _ {why : Bool} {n : ℕ} {s : List ℕ} {sent : Sent} {p : Printed} {arra
   counts = omega (arith, counted, waiting_length)
 
   -- and once the next buffer is filled
-  pub later : p.full ≡ true → {gone : ℕ} → gone ≡ sent.gone + length (take p.at out) → {q : Printed} {array' out' : List ℕ} → Filled why s p.turn.run 0 out q array' out'
+  pub later : p.full ≡ true → {gone : ℕ} → gone ≡ sent.gone + length (take p.at out) → {q : PrintedPiece} {array' out' : List ℕ} → Filled why s p.turn.run 0 out q array' out'
       → gone + most_buffer * left s q ≤ most_buffer * (row_count_of (reading s).answer + 1)
   later full e f = omega (arith, i.small, i.within, i.long, i.buffer.small, e, waiting_length, falls p full (omega (arith, i.long, i.buffer.roomy)) f)

@@ -11,7 +11,7 @@ ghost use Rattle.text.specs.Room.{most_piece};
 ghost use Rattle.rerun.specs.Turn.{Going};
 ghost use Rattle.rerun.specs.Replay.{replay};
 ghost use Rattle.listing.specs.Printed.{listing_of};
-ghost use Rattle.printing.specs.Filled.{so_far, Filled};
+ghost use Rattle.printing.specs.Filled.{so_far, filled_of, Filled};
 ghost use Rattle.printing.specs.Status.{status as status_of, Told};
 ghost use Rattle.printing.specs.Waiting.{Buffer, most_gone, Waiting, Closes};
 
@@ -23,6 +23,12 @@ use std::io::{Error, Write};
 
 // ---- the text
 
+// How far a buffer was filled: it is full, and the run has a row left for the next one; or no row is left, and what the last one resulted in.
+enum Progress {
+    Full { at: usize, run: Run },
+    Last(Printed),
+}
+
 // Puts the lines of rows, from the one that the run has reached: all that are left, up to a refused one, or as many as fit.
 fn fill(
     s: &[u8],
@@ -31,20 +37,19 @@ fn fill(
     out: &mut [u8],
     from: usize,
     why: bool,
-) -> Printed
+) -> Progress
     requires { Going s.now run board.old }
-    ensures { Filled why s.now run from out.old result board.new out.new }
+    ensures { Filled why s.now run from out.old (filled_of result) board.new out.new }
 {
     let mut t = run;
     let mut at = from;
     while t.rows < t.row_count {
-        let p = listing::row(s, t, board, out, at, why);
-        if p.full {
-            return p;
-        }
+        let Some(p) = listing::row(s, t, board, out, at, why) else {
+            return Progress::Full { at, run: t };
+        };
         let turn = p.turn;
         if turn.number != 0 {
-            return p;
+            return Progress::Last(p);
         }
         let next = turn.run;
         t = next;
@@ -55,11 +60,7 @@ fn fill(
         records: 0,
         run: t,
     };
-    Printed {
-        full: false,
-        at: at,
-        turn: turn,
-    }
+    Progress::Last(Printed { at, turn })
 }
 
 // ---- the output
@@ -135,8 +136,8 @@ fn write_closing<W: Write>(
     ensures handed { result.sent.good ≡ true → Appends (W.contents output.old) (W.contents output.new) (drop sent.gone (listing_of why s.now)) }
 {
     let end = rerun::answer_of(turn);
-    let w = listing::closing(end, out, at);
-    write_rest(output, s, why, sent, out, w.at, turn.number)
+    let to = listing::closing(end, out, at).unwrap();
+    write_rest(output, s, why, sent, out, to, turn.number)
 }
 
 // The same from any place: where the closing may not fit, what waits is written first.
@@ -180,19 +181,22 @@ fn print_rows<W: Write>(
     ensures handed { result.sent.good ≡ true → Appends (W.contents output.old) (W.contents output.new) (listing_of why s.now) }
 {
     let mut sent = sending::nothing();
-    let mut p = fill(s, run, board, out, from, why);
-    while p.full {
-        let turn = p.turn;
-        let at = p.at;
-        sent = sending::flush(output, s, why, sent, &out[..at]);
-        if !sending::written(sent) {
-            return ending_of(sent, 0);
+    let mut filled = fill(s, run, board, out, from, why);
+    loop {
+        match filled {
+            Progress::Full { at, run: next } => {
+                sent = sending::flush(output, s, why, sent, &out[..at]);
+                if !sending::written(sent) {
+                    return ending_of(sent, 0);
+                }
+                filled = fill(s, next, board, out, 0, why);
+            }
+            Progress::Last(p) => {
+                let turn = p.turn;
+                return print_closing(output, s, why, sent, turn, out, p.at);
+            }
         }
-        let next = turn.run;
-        p = fill(s, next, board, out, 0, why);
     }
-    let turn = p.turn;
-    print_closing(output, s, why, sent, turn, out, p.at)
 }
 
 // Prints the listing of a recording, with reasons if `why` asks for them, by way of the lent buffer, and answers how it ended. Where all was
@@ -203,8 +207,7 @@ pub fn print<W: Write>(output: &mut W, s: &[u8], why: bool, out: &mut [u8]) -> E
     ensures handed { result.sent.good ≡ true → Appends (W.contents output.old) (W.contents output.new) (listing_of why s.now) }
 {
     let reading = recording::read(s);
-    let opened = listing::opening(reading, out, 0, why);
-    let at = opened.at;
+    let at = listing::opening(reading, out, 0, why).unwrap();
     let st = reading.settings;
     let answer = reading.answer;
     match answer {

@@ -5,7 +5,7 @@
 #![tactic(auto)]
 
 ghost use Rattle.std.specs.Prelude.{◌≡◌, ◌+◌, ◌≤◌, length};
-ghost use Rattle.std.proofs.lemmas.List.Edits.{sets};
+ghost use Rattle.wording.specs.Puts.{Puts, PutsFirst};
 ghost use Rattle.reports.specs.Reports.{heading, accepted_line, refused_line, check_line, refused_at, refused_why, explained_line, most_refused_at, Roomy};
 
 use findings::{Explained, Finding};
@@ -16,7 +16,7 @@ use recording::Answer;
 // The line above a listing, for several files.
 pub fn put_heading(out: &mut [u8], name: &[u8]) -> usize
     requires { Roomy name.now out.old }
-    ensures value { (result ≡ length (heading name.now)) × (out.new ≡ sets out.old 0 (heading name.now)) }
+    ensures value { PutsFirst out.old (heading name.now) result out.new }
     ensures upper_bound { result ≤ length out.new }
 {
     let from = bits::put_text(out, 0, b"== ");
@@ -26,7 +26,7 @@ pub fn put_heading(out: &mut [u8], name: &[u8]) -> usize
 
 fn put_accepted(out: &mut [u8], name: &[u8], rows: u16) -> usize
     requires { Roomy name.now out.old }
-    ensures value { (result ≡ length (accepted_line name.now rows)) × (out.new ≡ sets out.old 0 (accepted_line name.now rows)) }
+    ensures value { PutsFirst out.old (accepted_line name.now rows) result out.new }
     ensures upper_bound { result ≤ length out.new }
 {
     let word = bits::put_text(out, 0, name);
@@ -37,7 +37,7 @@ fn put_accepted(out: &mut [u8], name: &[u8], rows: u16) -> usize
 
 fn put_refused(out: &mut [u8], name: &[u8], number: u8, place: usize) -> usize
     requires { Roomy name.now out.old }
-    ensures value { (result ≡ length (refused_line name.now number place)) × (out.new ≡ sets out.old 0 (refused_line name.now number place)) }
+    ensures value { PutsFirst out.old (refused_line name.now number place) result out.new }
     ensures upper_bound { result ≤ length out.new }
 {
     let colon = bits::put_text(out, 0, name);
@@ -48,7 +48,7 @@ fn put_refused(out: &mut [u8], name: &[u8], number: u8, place: usize) -> usize
 // What the reader answered.
 pub fn put_check(out: &mut [u8], name: &[u8], answer: Answer) -> usize
     requires { Roomy name.now out.old }
-    ensures value { (result ≡ length (check_line name.now answer)) × (out.new ≡ sets out.old 0 (check_line name.now answer)) }
+    ensures value { PutsFirst out.old (check_line name.now answer) result out.new }
     ensures upper_bound { result ≤ length out.new }
 {
     match answer {
@@ -64,9 +64,10 @@ pub fn put_check(out: &mut [u8], name: &[u8], answer: Answer) -> usize
 // ---- a refusal in words
 
 // What stands between the name and the words of a refusal.
+#[tactic(auto, using(crate::proofs::Front::short_number, crate::proofs::Front::short_place), unfolding(crate::specs::Reports::refused_at))]
 fn put_refused_at(out: &mut [u8], at: usize, number: u8, place: usize) -> usize
     requires { at + most_refused_at ≤ length out.old }
-    ensures value { (result ≡ at + length (refused_at number place)) × (out.new ≡ sets out.old at (refused_at number place)) }
+    ensures value { Puts out.old at (refused_at number place) result out.new }
     ensures upper_bound { result ≤ at + most_refused_at }
 {
     let second = text::put_total(out, at, b": refused", number as u64, b' ');
@@ -76,7 +77,7 @@ fn put_refused_at(out: &mut [u8], at: usize, number: u8, place: usize) -> usize
 
 fn put_why(out: &mut [u8], name: &[u8], number: u8, place: usize, finding: Finding) -> usize
     requires { Roomy name.now out.old }
-    ensures value { (result ≡ length (refused_why name.now number place finding)) × (out.new ≡ sets out.old 0 (refused_why name.now number place finding)) }
+    ensures value { PutsFirst out.old (refused_why name.now number place finding) result out.new }
     ensures upper_bound { result ≤ length out.new }
 {
     let refused = bits::put_text(out, 0, name);
@@ -86,9 +87,10 @@ fn put_why(out: &mut [u8], name: &[u8], number: u8, place: usize, finding: Findi
 }
 
 // What a replay would be refused by, in words.
+#[tactic(auto, using(crate::proofs::Front::explained_accepted, crate::proofs::Front::explained_refused))]
 pub fn put_explained(out: &mut [u8], name: &[u8], e: Explained) -> usize
     requires { Roomy name.now out.old }
-    ensures value { (result ≡ length (explained_line name.now e)) × (out.new ≡ sets out.old 0 (explained_line name.now e)) }
+    ensures value { PutsFirst out.old (explained_line name.now e) result out.new }
     ensures upper_bound { result ≤ length out.new }
 {
     if e.number == 0 {

@@ -1,14 +1,16 @@
 -- Laws of a table's text: the pieces of its lines, and how long they are.
-use mathlib.Core.Path.{◌≡◌, sym}
+use mathlib.Core.Path.{◌≡◌, sym, ◌∙◌}
 use mathlib.Core.List.{List, ◌++◌, append_assoc}
-use Prim.Native.Nat.{ℕ, ◌+◌, ◌^◌, ◌≤◌, ◌<◌}
+use Prim.Native.Nat.{ℕ, ◌+◌, ◌-◌, ◌*◌, ◌^◌, ◌≤◌, ◌<◌}
 use native.Mathlib.Numerals.{add-one}
 use native.Mathlib.Omega.{arith}
-use lib.ListN.{length, get_or, length-append}
+use lib.ListN.{length, get_or, take, drop, length-append}
 use Rattle.bits.specs.Decimal.{ascii, decimal}
 use Rattle.bits.proofs.Decimal.{length_of_64_bits}
 use Rattle.text.specs.Pieces.{total}
-use Rattle.tally.specs.Tally.{sums_of_effect, state_sum}
+use Rattle.std.proofs.lemmas.List.{length-take, length-drop, get_or-take, get_or-drop}
+use Rattle.rules.specs.Limits.{most_effects}
+use Rattle.tally.specs.Tally.{sums_of_effect, exercised_sum, state_sum}
 use Rattle.rules.specs.declared.EffectState.TheVariants.{Tripped, WaitReset, Ready, WaitStart, Normal, Delayed}
 use Rattle.season_table.specs.Lines.{scans_text, trips_text, effect_line, effect_lines, closing_line}
 use Rattle.season_table.specs.Pieces.{spaced, sums_text, most_closing}
@@ -31,6 +33,17 @@ module _ (sums : List ℕ) (i : ℕ) where
   line_pieces =
       sym
       (regrouped (decimal (i + 1)) (ascii " ") (ascii "\n") (scans_text sums i Tripped) (scans_text sums i WaitReset) (scans_text sums i Ready) (scans_text sums i WaitStart) (scans_text sums i Normal) (scans_text sums i Delayed) (trips_text sums i))
+
+-- the sums of one effect as a part of all: so many from its first on
+module _ (sums : List ℕ) (i : ℕ) (long : length sums ≡ exercised_sum + 1) (few : i < most_effects) where
+  abbrev own : List ℕ
+  own = take (sums_of_effect * i + sums_of_effect - sums_of_effect * i) (drop (sums_of_effect * i) sums)
+
+  pub own_many : length own ≡ sums_of_effect
+  own_many = omega (arith, length-take (sums_of_effect * i + sums_of_effect - sums_of_effect * i) (drop (sums_of_effect * i) sums), length-drop (sums_of_effect * i) sums)
+
+  pub own_sum : (j : ℕ) → j < sums_of_effect → get_or own j 0 ≡ get_or sums (state_sum i j) 0
+  own_sum j h = get_or-take (sums_of_effect * i + sums_of_effect - sums_of_effect * i) (drop (sums_of_effect * i) sums) j 0 (omega arith) ∙ get_or-drop (sums_of_effect * i) sums j 0
 
 pub one_line_more : (sums : List ℕ) (n : ℕ) → effect_lines sums (n + 1) ≡ effect_lines sums n ++ effect_line sums n
 unfolding effect_lines

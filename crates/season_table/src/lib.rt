@@ -3,14 +3,14 @@
 // numbers and words. How lines are put may change without moving a contract; the text is specs/Lines, and what a file changes specs/Files.
 #![tactic(auto)]
 
-ghost use Rattle.std.specs.Prelude.{◌≡◌, ◌+◌, ◌*◌, ◌≤◌, ◌<◌, max, length};
-ghost use Rattle.std.proofs.lemmas.List.Edits.{sets};
+ghost use Rattle.std.specs.Prelude.{◌≡◌, ◌+◌, ◌*◌, ◌≤◌, ◌<◌, length};
 ghost use Rattle.rules.specs.Limits.{most_effects};
 ghost use Rattle.sums.specs.Sums.{most_sum};
 ghost use Rattle.tally.specs.Tally.{sums_of_effect};
+ghost use Rattle.wording.specs.Puts.{Puts, PutsFirst};
 ghost use Rattle.season_table.specs.Files.{empty_table, with_file, files_of};
 ghost use Rattle.season_table.specs.Lines.{effect_line, effect_lines, closing_line, table_text};
-ghost use Rattle.season_table.specs.Pieces.{spaced, sums_text, most_spaced, most_effect_line, most_closing, most_table, Shown};
+ghost use Rattle.season_table.specs.Pieces.{sums_text, most_spaced, most_effect_line, most_closing, most_table, Shown};
 
 use season::{Added, Report};
 
@@ -25,21 +25,13 @@ pub struct Table {
 
 // ---- one file more
 
-// The larger of two effect counts.
-fn larger(a: u8, b: u8) -> u8
-    ensures { result ≡ max a b }
-{
-    if a < b { b } else { a }
-}
-
 impl Table {
     // The table over no file.
     pub fn empty() -> Table
         ensures { result ≡ empty_table }
     {
-        let report = Report::empty();
         Table {
-            report: report,
+            report: Report::empty(),
             effects: 0,
             recordings: 0,
             refused: 0,
@@ -47,52 +39,38 @@ impl Table {
     }
 
     // The table with one file more, by the answer to adding it to the report.
+    #[tactic(auto, using(crate::proofs::Theorems::file_added, crate::proofs::Theorems::file_refused))]
     pub fn with_file(self, added: Added) -> Table
         requires { files_of self < most_sum }
         ensures { result ≡ with_file self added }
     {
         if added.number == 0 {
-            let grown = added.report;
             return Table {
-                report: grown,
-                effects: larger(self.effects, added.effects),
+                report: added.report,
+                effects: self.effects.max(added.effects),
                 recordings: self.recordings + 1,
-                refused: self.refused,
+                ..self
             };
         }
-        let report = self.report;
         Table {
-            report: report,
-            effects: self.effects,
-            recordings: self.recordings,
             refused: self.refused + 1,
+            ..self
         }
     }
 }
 
 // ---- the text
 
-// Puts a space and a number.
-fn put_spaced(out: &mut [u8], at: usize, v: u64) -> usize
-    requires { at + most_spaced ≤ length out.old }
-    ensures value { (result ≡ at + length (spaced v)) × (out.new ≡ sets out.old at (spaced v)) }
-    ensures upper_bound { result ≤ at + most_spaced }
-{
-    let digits = bits::put_text(out, at, b" ");
-    bits::put_decimal(out, digits, v)
-}
-
-// Puts the seven sums of the effect in slot i.
+// Puts the seven sums of the effect in slot i, a space before each.
 fn put_sums(out: &mut [u8], at: usize, sums: &[u64; 113], i: usize) -> usize
     requires { (i < most_effects) × (at + most_spaced * sums_of_effect ≤ length out.old) }
-    ensures value { (result ≡ at + length (sums_text sums.now i sums_of_effect)) × (out.new ≡ sets out.old at (sums_text sums.now i sums_of_effect)) }
+    ensures value { Puts out.old at (sums_text sums.now i sums_of_effect) result out.new }
     ensures upper_bound { result ≤ at + most_spaced * sums_of_effect }
 {
+    let from = tally::SUMS_OF_EFFECT * i;
     let mut next = at;
-    let mut j: usize = 0;
-    while j < tally::SUMS_OF_EFFECT {
-        next = put_spaced(out, next, sums[tally::SUMS_OF_EFFECT * i + j]);
-        j += 1;
+    for sum in &sums[from..from + tally::SUMS_OF_EFFECT] {
+        next = wording::put_named(out, next, b" ", *sum);
     }
     next
 }
@@ -100,7 +78,7 @@ fn put_sums(out: &mut [u8], at: usize, sums: &[u64; 113], i: usize) -> usize
 // Puts the line of the effect in slot i.
 fn put_effect(out: &mut [u8], at: usize, sums: &[u64; 113], i: usize) -> usize
     requires { (i < most_effects) × (at + most_effect_line ≤ length out.old) }
-    ensures value { (result ≡ at + length (effect_line sums.now i)) × (out.new ≡ sets out.old at (effect_line sums.now i)) }
+    ensures value { Puts out.old at (effect_line sums.now i) result out.new }
     ensures upper_bound { result ≤ at + most_effect_line }
 {
     let tripped = bits::put_decimal(out, at, (i + 1) as u64);
@@ -109,16 +87,15 @@ fn put_effect(out: &mut [u8], at: usize, sums: &[u64; 113], i: usize) -> usize
 }
 
 // Puts the lines of the first n effects.
+#[tactic(auto, unfolding(crate::specs::Lines::effect_lines))]
 fn put_effects(out: &mut [u8], at: usize, sums: &[u64; 113], n: usize) -> usize
     requires { (n ≤ most_effects) × (at + most_effect_line * n ≤ length out.old) }
-    ensures value { (result ≡ at + length (effect_lines sums.now n)) × (out.new ≡ sets out.old at (effect_lines sums.now n)) }
+    ensures value { Puts out.old at (effect_lines sums.now n) result out.new }
     ensures upper_bound { result ≤ at + most_effect_line * n }
 {
     let mut next = at;
-    let mut i: usize = 0;
-    while i < n {
+    for i in 0..n {
         next = put_effect(out, next, sums, i);
-        i += 1;
     }
     next
 }
@@ -126,7 +103,7 @@ fn put_effects(out: &mut [u8], at: usize, sums: &[u64; 113], n: usize) -> usize
 // Puts the last line.
 fn put_closing(out: &mut [u8], at: usize, recordings: u64, refused: u64, exercised: u64) -> usize
     requires { at + most_closing ≤ length out.old }
-    ensures value { (result ≡ at + length (closing_line recordings refused exercised)) × (out.new ≡ sets out.old at (closing_line recordings refused exercised)) }
+    ensures value { Puts out.old at (closing_line recordings refused exercised) result out.new }
     ensures upper_bound { result ≤ at + most_closing }
 {
     let second = text::put_total(out, at, b"recordings", recordings, b' ');
@@ -137,7 +114,7 @@ fn put_closing(out: &mut [u8], at: usize, recordings: u64, refused: u64, exercis
 // Puts a table at the front of `out`, and answers its length.
 pub fn put_table(out: &mut [u8], t: Table) -> usize
     requires { Shown t out.old }
-    ensures value { (result ≡ length (table_text t)) × (out.new ≡ sets out.old 0 (table_text t)) }
+    ensures value { PutsFirst out.old (table_text t) result out.new }
     ensures upper_bound { result ≤ most_table }
 {
     let report = t.report;

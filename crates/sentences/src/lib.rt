@@ -4,153 +4,124 @@
 #![tactic(auto)]
 
 ghost use Rattle.std.specs.Prelude.{◌≡◌, ◌+◌, ◌≤◌, length};
-ghost use Rattle.std.proofs.lemmas.List.Edits.{sets};
-ghost use Rattle.sentences.specs.Sentences.{numbered, word_text, fault_text, count_ends, entry_ends, count_wrong, entry_name, entry_wrong, sentence, most_words};
+ghost use Rattle.wording.specs.Puts.{Puts};
+ghost use Rattle.sentences.specs.Sentences.{word_text as word_text_of, fault_text as fault_text_of, count_ends as count_ends_of, count_wrong as count_wrong_of};
+ghost use Rattle.sentences.specs.Sentences.{entry_ends, entry_name, entry_wrong, sentence, most_words};
 
 use findings::{Fault, Finding, RowWord};
 use layout::Kind;
 
-// A text and the number behind it.
-fn put_numbered(out: &mut [u8], at: usize, text: &[u8], n: u16) -> usize
-    requires { at + length (numbered text.now n) ≤ length out.old }
-    ensures { (result ≡ at + length (numbered text.now n)) × (out.new ≡ sets out.old at (numbered text.now n)) }
-{
-    let next = bits::put_text(out, at, text);
-    bits::put_decimal(out, next, n as u64)
-}
-
 // What is wrong with a word of a row.
-fn put_word(out: &mut [u8], at: usize, word: RowWord) -> usize
-    requires { at + length (word_text word) ≤ length out.old }
-    ensures { (result ≡ at + length (word_text word)) × (out.new ≡ sets out.old at (word_text word)) }
+#[tactic(auto, unfolding(crate::specs::Sentences::word_text))]
+fn word_text(word: RowWord) -> &'static [u8]
+    ensures { result.now ≡ word_text_of word }
 {
     match word {
-        RowWord::Values => bits::put_text(out, at, b"its values word has a bit of an absent cause"),
-        RowWord::Bad => bits::put_text(out, at, b"its bad word has a bit of an absent cause"),
-        RowWord::Mask => bits::put_text(out, at, b"its mask word has a bit of an absent cause"),
-        RowWord::RequireReset => bits::put_text(
-            out,
-            at,
-            b"its require reset word has a bit of an absent effect",
-        ),
-        RowWord::ResetPermit => bits::put_text(
-            out,
-            at,
-            b"its reset permit word has a bit of an absent effect",
-        ),
-        RowWord::StartPermit => bits::put_text(
-            out,
-            at,
-            b"its start permit word has a bit of an absent effect",
-        ),
-        RowWord::Reset => bits::put_text(out, at, b"its reset word has a bit of an absent effect"),
-        RowWord::ForcePermit => bits::put_text(out, at, b"its force permit is not 0 or 1"),
-        RowWord::ForceTrip => bits::put_text(
-            out,
-            at,
-            b"its force trip word has a bit of an absent effect",
-        ),
-        RowWord::ForceNormal => bits::put_text(
-            out,
-            at,
-            b"its force normal word has a bit of an absent effect",
-        ),
+        RowWord::Values => b"its values word has a bit of an absent cause",
+        RowWord::Bad => b"its bad word has a bit of an absent cause",
+        RowWord::Mask => b"its mask word has a bit of an absent cause",
+        RowWord::RequireReset => b"its require reset word has a bit of an absent effect",
+        RowWord::ResetPermit => b"its reset permit word has a bit of an absent effect",
+        RowWord::StartPermit => b"its start permit word has a bit of an absent effect",
+        RowWord::Reset => b"its reset word has a bit of an absent effect",
+        RowWord::ForcePermit => b"its force permit is not 0 or 1",
+        RowWord::ForceTrip => b"its force trip word has a bit of an absent effect",
+        RowWord::ForceNormal => b"its force normal word has a bit of an absent effect",
     }
 }
 
 // What is wrong with an entry.
-fn put_fault(out: &mut [u8], at: usize, fault: Fault) -> usize
-    requires { at + length (fault_text fault) ≤ length out.old }
-    ensures { (result ≡ at + length (fault_text fault)) × (out.new ≡ sets out.old at (fault_text fault)) }
+#[tactic(auto, unfolding(crate::specs::Sentences::fault_text))]
+fn fault_text(fault: Fault) -> &'static [u8]
+    ensures { result.now ≡ fault_text_of fault }
 {
     match fault {
-        Fault::CauseCount => bits::put_text(out, at, b"its cause count is not 1 to 16"),
-        Fault::Options => bits::put_text(out, at, b"its options have a bit above 2"),
-        Fault::Period => bits::put_text(out, at, b"its period is not 1 to 1,000"),
-        Fault::NoCause => bits::put_text(out, at, b"it has no cause"),
-        Fault::AbsentCause => bits::put_text(out, at, b"it has a cause above the cause count"),
-        Fault::Delay => bits::put_text(out, at, b"its delay is above 3,600,000"),
-        Fault::Hold => bits::put_text(out, at, b"its hold is not 1 to 1,000,000"),
-        Fault::Word(word) => put_word(out, at, word),
-        Fault::BothForces => bits::put_text(out, at, b"an effect is in both force words"),
-        Fault::SeveralForced => bits::put_text(
-            out,
-            at,
-            b"several effects are forced without option bit 2",
-        ),
-        Fault::LastScan => bits::put_text(out, at, b"it ends after scan 1,000,000,000"),
+        Fault::CauseCount => b"its cause count is not 1 to 16",
+        Fault::Options => b"its options have a bit above 2",
+        Fault::Period => b"its period is not 1 to 1,000",
+        Fault::NoCause => b"it has no cause",
+        Fault::AbsentCause => b"it has a cause above the cause count",
+        Fault::Delay => b"its delay is above 3,600,000",
+        Fault::Hold => b"its hold is not 1 to 1,000,000",
+        Fault::Word(word) => word_text(word),
+        Fault::BothForces => b"an effect is in both force words",
+        Fault::SeveralForced => b"several effects are forced without option bit 2",
+        Fault::LastScan => b"it ends after scan 1,000,000,000",
     }
 }
 
 // The bytes end in a count.
-fn put_count_end(out: &mut [u8], at: usize, section: Kind) -> usize
-    requires { at + length (count_ends section) ≤ length out.old }
-    ensures { (result ≡ at + length (count_ends section)) × (out.new ≡ sets out.old at (count_ends section)) }
+#[tactic(auto, unfolding(crate::specs::Sentences::count_ends))]
+fn count_ends(section: Kind) -> &'static [u8]
+    ensures { result.now ≡ count_ends_of section }
 {
     match section {
-        Kind::Block => bits::put_text(out, at, b"the bytes end in the block count"),
-        Kind::Effects => bits::put_text(out, at, b"the bytes end in the effect count"),
-        Kind::Rows => bits::put_text(out, at, b"the bytes end in the row count"),
-    }
-}
-
-// The bytes end in an entry.
-fn put_entry_end(out: &mut [u8], at: usize, section: Kind, entry: u16) -> usize
-    requires { at + length (entry_ends section entry) ≤ length out.old }
-    ensures { (result ≡ at + length (entry_ends section entry)) × (out.new ≡ sets out.old at (entry_ends section entry)) }
-{
-    match section {
-        Kind::Block => bits::put_text(out, at, b"the bytes end in the block"),
-        Kind::Effects => put_numbered(out, at, b"the bytes end in effect ", entry),
-        Kind::Rows => put_numbered(out, at, b"the bytes end in row ", entry),
+        Kind::Block => b"the bytes end in the block count",
+        Kind::Effects => b"the bytes end in the effect count",
+        Kind::Rows => b"the bytes end in the row count",
     }
 }
 
 // A count is wrong.
-fn put_count(out: &mut [u8], at: usize, section: Kind) -> usize
-    requires { at + length (count_wrong section) ≤ length out.old }
-    ensures { (result ≡ at + length (count_wrong section)) × (out.new ≡ sets out.old at (count_wrong section)) }
+#[tactic(auto, unfolding(crate::specs::Sentences::count_wrong))]
+fn count_wrong(section: Kind) -> &'static [u8]
+    ensures { result.now ≡ count_wrong_of section }
 {
     match section {
-        Kind::Block => bits::put_text(out, at, b"the block count is not 1"),
-        Kind::Effects => bits::put_text(out, at, b"the effect count is not 1 to 16"),
-        Kind::Rows => bits::put_text(out, at, b"the row count is not 1 to 2,048"),
+        Kind::Block => b"the block count is not 1",
+        Kind::Effects => b"the effect count is not 1 to 16",
+        Kind::Rows => b"the row count is not 1 to 2,048",
     }
 }
 
 // The name of an entry.
+#[tactic(auto, unfolding(crate::specs::Sentences::entry_name, crate::specs::Sentences::numbered))]
 fn put_entry(out: &mut [u8], at: usize, section: Kind, entry: u16) -> usize
     requires { at + length (entry_name section entry) ≤ length out.old }
-    ensures { (result ≡ at + length (entry_name section entry)) × (out.new ≡ sets out.old at (entry_name section entry)) }
+    ensures { Puts out.old at (entry_name section entry) result out.new }
 {
     match section {
         Kind::Block => bits::put_text(out, at, b"block"),
-        Kind::Effects => put_numbered(out, at, b"effect ", entry),
-        Kind::Rows => put_numbered(out, at, b"row ", entry),
+        Kind::Effects => wording::put_named(out, at, b"effect ", entry as u64),
+        Kind::Rows => wording::put_named(out, at, b"row ", entry as u64),
+    }
+}
+
+// The bytes end in an entry. It names a block otherwise than `put_entry`, so that one function for both would take three texts.
+#[tactic(auto, unfolding(crate::specs::Sentences::entry_ends, crate::specs::Sentences::numbered))]
+fn put_entry_end(out: &mut [u8], at: usize, section: Kind, entry: u16) -> usize
+    requires { at + length (entry_ends section entry) ≤ length out.old }
+    ensures { Puts out.old at (entry_ends section entry) result out.new }
+{
+    match section {
+        Kind::Block => bits::put_text(out, at, b"the bytes end in the block"),
+        Kind::Effects => wording::put_named(out, at, b"the bytes end in effect ", entry as u64),
+        Kind::Rows => wording::put_named(out, at, b"the bytes end in row ", entry as u64),
     }
 }
 
 // An entry is wrong.
 fn put_wrong(out: &mut [u8], at: usize, section: Kind, entry: u16, fault: Fault) -> usize
     requires { at + length (entry_wrong section entry fault) ≤ length out.old }
-    ensures { (result ≡ at + length (entry_wrong section entry fault)) × (out.new ≡ sets out.old at (entry_wrong section entry fault)) }
+    ensures { Puts out.old at (entry_wrong section entry fault) result out.new }
 {
     let named = put_entry(out, at, section, entry);
     let next = bits::put_text(out, named, b": ");
-    put_fault(out, next, fault)
+    bits::put_text(out, next, fault_text(fault))
 }
 
 // The words of a finding, with no line end; the place after them. Where nothing is wrong there are none.
+#[tactic(auto, using(crate::proofs::Room::count_ends_most, crate::proofs::Room::count_wrong_most, crate::proofs::Room::entry_ends_most, crate::proofs::Room::entry_wrong_most), unfolding(crate::specs::Sentences::sentence))]
 pub fn put_finding(out: &mut [u8], at: usize, finding: Finding) -> usize
     requires { at + most_words ≤ length out.old }
-    ensures value { (result ≡ at + length (sentence finding)) × (out.new ≡ sets out.old at (sentence finding)) }
+    ensures value { Puts out.old at (sentence finding) result out.new }
     ensures upper_bound { result ≤ at + most_words }
 {
     match finding {
         Finding::Nothing => at,
-        Finding::CountEnds { section } => put_count_end(out, at, section),
+        Finding::CountEnds { section } => bits::put_text(out, at, count_ends(section)),
         Finding::EntryEnds { section, entry } => put_entry_end(out, at, section, entry),
-        Finding::CountWrong { section } => put_count(out, at, section),
+        Finding::CountWrong { section } => bits::put_text(out, at, count_wrong(section)),
         Finding::EntryWrong {
             section,
             entry,

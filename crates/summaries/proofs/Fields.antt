@@ -1,7 +1,7 @@
 -- The field of a name, and the pieces of a line.
 use mathlib.Core.Path.{◌≡◌, sym, ap, ◌∙◌}
 use mathlib.Core.Bool.{Bool, true, false, cond}
-use mathlib.Core.List.{List, [], ◌∷◌, ◌++◌, append_assoc}
+use mathlib.Core.List.{List, [], ◌∷◌, ◌++◌, append_assoc, append-nil, flat_map}
 use Prim.Native.Nat.{ℕ, ◌^◌, ◌≤◌, ◌<◌}
 use native.Mathlib.Omega.{arith}
 use lib.ListN.{length, length-append}
@@ -25,6 +25,15 @@ module _ (name : List ℕ) (q : Bool) (asked : q ≡ is_quoted name) where
   pub field_plain : q ≡ false → field name ≡ name
   unfolding field
   field_plain is = ap (λ (b : Bool). cond b (quoted name) name) (sym asked ∙ is)
+
+-- a number, and a comma behind it
+abbrev pub comma : ℕ → List ℕ
+comma v = decimal v ++ ascii ","
+
+-- the fields behind the name: those with a comma behind each, and the last
+pub numbers_pieces : (r : Replayed) → numbers r ≡ flat_map comma (r.number ∷ r.place ∷ r.rows ∷ r.scans ∷ r.live ∷ r.exercised ∷ []) ++ (decimal r.records ++ ascii "\n")
+unfolding numbers three flat_map
+numbers_pieces r = sym (simp (append_assoc, append-nil))
 
 -- a number with the byte behind it
 pub number_at_most : (v end : ℕ) → v < 2 ^ 64 → length (decimal v ++ (end ∷ [])) ≤ most_number

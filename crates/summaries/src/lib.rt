@@ -4,11 +4,10 @@
 // needs. How a line is put may change without moving a contract; the text is specs/Summaries.
 #![tactic(auto)]
 
-ghost use Rattle.std.specs.Prelude.{◌≡◌, ◌++◌, ◌+◌, ◌*◌, ◌≤◌, length};
-ghost use Rattle.std.proofs.lemmas.List.Edits.{sets};
-ghost use Rattle.bits.specs.Decimal.{ascii, decimal};
+ghost use Rattle.std.specs.Prelude.{◌≡◌, ◌+◌, ◌*◌, ◌≤◌, length};
+ghost use Rattle.wording.specs.Puts.{Puts, PutsFirst};
 ghost use Rattle.reports.specs.Reports.{Roomy, most_report};
-ghost use Rattle.summaries.specs.Summaries.{has, is_quoted, twice, doubled, quoted, field, three, numbers, summary_header, summary_line, most_field, most_number, most_three, most_numbers};
+ghost use Rattle.summaries.specs.Summaries.{has, is_quoted, twice, doubled, quoted, field, numbers, summary_header, summary_line, most_field, most_numbers};
 
 use rerun::Replayed;
 
@@ -31,9 +30,10 @@ fn is_quoted(name: &[u8]) -> bool
 }
 
 // A byte of a name, a quote twice.
+#[tactic(auto, using(crate::proofs::Doubled::twice_quote, crate::proofs::Doubled::twice_other))]
 fn put_twice(out: &mut [u8], at: usize, byte: u8) -> usize
     requires { at + 2 ≤ length out.old }
-    ensures value { (result ≡ at + length (twice byte)) × (out.new ≡ sets out.old at (twice byte)) }
+    ensures value { Puts out.old at (twice byte) result out.new }
     ensures upper_bound { result ≤ at + 2 }
 {
     if byte == QUOTE {
@@ -46,14 +46,12 @@ fn put_twice(out: &mut [u8], at: usize, byte: u8) -> usize
 // A name whose quotes stand twice.
 fn put_doubled(out: &mut [u8], at: usize, name: &[u8]) -> usize
     requires { at + 2 * length name.now ≤ length out.old }
-    ensures value { (result ≡ at + length (doubled name.now)) × (out.new ≡ sets out.old at (doubled name.now)) }
+    ensures value { Puts out.old at (doubled name.now) result out.new }
     ensures upper_bound { result ≤ at + 2 * length name.now }
 {
     let mut next = at;
-    let mut i: usize = 0;
-    while i < name.len() {
-        next = put_twice(out, next, name[i]);
-        i += 1;
+    for byte in name {
+        next = put_twice(out, next, *byte);
     }
     next
 }
@@ -61,7 +59,7 @@ fn put_doubled(out: &mut [u8], at: usize, name: &[u8]) -> usize
 // A name between quotes.
 fn put_quoted(out: &mut [u8], name: &[u8]) -> usize
     requires { Roomy name.now out.old }
-    ensures value { (result ≡ length (quoted name.now)) × (out.new ≡ sets out.old 0 (quoted name.now)) }
+    ensures value { PutsFirst out.old (quoted name.now) result out.new }
     ensures upper_bound { result ≤ most_field }
 {
     let from = bits::put_text(out, 0, b"\"");
@@ -70,9 +68,10 @@ fn put_quoted(out: &mut [u8], name: &[u8]) -> usize
 }
 
 // A name as the first field of a line.
+#[tactic(auto, using(crate::proofs::Fields::field_quoted, crate::proofs::Fields::field_plain))]
 fn put_field(out: &mut [u8], name: &[u8]) -> usize
     requires { Roomy name.now out.old }
-    ensures value { (result ≡ length (field name.now)) × (out.new ≡ sets out.old 0 (field name.now)) }
+    ensures value { PutsFirst out.old (field name.now) result out.new }
     ensures upper_bound { result ≤ most_field }
 {
     if is_quoted(name) {
@@ -84,47 +83,31 @@ fn put_field(out: &mut [u8], name: &[u8]) -> usize
 
 // ---- the line
 
-// Three numbers, a comma behind each.
-fn put_three(out: &mut [u8], at: usize, a: u64, b: u64, c: u64) -> usize
-    requires { at + most_three ≤ length out.old }
-    ensures value { (result ≡ at + length (three a b c)) × (out.new ≡ sets out.old at (three a b c)) }
-    ensures upper_bound { result ≤ at + most_three }
-{
-    let second = text::put_number(out, at, a, b',');
-    let third = text::put_number(out, second, b, b',');
-    text::put_number(out, third, c, b',')
-}
-
-// A number, and LF.
-fn put_end(out: &mut [u8], at: usize, v: u64) -> usize
-    requires { at + most_number ≤ length out.old }
-    ensures value { (result ≡ at + length (decimal v ++ ascii "\n")) × (out.new ≡ sets out.old at (decimal v ++ ascii "\n")) }
-    ensures upper_bound { result ≤ at + most_number }
-{
-    text::put_number(out, at, v, b'\n')
-}
-
-// The fields behind the name.
+// The fields behind the name: a comma stands behind each but the last.
 fn put_numbers(out: &mut [u8], at: usize, r: Replayed) -> usize
     requires { at + most_numbers ≤ length out.old }
-    ensures value { (result ≡ at + length (numbers r)) × (out.new ≡ sets out.old at (numbers r)) }
+    ensures value { Puts out.old at (numbers r) result out.new }
     ensures upper_bound { result ≤ at + most_numbers }
 {
-    let scans = put_three(out, at, r.number as u64, r.place as u64, r.rows as u64);
-    let records = put_three(
-        out,
-        scans,
+    let fields = [
+        r.number as u64,
+        r.place as u64,
+        r.rows as u64,
         r.scans as u64,
         r.live as u64,
         r.exercised as u64,
-    );
-    put_end(out, records, r.records as u64)
+    ];
+    let mut next = at;
+    for field in fields {
+        next = text::put_field(out, next, field, b',');
+    }
+    text::put_field(out, next, r.records as u64, b'\n')
 }
 
 // The first line of summaries, which names the fields.
 pub fn put_summary_header(out: &mut [u8]) -> usize
     requires { most_report ≤ length out.old }
-    ensures value { (result ≡ length summary_header) × (out.new ≡ sets out.old 0 summary_header) }
+    ensures value { PutsFirst out.old summary_header result out.new }
     ensures upper_bound { result ≤ length out.new }
 {
     bits::put_text(
@@ -137,7 +120,7 @@ pub fn put_summary_header(out: &mut [u8]) -> usize
 // What a replay results in.
 pub fn put_summary(out: &mut [u8], name: &[u8], r: Replayed) -> usize
     requires { Roomy name.now out.old }
-    ensures value { (result ≡ length (summary_line name.now r)) × (out.new ≡ sets out.old 0 (summary_line name.now r)) }
+    ensures value { PutsFirst out.old (summary_line name.now r) result out.new }
     ensures upper_bound { result ≤ length out.new }
 {
     let comma = put_field(out, name);

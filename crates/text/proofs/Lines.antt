@@ -1,32 +1,18 @@
 -- Laws of lines: the pieces of a line, and the lines that are left in a loop.
-use mathlib.Core.Path.{◌≡◌, refl, sym, ap, ◌∙◌}
-use mathlib.Core.Bool.{Bool, true, false}
+use mathlib.Core.Path.{◌≡◌, sym, ap, ◌∙◌}
 use mathlib.Core.List.{List, [], ◌∷◌, ◌++◌, flat_map, append_assoc}
 use Prim.Native.Nat.{ℕ, ◌+◌, ◌<◌, ◌≤◌}
 use native.Mathlib.Numerals.{add-one}
-use native.Mathlib.Omega.{arith}
 use lib.ListN.{length, drop, get_or, length-append, drop_of_length-le}
 use lib.Seq.{drop-cons}
-use Rattle.bits.specs.Decimal.{ascii, decimal}
+use Rattle.std.specs.Prelude.{None, Some}
+use Rattle.bits.specs.Decimal.{ascii}
 use Rattle.effects.specs.declared.Event.{Event}
+use Rattle.reasons.specs.declared.Sight.{Sight}
 use Rattle.reasons.specs.Reasons.{reason_in}
 use Rattle.wording.specs.Text.{words_of}
-use Rattle.text.specs.declared.Column.{Column}
-use Rattle.text.specs.Text.{name, header_with, line_with, last_line, refusal_line}
+use Rattle.text.specs.Text.{line_with, last_line, refusal_line}
 use Rattle.text.specs.Pieces.{when, change, further, column_line, total}
-
--- ## The header, in two pieces
-
-abbrev pub columns : List ℕ
-columns = ascii "seq scan effect from to first"
-
-pub header_told : header_with (ascii "reason" ∷ []) ≡ columns ++ ascii " reason\n"
-unfolding header_with
-header_told = refl
-
-pub header_plain : header_with [] ≡ columns ++ ascii "\n"
-unfolding header_with
-header_plain = refl
 
 -- ## The line of a record, in its halves
 
@@ -38,57 +24,20 @@ halves_and_end : (e : Event) (field : List ℕ) → line_with e (field ∷ []) �
 unfolding line_with when change
 halves_and_end e field = sym (simp append_assoc)
 
-module _ (c : Column) (associations : List ℕ) (e : Event) where
+module _ (associations : List ℕ) (e : Event) where
   -- without a reason
-  pub plain : c.why ≡ false → column_line c associations e ≡ when e ++ change e 10
+  pub plain : column_line None associations e ≡ when e ++ change e 10
   unfolding further
-  plain h = rw h (halves e)
-
-  pub length_plain : c.why ≡ false → length (column_line c associations e) ≡ length (when e) + length (change e 10)
-  length_plain h = ap length (plain h) ∙ length-append (when e) (change e 10)
+  plain = halves e
 
   -- with its reason
-  abbrev pub end : List ℕ
-  end = words_of (reason_in c.sight associations e) ++ ascii "\n"
+  module _ (sight : Sight) where
+    abbrev pub end : List ℕ
+    end = words_of (reason_in sight associations e) ++ ascii "\n"
 
-  pub told : c.why ≡ true → column_line c associations e ≡ when e ++ (change e 32 ++ end)
-  unfolding further
-  told h = rw h (halves_and_end e (words_of (reason_in c.sight associations e)))
-
-  pub length-told : c.why ≡ true → length (column_line c associations e) ≡ length (when e) + (length (change e 32) + length end)
-  length-told h =
-      ap length (told h)
-      ∙ length-append (when e) (change e 32 ++ end)
-      ∙ ap (λ (n : ℕ). length (when e) + n) (length-append (change e 32) end)
-
--- in any case its first half stands at the front
-pub length_when_first : (c : Column) (associations : List ℕ) (e : Event) → length (when e) ≤ length (column_line c associations e)
-length_when_first c associations e = go c.why refl
-  where
-    go : (b : Bool) → c.why ≡ b → length (when e) ≤ length (column_line c associations e)
-    go true h = omega (arith, length-told c associations e h)
-    go false h = omega (arith, length_plain c associations e h)
-
--- ## The fields of each half, and of a word with its number
-
-module _ (e : Event) where
-  pub length-when : length (when e) ≡ length (decimal e.seq ++ ascii " ") + (length (decimal e.scan ++ ascii " ") + length (decimal e.effect ++ ascii " "))
-  unfolding when
-  length-when =
-      let last = decimal e.effect ++ ascii " " in
-      length-append (decimal e.seq ++ ascii " ") (decimal e.scan ++ ascii " " ++ last)
-      ∙ ap (λ (n : ℕ). length (decimal e.seq ++ ascii " ") + n) (length-append (decimal e.scan ++ ascii " ") last)
-
-  pub length-change : (end : ℕ) → length (change e end) ≡ length (name e.from ++ ascii " ") + (length (name e.to ++ ascii " ") + length (decimal e.first_out ++ (end ∷ [])))
-  unfolding change
-  length-change end =
-      let last = decimal e.first_out ++ (end ∷ []) in
-      length-append (name e.from ++ ascii " ") (name e.to ++ ascii " " ++ last)
-      ∙ ap (λ (n : ℕ). length (name e.from ++ ascii " ") + n) (length-append (name e.to ++ ascii " ") last)
-
-pub length-total : (word : List ℕ) (v end : ℕ) → length (total word v end) ≡ length (word ++ ascii " ") + length (decimal v ++ (end ∷ []))
-unfolding total
-length-total word v end = length-append (word ++ ascii " ") (decimal v ++ (end ∷ []))
+    pub told : column_line (Some sight) associations e ≡ when e ++ (change e 32 ++ end)
+    unfolding further
+    told = halves_and_end e (words_of (reason_in sight associations e))
 
 -- ## The other lines, in pieces
 

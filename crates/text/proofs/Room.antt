@@ -1,10 +1,10 @@
 -- How many bytes lines have at most.
-use mathlib.Core.Bool.{Bool, true, false, cond}
 use mathlib.Core.List.{List, [], ◌∷◌, flat_map}
 use Prim.Native.Nat.{ℕ, ◌+◌, ◌-◌, ◌*◌, ◌^◌, ◌≤◌, ◌<◌}
 use native.Mathlib.Omega.{arith}
 use lib.Dec.{lit≤}
 use lib.ListN.{length, get_or, length-append}
+use Rattle.std.specs.Prelude.{Option, None, Some, IfSome}
 use Rattle.bits.specs.Numbers.{Bytes}
 use Rattle.bits.proofs.Decimal.{length-decimal, length_of_32_bits, length_of_64_bits}
 use Rattle.bits.proofs.Numbers.{num_lt}
@@ -13,12 +13,12 @@ use Rattle.rules.specs.declared.EffectState.TheVariants.{Tripped, WaitReset, Rea
 use Rattle.effects.specs.declared.Event.{Event}
 use Rattle.effects.specs.Records.{record_length, StandsAt, StandFrom}
 use Rattle.effects.proofs.Records.{fields-of, stand_first, stand_rest}
+use Rattle.reasons.specs.declared.Sight.{Sight}
 use Rattle.reasons.specs.Given.{Narrow}
 use Rattle.reasons.specs.Reasons.{reason_in}
 use Rattle.reasons.proofs.Bounds.{narrow_reason}
 use Rattle.wording.specs.Text.{words_of, most_words}
 use Rattle.wording.proofs.Room.{words_at_most}
-use Rattle.text.specs.declared.Column.{Column}
 use Rattle.text.specs.Pieces.{further, column_line, column_lines}
 use Rattle.text.specs.Text.{name, line_with, last_line, refusal_line}
 use Rattle.text.specs.Room.{most_line, most_piece}
@@ -57,26 +57,23 @@ told_at_most e field f w =
     let u = length-decimal 4 e.first_out (omega (arith, f.first_out)) in
     simp length-append (omega (arith, name_at_most e.from, name_at_most e.to, w))
 
-module _ (c : Column) (narrow : Narrow c.sight) (associations : List ℕ) where
-  -- the words of a record's reason
-  reason_at_most : (e : Event) → length (words_of (reason_in c.sight associations e)) ≤ most_words
-  reason_at_most e =
-      let small = narrow_reason c.sight narrow (get_or associations (e.effect - 1) 0) (e.effect - 1) e.from e.to 0 in
-      words_at_most (reason_in c.sight associations e) small.0 (omega (arith, small.1))
+-- the words of a record's reason
+reason_at_most : (sight : Sight) → Narrow sight → (associations : List ℕ) (e : Event) → length (words_of (reason_in sight associations e)) ≤ most_words
+reason_at_most sight narrow associations e =
+    let small = narrow_reason sight narrow (get_or associations (e.effect - 1) 0) (e.effect - 1) e.from e.to 0 in
+    words_at_most (reason_in sight associations e) small.0 (omega (arith, small.1))
 
-  line_at_most : (e : Event) → InFields e → length (column_line c associations e) ≤ most_line
-  unfolding further
-  line_at_most e f = go c.why
-    where
-      go : (b : Bool) → length (line_with e (cond b (words_of (reason_in c.sight associations e) ∷ []) [])) ≤ most_line
-      go true = told_at_most e _ f (reason_at_most e)
-      go false = plain_at_most e f
+line_at_most : (c : Option Sight) → IfSome c Narrow → (associations : List ℕ) (e : Event) → InFields e → length (column_line c associations e) ≤ most_line
+unfolding further
+line_at_most None narrow associations e f = plain_at_most e f
+line_at_most (Some sight) narrow associations e f = told_at_most e _ f (reason_at_most sight narrow associations e)
 
+module _ (c : Option Sight) (narrow : IfSome c Narrow) (associations : List ℕ) where
   -- the line of a record that stands in a list of bytes has at most `most_line` bytes
   record_at_most : (s : List ℕ) → Bytes s → (at : ℕ) (e : Event) → StandsAt s at e → length (column_line c associations e) ≤ most_line
   record_at_most s b at e h =
       let f = fields-of s at e h in
-      line_at_most e
+      line_at_most c narrow associations e
       (record {
         seq = rw f.seq at (num_lt 2 s at b);
         scan = rw f.scan at (num_lt 4 s (at + 2) b);

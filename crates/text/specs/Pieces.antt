@@ -1,13 +1,13 @@
 -- Pieces of lines, as the code writes them. No entry point's contract cites this page.
-use Rattle.std.specs.Prelude.{ℕ, ◌+◌, ◌≡◌, Bool, cond, length}
+use Rattle.std.specs.Prelude.{ℕ, ◌+◌, ◌≡◌, Bool, cond, Option, None, Some, length}
 use mathlib.Core.List.{List, [], ◌∷◌, ◌++◌, flat_map}
 use Rattle.std.proofs.lemmas.List.Edits.{sets}
 use Rattle.bits.specs.Decimal.{ascii, decimal}
 use Rattle.effects.specs.declared.Event.{Event}
 use Rattle.effects.specs.Records.{StandFrom}
+use Rattle.reasons.specs.declared.Sight.{Sight}
 use Rattle.reasons.specs.Reasons.{reason_in}
 use Rattle.wording.specs.Text.{words_of}
-use Rattle.text.specs.declared.Column.{Column}
 use Rattle.text.specs.Text.{name, header_with, line_with}
 
 -- the first three fields of a record's line, a space behind each
@@ -22,15 +22,16 @@ change e end = name e.from ++ ascii " " ++ (name e.to ++ ascii " " ++ (decimal e
 abbrev pub header_of : (why : Bool) → List ℕ
 header_of why = header_with (cond why (ascii "reason" ∷ []) [])
 
--- what stands behind the fields of a record's line
-unfoldable pub further : Column → (associations : List ℕ) → Event → List (List ℕ)
-further c associations e = cond c.why (words_of (reason_in c.sight associations e) ∷ []) []
+-- what stands behind the fields of a record's line: nothing, or its reason by what reasons read of the row
+unfoldable pub further : Option Sight → (associations : List ℕ) → Event → List (List ℕ)
+further None associations e = []
+further (Some sight) associations e = words_of (reason_in sight associations e) ∷ []
 
 -- the line of a record with it, and the lines of records
-abbrev pub column_line : Column → (associations : List ℕ) → Event → List ℕ
+abbrev pub column_line : Option Sight → (associations : List ℕ) → Event → List ℕ
 column_line c associations e = line_with e (further c associations e)
 
-abbrev pub column_lines : Column → (associations : List ℕ) → List Event → List ℕ
+abbrev pub column_lines : Option Sight → (associations : List ℕ) → List Event → List ℕ
 column_lines c associations es = flat_map (column_line c associations) es
 
 -- a word, a space, a number, and a byte behind it

@@ -4,12 +4,12 @@
 // reasons, and on `bits` for numbers and text. How lines are put may change without moving a contract; the text is specs/Text.
 #![tactic(auto)]
 
-ghost use Rattle.std.specs.Prelude.{◌≡◌, [], ◌∷◌, ◌++◌, ◌+◌, ◌≤◌, length};
-ghost use Rattle.std.proofs.lemmas.List.Edits.{sets};
-ghost use Rattle.bits.specs.Decimal.{ascii, decimal};
+ghost use Rattle.std.specs.Prelude.{ℕ, ◌≡◌, List, [], ◌∷◌, ◌++◌, ◌+◌, ◌≤◌, length, IfSome};
+ghost use Rattle.bits.specs.Decimal.{decimal};
 ghost use Rattle.rules.specs.Limits.{most_effects};
 ghost use Rattle.effects.specs.Records.{most_records, Recorded};
 ghost use Rattle.reasons.specs.Given.{Narrow};
+ghost use Rattle.wording.specs.Puts.{Puts};
 ghost use Rattle.wording.specs.Text.{words_of};
 ghost use Rattle.text.specs.Pieces.{when, change, column_line, column_lines, header_of, total, LinesPut};
 ghost use Rattle.text.specs.Room.{most_piece};
@@ -19,132 +19,145 @@ use effects::Event;
 use reasons::{Reason, Sight};
 use rules::EffectState;
 
-// What stands behind the first-out in the lines of a row: nothing, or each record's reason, and what a reason reads of the row.
-#[derive(Clone, Copy)]
-pub struct Column {
-    pub why: bool,
-    pub sight: Sight,
-}
-
 // ---- fields
 
-// Puts a word, and the byte behind it.
-fn put_word(out: &mut [u8], at: usize, word: &[u8], end: u8) -> usize
-    requires { at + length (word.now ++ (end ∷ [])) ≤ length out.old }
-    ensures { (result ≡ at + length (word.now ++ (end ∷ []))) × (out.new ≡ sets out.old at (word.now ++ (end ∷ []))) }
-{
-    let last = bits::put_text(out, at, word);
-    out[last] = end;
-    last + 1
+// What stands between two spaces of a line: a word, a number, the name of a state, or the words of a reason.
+pub trait Field {
+    // Its bytes.
+    ghost text: { Self → List ℕ };
+
+    // Puts it, with nothing behind it.
+    fn put(self, out: &mut [u8], at: usize) -> usize
+        requires { at + length (text self) ≤ length out.old }
+        ensures { Puts out.old at (text self) result out.new };
 }
 
-// Puts a number, and the byte behind it.
-pub fn put_number(out: &mut [u8], at: usize, v: u64, end: u8) -> usize
-    requires { at + length (decimal v ++ (end ∷ [])) ≤ length out.old }
-    ensures { (result ≡ at + length (decimal v ++ (end ∷ []))) × (out.new ≡ sets out.old at (decimal v ++ (end ∷ []))) }
-{
-    let last = bits::put_decimal(out, at, v);
-    out[last] = end;
-    last + 1
-}
+impl Field for &[u8] {
+    ghost text = { λ word. word.now };
 
-// Puts the name of a state, and a space.
-pub fn put_state(out: &mut [u8], at: usize, p: EffectState) -> usize
-    requires { at + length (name p ++ ascii " ") ≤ length out.old }
-    ensures { (result ≡ at + length (name p ++ ascii " ")) × (out.new ≡ sets out.old at (name p ++ ascii " ")) }
-{
-    match p {
-        EffectState::Tripped => put_word(out, at, b"tripped", b' '),
-        EffectState::WaitReset => put_word(out, at, b"wait-reset", b' '),
-        EffectState::Ready => put_word(out, at, b"ready", b' '),
-        EffectState::WaitStart => put_word(out, at, b"wait-start", b' '),
-        EffectState::Normal => put_word(out, at, b"normal", b' '),
-        EffectState::Delayed => put_word(out, at, b"delayed", b' '),
+    fn put(self, out: &mut [u8], at: usize) -> usize {
+        bits::put_text(out, at, self)
     }
 }
 
+impl Field for u64 {
+    ghost text = { λ v. decimal v };
+
+    fn put(self, out: &mut [u8], at: usize) -> usize {
+        bits::put_decimal(out, at, self)
+    }
+}
+
+impl Field for EffectState {
+    ghost text = { λ p. name p };
+
+    // A call for each name: as a value of one function the names take a listing beyond its bar of speed.
+    #[tactic(auto, unfolding(crate::specs::Text::name))]
+    fn put(self, out: &mut [u8], at: usize) -> usize {
+        match self {
+            EffectState::Tripped => bits::put_text(out, at, b"tripped"),
+            EffectState::WaitReset => bits::put_text(out, at, b"wait-reset"),
+            EffectState::Ready => bits::put_text(out, at, b"ready"),
+            EffectState::WaitStart => bits::put_text(out, at, b"wait-start"),
+            EffectState::Normal => bits::put_text(out, at, b"normal"),
+            EffectState::Delayed => bits::put_text(out, at, b"delayed"),
+        }
+    }
+}
+
+impl Field for Reason {
+    ghost text = { λ r. words_of r };
+
+    fn put(self, out: &mut [u8], at: usize) -> usize {
+        wording::put_reason(out, at, self)
+    }
+}
+
+// Puts a field, and the byte behind it.
+pub fn put_field<F: Field>(out: &mut [u8], at: usize, field: F, end: u8) -> usize
+    requires { at + length (F.text field ++ (end ∷ [])) ≤ length out.old }
+    ensures { Puts out.old at (F.text field ++ (end ∷ [])) result out.new }
+{
+    let last = field.put(out, at);
+    out[last] = end;
+    last + 1
+}
+
 // Puts a word, a space, a number, and the byte behind it.
+#[tactic(auto, unfolding(crate::specs::Pieces::total))]
 pub fn put_total(out: &mut [u8], at: usize, word: &[u8], v: u64, end: u8) -> usize
     requires { at + length (total word.now v end) ≤ length out.old }
-    ensures { (result ≡ at + length (total word.now v end)) × (out.new ≡ sets out.old at (total word.now v end)) }
+    ensures { Puts out.old at (total word.now v end) result out.new }
 {
-    let next = put_word(out, at, word, b' ');
-    put_number(out, next, v, end)
+    let next = put_field(out, at, word, b' ');
+    put_field(out, next, v, end)
 }
 
 // ---- the line of a record
 
 // Puts the sequence number of an event, its scan and its effect, with a space behind each.
+#[tactic(auto, unfolding(crate::specs::Pieces::when))]
 fn put_when(out: &mut [u8], at: usize, e: Event) -> usize
     requires { at + length (when e) ≤ length out.old }
-    ensures { (result ≡ at + length (when e)) × (out.new ≡ sets out.old at (when e)) }
+    ensures { Puts out.old at (when e) result out.new }
 {
-    let scan = put_number(out, at, e.seq as u64, b' ');
-    let effect = put_number(out, scan, e.scan as u64, b' ');
-    put_number(out, effect, e.effect as u64, b' ')
+    let scan = put_field(out, at, e.seq as u64, b' ');
+    let effect = put_field(out, scan, e.scan as u64, b' ');
+    put_field(out, effect, e.effect as u64, b' ')
 }
 
 // Puts the states and the first-out of an event, and the byte behind it.
+#[tactic(auto, unfolding(crate::specs::Pieces::change))]
 fn put_change(out: &mut [u8], at: usize, e: Event, end: u8) -> usize
     requires { at + length (change e end) ≤ length out.old }
-    ensures { (result ≡ at + length (change e end)) × (out.new ≡ sets out.old at (change e end)) }
+    ensures { Puts out.old at (change e end) result out.new }
 {
-    let p = e.from;
-    let q = e.to;
-    let to = put_state(out, at, p);
-    let first = put_state(out, to, q);
-    put_number(out, first, e.first_out as u64, end)
+    let to = put_field(out, at, e.from, b' ');
+    let first = put_field(out, to, e.to, b' ');
+    put_field(out, first, e.first_out as u64, end)
 }
 
-// Puts the words of a reason, and LF.
-pub fn put_end(out: &mut [u8], at: usize, r: Reason) -> usize
-    requires { at + length (words_of r ++ ascii "\n") ≤ length out.old }
-    ensures { (result ≡ at + length (words_of r ++ ascii "\n")) × (out.new ≡ sets out.old at (words_of r ++ ascii "\n")) }
-{
-    let last = wording::put_reason(out, at, r);
-    out[last] = b'\n';
-    last + 1
-}
-
-fn put_line(out: &mut [u8], at: usize, e: Event, column: Column, associations: &[u32; 64]) -> usize
+// Puts the line of a record, with its reason where a column tells what reasons read of the row.
+#[tactic(auto, unfolding(crate::specs::Pieces::further, crate::specs::Pieces::when, crate::specs::Pieces::change, crate::specs::Text::line_with))]
+fn put_line(
+    out: &mut [u8],
+    at: usize,
+    e: Event,
+    column: Option<Sight>,
+    associations: &[u32; 64],
+) -> usize
     requires { (1 ≤ e.effect) × (e.effect ≤ most_effects) × (at + length (column_line column associations.now e) ≤ length out.old) }
-    ensures { (result ≡ at + length (column_line column associations.now e)) × (out.new ≡ sets out.old at (column_line column associations.now e)) }
+    ensures { Puts out.old at (column_line column associations.now e) result out.new }
 {
     let from = put_when(out, at, e);
-    if !column.why {
-        return put_change(out, from, e, b'\n');
+    match column {
+        None => put_change(out, from, e, b'\n'),
+        Some(sight) => {
+            let last = put_change(out, from, e, b' ');
+            let r = reasons::reason_in(sight, associations, e);
+            put_field(out, last, r, b'\n')
+        }
     }
-    let sight = column.sight;
-    let r = reasons::reason_in(sight, associations, e);
-    let last = put_change(out, from, e, b' ');
-    put_end(out, last, r)
 }
 
-// Puts the lines of the n records at the front of `records`, with this column. The association words of the effects stand at the front of
-// `associations`.
+// Puts the lines of the n records at the front of `records`: behind the first-out stands nothing, or each record's reason by what reasons
+// read of the row. The association words of the effects stand at the front of `associations`.
 pub fn put_lines(
     out: &mut [u8],
     at: usize,
     records: &[u8],
     n: usize,
-    column: Column,
+    column: Option<Sight>,
     associations: &[u32; 64],
 ) -> usize
-    requires { (n ≤ most_records) × Recorded records.now n × (at + most_piece ≤ length out.old) × Narrow column.sight }
+    requires { (n ≤ most_records) × Recorded records.now n × (at + most_piece ≤ length out.old) × IfSome column Narrow }
     ensures lines_put { LinesPut (column_lines column associations.now) records.now n at out.old result out.new }
     ensures upper_bound { result ≤ length out.old }
 {
     let mut next = at;
-    let mut i: usize = 0;
-    while i < n {
-        next = put_line(
-            out,
-            next,
-            effects::event_at(records, effects::RECORD_LENGTH * i),
-            column,
-            associations,
-        );
-        i += 1;
+    for i in 0..n {
+        let e = effects::event_at(records, effects::RECORD_LENGTH * i);
+        next = put_line(out, next, e, column, associations);
     }
     next
 }
@@ -152,9 +165,10 @@ pub fn put_lines(
 // ---- the other lines
 
 // Puts the header, with a column for reasons or without.
+#[tactic(auto, unfolding(crate::specs::Text::header_with))]
 pub fn put_header(out: &mut [u8], at: usize, why: bool) -> usize
     requires { at + most_piece ≤ length out.old }
-    ensures value { (result ≡ at + length (header_of why)) × (out.new ≡ sets out.old at (header_of why)) }
+    ensures value { Puts out.old at (header_of why) result out.new }
     ensures upper_bound { result ≤ length out.old }
 {
     let last = bits::put_text(out, at, b"seq scan effect from to first");
@@ -174,7 +188,7 @@ pub fn put_last(
     exercised: u32,
 ) -> usize
     requires { at + most_piece ≤ length out.old }
-    ensures value { (result ≡ at + length (last_line rows scans live exercised)) × (out.new ≡ sets out.old at (last_line rows scans live exercised)) }
+    ensures value { Puts out.old at (last_line rows scans live exercised) result out.new }
     ensures upper_bound { result ≤ length out.old }
 {
     let second = put_total(out, at, b"rows", rows as u64, b' ');
@@ -186,7 +200,7 @@ pub fn put_last(
 // Puts the line of a refusal.
 pub fn put_refusal(out: &mut [u8], at: usize, number: u8, place: usize) -> usize
     requires { at + most_piece ≤ length out.old }
-    ensures value { (result ≡ at + length (refusal_line number place)) × (out.new ≡ sets out.old at (refusal_line number place)) }
+    ensures value { Puts out.old at (refusal_line number place) result out.new }
     ensures upper_bound { result ≤ length out.old }
 {
     let second = put_total(out, at, b"refused", number as u64, b' ');

@@ -4,10 +4,6 @@ use Rattle.listing.specs.Listing.{closing}
 use Rattle.text.specs.Text.{last_line, refusal_line}
 use Rattle.listing.proofs.put_closing.Goals as goal
 
-pub returns-then-end-eq0 : goal.returns-then-end-eq0
-unfolding closing
-returns-then-end-eq0 c = rw c.if-end-eq0.true c.put_last.ensures
-
 pub returns-else-end-eq0 : goal.returns-else-end-eq0
 unfolding closing
 returns-else-end-eq0 c =

@@ -13,9 +13,6 @@ use Rattle.listing.proofs.put_opening.Goals as goal
 refusal_opens : (why : Bool) (a : Answer) (n p : ℕ) → a ≡ Refused n p → (n ≡ 0 → ⊥) → opening why a ≡ refusal_line n p
 refusal_opens why a n p e h = rw e (granted_refused (header_of why) (λ k. refusal_line k p) n h)
 
-pub returns-in-Accepted : goal.returns-in-Accepted
-returns-in-Accepted c = rw c.in-Accepted.is c.put_header.ensures
-
 pub returns-then-number-eq0 : goal.returns-then-number-eq0
 returns-then-number-eq0 c =
     rw (c.in-Refused.is, c.if-number-eq0.true)

@@ -1,27 +1,8 @@
 -- `now_table::put_effect` meets its contract: four fields, one after the other.
 use mathlib.Core.List.{◌++◌}
-use native.Mathlib.Omega.{arith}
 use Rattle.bits.proofs.Puts.{put_then}
-use Rattle.now_table.proofs.Lines.{number_field, state_field, first_field, reason_field, fields, length_fields}
+use Rattle.now_table.proofs.Lines.{number_field, state_field, first_field, reason_field, fields}
 use Rattle.now_table.proofs.put_effect.Goals as goal
-
-pub put_number-state-requires : goal.put_number-state-requires
-put_number-state-requires c = let a = c.args in omega (arith, length_fields a.n a.p a.first_out a.r)
-
-pub put_state-first-requires : goal.put_state-first-requires
-put_state-first-requires c =
-    let a = c.args in
-    omega (arith, length_fields a.n a.p a.first_out a.r, c.put_number-state.ensures.0)
-
-pub put_number-reason-requires : goal.put_number-reason-requires
-put_number-reason-requires c =
-    let a = c.args in
-    omega (arith, length_fields a.n a.p a.first_out a.r, c.put_number-state.ensures.0, c.put_state-first.ensures.0)
-
-pub put_end-requires : goal.put_end-requires
-put_end-requires c =
-    let a = c.args in
-    omega (arith, length_fields a.n a.p a.first_out a.r, c.put_number-state.ensures.0, c.put_state-first.ensures.0, c.put_number-reason.ensures.0)
 
 pub returns : goal.returns
 returns c =
@@ -30,7 +11,7 @@ returns c =
     let p = a.p in
     let f = a.first_out in
     let r = a.r in
-    let behind = put_then _ _ _ _ _ _ (first_field n p f r) (reason_field n p f r) c.put_number-reason.ensures c.put_end.ensures in
-    let later = put_then _ _ _ _ _ _ (state_field n p f r) (first_field n p f r ++ reason_field n p f r) c.put_state-first.ensures behind in
+    let behind = put_then _ _ _ _ _ _ (first_field n p f r) (reason_field n p f r) c.put_field-reason.ensures c.put_field.ensures in
+    let later = put_then _ _ _ _ _ _ (state_field n p f r) (first_field n p f r ++ reason_field n p f r) c.put_field-first.ensures behind in
     rw (fields n p f r)
-    (put_then a.out.now _ _ a.at _ _ (number_field n p f r) (state_field n p f r ++ (first_field n p f r ++ reason_field n p f r)) c.put_number-state.ensures later)
+    (put_then a.out.now _ _ a.at _ _ (number_field n p f r) (state_field n p f r ++ (first_field n p f r ++ reason_field n p f r)) c.put_field-state.ensures later)

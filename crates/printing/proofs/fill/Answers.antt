@@ -1,4 +1,5 @@
 -- `printing::fill` meets its contract. The loop's invariant is `Filling`, by one row more each time; the measure: rows to go.
+use mathlib.Core.Path.{refl}
 use native.Mathlib.Omega.{arith}
 use Rattle.printing.proofs.Turn.{begins, ends, more_left, fills, stops, goes_on, one_more}
 use Rattle.printing.proofs.fill.Goals as goal
@@ -6,26 +7,26 @@ use Rattle.printing.proofs.fill.Goals as goal
 pub loop-t-init : goal.loop-t-init
 loop-t-init c = begins c.requires c.args.from c.args.out.now
 
-pub row-p-requires : goal.row-p-requires
-row-p-requires c = let f = c.loop-t.invariant in (f.going, more_left f c.loop-t-test.true)
+pub row-requires : goal.row-requires
+row-requires c = let f = c.loop-t.invariant in (f.going, more_left f c.loop-t-test.true)
 
-pub returns-then-p : goal.returns-then-p
-returns-then-p c =
-    fills c.loop-t.invariant c.loop-t-test.true c.row-p.ensures c.if-p.true
+pub returns-in_default : goal.returns-in_default
+returns-in_default c =
+    fills c.loop-t.invariant c.loop-t-test.true c.in_default.ensures refl
 
 pub returns-then-turn-ne0 : goal.returns-then-turn-ne0
 returns-then-turn-ne0 c =
-    stops c.loop-t.invariant c.loop-t-test.true c.row-p.ensures c.if-p.false c.if-turn-ne0.true
+    stops c.loop-t.invariant c.loop-t-test.true c.in-Some.ensures refl c.if-turn-ne0.true
 
 pub loop-t-smaller : goal.loop-t-smaller
 loop-t-smaller c =
     let f = c.loop-t.invariant in
-    let one = one_more f c.loop-t-test.true c.row-p.ensures c.if-p.false c.if-turn-ne0.false in
+    let one = one_more f c.loop-t-test.true c.in-Some.ensures refl c.if-turn-ne0.false in
     omega (arith, one, more_left f c.loop-t-test.true)
 
 pub loop-t-preserved : goal.loop-t-preserved
 loop-t-preserved c =
-    goes_on c.loop-t.invariant c.loop-t-test.true c.row-p.ensures c.if-p.false c.if-turn-ne0.false
+    goes_on c.loop-t.invariant c.loop-t-test.true c.in-Some.ensures refl c.if-turn-ne0.false
 
 pub returns : goal.returns
 returns c = ends c.loop-t.invariant c.loop-t-test.false

@@ -8,17 +8,6 @@ use Rattle.reports.specs.Reports.{refused_at}
 use Rattle.reports.proofs.Front.{short_number, short_place}
 use Rattle.reports.proofs.put_refused_at.Goals as goal
 
-pub put_total-second-requires : goal.put_total-second-requires
-put_total-second-requires c = omega (arith, short_number c.args.number c.ranges.number.fits)
-
-pub put_total-end-requires : goal.put_total-end-requires
-put_total-end-requires c =
-    omega (arith, short_number c.args.number c.ranges.number.fits, short_place c.args.place c.ranges.place.fits)
-
-pub put_text-requires : goal.put_text-requires
-put_text-requires c =
-    omega (arith, short_number c.args.number c.ranges.number.fits, short_place c.args.place c.ranges.place.fits)
-
 pub returns : goal.returns
 unfolding refused_at
 returns c =

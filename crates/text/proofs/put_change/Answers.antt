@@ -1,23 +1,10 @@
 -- `text::put_change` meets its contract: three fields, one after the other.
 use mathlib.Core.List.{[], ◌∷◌, ◌++◌}
-use native.Mathlib.Omega.{arith}
 use Rattle.bits.specs.Decimal.{ascii, decimal}
 use Rattle.text.specs.Text.{name}
 use Rattle.text.specs.Pieces.{change}
-use Rattle.text.proofs.Lines.{length-change}
 use Rattle.bits.proofs.Puts.{put_then}
 use Rattle.text.proofs.put_change.Goals as goal
-
-pub put_state-to-requires : goal.put_state-to-requires
-put_state-to-requires c = omega (arith, length-change c.args.e c.args.end)
-
-pub put_state-first-requires : goal.put_state-first-requires
-put_state-first-requires c = let a = c.args in omega (arith, length-change a.e a.end)
-
-pub put_number-requires : goal.put_number-requires
-put_number-requires c =
-    let a = c.args in
-    omega (arith, length-change a.e a.end)
 
 pub returns : goal.returns
 unfolding change
@@ -25,5 +12,5 @@ returns c =
     let a = c.args in
     let e = a.e in
     let last = decimal e.first_out ++ (a.end ∷ []) in
-    let later = put_then _ _ _ _ _ _ (name e.to ++ ascii " ") last c.put_state-first.ensures c.put_number.ensures in
-    put_then a.out.now _ _ a.at _ _ (name e.from ++ ascii " ") (name e.to ++ ascii " " ++ last) c.put_state-to.ensures later
+    let later = put_then _ _ _ _ _ _ (name e.to ++ ascii " ") last c.put_field-first.ensures c.put_field.ensures in
+    put_then a.out.now _ _ a.at _ _ (name e.from ++ ascii " ") (name e.to ++ ascii " " ++ last) c.put_field-to.ensures later

@@ -2,7 +2,7 @@
 -- lines that are left make the whole text.
 use mathlib.Core.Path.{◌≡◌}
 use mathlib.Core.List.{List}
-use Prim.Native.Nat.{◌≤◌, ◌-◌, ◌+◌}
+use Prim.Native.Nat.{◌+◌}
 use lib.ListN.{length}
 use lib.Seq.{sets}
 use Rattle.effects.specs.declared.Event.{Event}
@@ -15,8 +15,5 @@ abbrev pub invariant-loop-i : goal.invariant-loop-i
 invariant-loop-i l =
     let line = column_line l.column l.associations in
     let lines = column_lines l.column l.associations in
-    (l.i ≤ l.n) × (length l.out ≡ length l.fn.out)
+    (length l.out ≡ length l.fn.out)
     × ((es : List Event) → length es ≡ l.n → StandFrom l.records 0 es → (l.next + length (left line es l.i) ≡ l.at + length (lines es)) × (sets l.out l.next (left line es l.i) ≡ sets l.fn.out l.at (lines es)))
-
-abbrev pub decreases-loop-i : goal.decreases-loop-i
-decreases-loop-i l = l.n - l.i

@@ -1,24 +1,12 @@
 -- `text::put_total` meets its contract: two fields, one after the other.
 use mathlib.Core.List.{[], ◌∷◌, ◌++◌}
-use native.Mathlib.Omega.{arith}
 use Rattle.bits.specs.Decimal.{ascii, decimal}
 use Rattle.text.specs.Pieces.{total}
-use Rattle.text.proofs.Lines.{length-total}
 use Rattle.bits.proofs.Puts.{put_then}
 use Rattle.text.proofs.put_total.Goals as goal
-
-pub put_word-next-requires : goal.put_word-next-requires
-put_word-next-requires c =
-    let a = c.args in
-    omega (arith, length-total a.word.now a.v a.end)
-
-pub put_number-requires : goal.put_number-requires
-put_number-requires c =
-    let a = c.args in
-    omega (arith, length-total a.word.now a.v a.end)
 
 pub returns : goal.returns
 unfolding total
 returns c =
     let a = c.args in
-    put_then a.out.now _ _ a.at _ _ (a.word.now ++ ascii " ") (decimal a.v ++ (a.end ∷ [])) c.put_word-next.ensures c.put_number.ensures
+    put_then a.out.now _ _ a.at _ _ (a.word.now ++ ascii " ") (decimal a.v ++ (a.end ∷ [])) c.put_field-next.ensures c.put_field.ensures
