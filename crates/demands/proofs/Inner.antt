@@ -105,7 +105,7 @@ use Rattle.reason_bytes.proofs.put_numbers.Reads as reason-bytes·put-numbers
 use Rattle.reasoned.proofs.sight_at.Reads as reasoned·sight-at
 use Rattle.standing.proofs.reason_now.Reads as standing·reason-now
 use Rattle.now_table.proofs.show.Reads as now-table·show
-use Rattle.now_table.specs.declared.Shown.{Shown}
+use Rattle.now_table.specs.Answer.{Shown}
 use Rattle.why_bytes.proofs.put_reasons.Reads as why-bytes·put-reasons
 use Rattle.why_bytes.proofs.put_now.Reads as why-bytes·put-now
 use Rattle.room.proofs.records_number.Reads as room·records-number

@@ -172,6 +172,7 @@ const SEVERAL_BIT: usize = 2;
 // The bits of a word.
 const WORD_BITS: u16 = 16;
 
+#[tactic(auto, unfolding(crate::specs::Faults::block_fault))]
 fn block_fault(causes: u8, options: u8, period: u16) -> Fault
     ensures { result ≡ block_fault causes options period }
 {
@@ -184,6 +185,7 @@ fn block_fault(causes: u8, options: u8, period: u16) -> Fault
     Fault::Period
 }
 
+#[tactic(auto, unfolding(crate::specs::Faults::effect_fault))]
 fn effect_fault(causes: u8, e: Effect) -> Fault
     ensures { result ≡ effect_fault causes e }
 {
@@ -211,6 +213,7 @@ fn is_permitted(options: u8, w: Words) -> bool
 }
 
 // The force words together. Where nothing is wrong with the row itself, it ends too late.
+#[tactic(auto, unfolding(crate::specs::Faults::together_fault))]
 fn together_fault(options: u8, w: Words) -> Fault
     ensures { result ≡ together_fault options w }
 {
@@ -224,6 +227,7 @@ fn together_fault(options: u8, w: Words) -> Fault
 }
 
 // Force permit and the force words, then those together.
+#[tactic(auto, unfolding(crate::specs::Faults::forces_fault))]
 fn forces_fault(count: u16, options: u8, w: Words) -> Fault
     ensures { result ≡ forces_fault count options w }
 {
@@ -240,6 +244,7 @@ fn forces_fault(count: u16, options: u8, w: Words) -> Fault
 }
 
 // The words of resets and permits, then those of forces.
+#[tactic(auto, unfolding(crate::specs::Faults::resets_fault))]
 fn resets_fault(count: u16, options: u8, w: Words) -> Fault
     ensures { result ≡ resets_fault count options w }
 {
@@ -259,6 +264,7 @@ fn resets_fault(count: u16, options: u8, w: Words) -> Fault
 }
 
 // The words of causes, then those of effects.
+#[tactic(auto, unfolding(crate::specs::Faults::inputs_fault))]
 fn inputs_fault(causes: u8, count: u16, options: u8, w: Words) -> Fault
     ensures { result ≡ inputs_fault causes count options w }
 {
@@ -274,6 +280,7 @@ fn inputs_fault(causes: u8, count: u16, options: u8, w: Words) -> Fault
     resets_fault(count, options, w)
 }
 
+#[tactic(auto, unfolding(crate::specs::Faults::row_fault))]
 fn row_fault(causes: u8, count: u16, options: u8, row: Row) -> Fault
     ensures { result ≡ row_fault causes count options row }
 {
@@ -315,6 +322,7 @@ fn fault_at(kind: Kind, s: &[u8], at: usize) -> Fault
 // ---- the finding
 
 // A place within a count.
+#[tactic(auto, unfolding(crate::specs::Findings::finding_in))]
 fn count_finding(kind: Kind, s: &[u8], p: usize) -> Finding
     ensures { result ≡ finding_in (Count kind) s.now p }
 {
@@ -326,6 +334,7 @@ fn count_finding(kind: Kind, s: &[u8], p: usize) -> Finding
 }
 
 // A place within an entry.
+#[tactic(auto, unfolding(crate::specs::Findings::finding_in))]
 fn entry_finding(kind: Kind, entry: u16, s: &[u8], p: usize) -> Finding
     ensures { result ≡ finding_in (Entry kind entry) s.now p }
 {
@@ -344,6 +353,7 @@ fn entry_finding(kind: Kind, entry: u16, s: &[u8], p: usize) -> Finding
     }
 }
 
+#[tactic(auto, unfolding(crate::specs::Findings::finding_in))]
 fn finding_in(spot: Spot, s: &[u8], p: usize) -> Finding
     ensures { result ≡ finding_in spot s.now p }
 {

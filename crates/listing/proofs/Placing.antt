@@ -1,4 +1,5 @@
 -- A piece at a place of a lent buffer: what is answered where the buffer is full, and where it is not.
+use Rattle.std.proofs.Common.{Result}
 use mathlib.Core.Path.{◌≡◌, refl, sym, ◌∙◌}
 use mathlib.Core.Bool.{Bool, true, false}
 use mathlib.Core.List.{List}
@@ -10,7 +11,9 @@ use lib.ListN.{length}
 use lib.Seq.{sets}
 use Rattle.std.specs.Prelude.{Option, None, Some}
 use Rattle.rerun.specs.declared.Run.{Run}
-use Rattle.rerun.specs.Answer.{Turn}
+use Rattle.rerun.specs.Answer.{as_turn}
+use Rattle.rerun.specs.declared.Turn.{Turn as RowTurn}
+use Rattle.rerun.specs.declared.Stopped.{Stopped}
 use Rattle.rerun.specs.Turn.{Going, RowDone}
 use Rattle.text.specs.Room.{most_piece}
 use Rattle.listing.specs.Printed.{has_room, placed, written, place_of, printed_of, row_lines, PrintedRow}
@@ -54,9 +57,9 @@ module _ (out : List ℕ) (at : ℕ) (b : Bool) (is : b ≡ has_room (length out
         record { full_is = rw e; at-is = rw e; within = λ l. l; text = rw e; number_is = rw e; records_are = rw e; going = g; rows_are = rw e }
 
     -- where there is room, the row is run, and results in u
-    pub whole_row : {space space' array' out' : List ℕ} {u : Turn} {r : ℕ} → RowDone s run space u array' space' → b ≡ true
+    pub whole_row : {space space' array' out' : List ℕ} {r : ℕ} (u : Result RowTurn Stopped) → RowDone s run space (as_turn u) array' space' → b ≡ true
         → Put out out' at r (row_lines why s run.rows) → r ≤ length out → PrintedRow why s run at out (printed_of run at (Some (record { at = r; turn = u }))) array' out'
-    whole_row d h p l =
+    whole_row u d h p l =
         let e = sym is ∙ h in
         record {
           full_is = rw e;

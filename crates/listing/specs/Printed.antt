@@ -8,7 +8,7 @@ use Rattle.recording.specs.Answer.{Answer}
 use Rattle.recording.specs.Answers.{number, place}
 use Rattle.recording.specs.Reader.{reading}
 use Rattle.rerun.specs.declared.Run.{Run}
-use Rattle.rerun.specs.Answer.{Turn}
+use Rattle.rerun.specs.Answer.{Turn, as_turn}
 use Rattle.rerun.specs.Replay.{replay, answered, first_rows, row_run}
 use Rattle.reasons.specs.declared.Sight.{Sight}
 use Rattle.reasoned.specs.Reasoned.{reasoned, reasoned_row}
@@ -85,7 +85,7 @@ pub record PrintedPiece : Type 0 where
 -- as the code answers it, from a run and a place: where the buffer was full, none, and both are as they were
 abbrev pub printed_of : Run → (at : ℕ) → Option Printed → PrintedPiece
 printed_of run at None = record { full = true; at = at; turn = record { number = 0; records = 0; run = run } }
-printed_of run at (Some p) = record { full = false; at = p.at; turn = p.turn }
+printed_of run at (Some p) = record { full = false; at = p.at; turn = as_turn p.turn }
 
 -- the lines of a row at a place, and what the row results in. If the buffer was full, the row was not run
 pub record PrintedRow (why : Bool) (s : List ℕ) (run : Run) (at : ℕ) (out : List ℕ) (r : PrintedPiece) (array' out' : List ℕ) : Type 0 where

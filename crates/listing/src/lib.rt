@@ -8,6 +8,8 @@
 ghost use Rattle.std.specs.Prelude.{◌≡◌, ◌+◌, ◌<◌, ◌≤◌, length, IfSome};
 ghost use Rattle.recording.specs.Answers.{row_count_of};
 ghost use Rattle.recording.specs.Reader.{reading as reading_of};
+ghost use Rattle.recording.specs.Answer.{as_reading};
+ghost use Rattle.rerun.specs.Answer.{as_turn, as_replayed};
 ghost use Rattle.rerun.specs.Turn.{Going};
 ghost use Rattle.wording.specs.Puts.{Puts};
 ghost use Rattle.text.specs.Room.{most_piece};
@@ -16,14 +18,15 @@ ghost use Rattle.reasoned.specs.Told.{NextRow};
 ghost use Rattle.listing.specs.Printed.{opening as opening_of, column_of, has_room, placed, written, place_of, printed_of, PrintedRow};
 
 use reasons::Sight;
-use recording::{Answer, Reading};
-use rerun::{Replayed, Run, Turn};
+use recording::Recording;
+use rerun::{Counts, Run, Stopped, Turn};
+use settings::Refused;
 
 // The place after a row's lines, and the row's turn.
 #[derive(Clone, Copy)]
 pub struct Printed {
     pub at: usize,
-    pub turn: Turn,
+    pub turn: Result<Turn, Stopped>,
 }
 
 const MOST_PIECE: usize = 2368;
@@ -46,35 +49,29 @@ pub fn has_room(n: usize, at: usize) -> bool
     at <= n - MOST_PIECE
 }
 
-fn put_opening(out: &mut [u8], at: usize, answer: Answer, why: bool) -> usize
+fn put_opening(out: &mut [u8], at: usize, answer: Result<Recording, Refused>, why: bool) -> usize
     requires { at + most_piece ≤ length out.old }
-    ensures value { Puts out.old at (opening_of why answer) result out.new }
+    ensures value { Puts out.old at (opening_of why (as_reading answer).answer) result out.new }
     ensures upper_bound { result ≤ length out.old }
 {
     match answer {
-        Answer::Accepted {
-            rows: _,
-            first: _,
-            width: _,
-        } => text::put_header(out, at, why),
-        Answer::Refused { number, place } => {
-            if number == 0 {
-                text::put_header(out, at, why)
-            } else {
-                text::put_refusal(out, at, number, place)
-            }
-        }
+        Ok(_) => text::put_header(out, at, why),
+        Err(refused) => text::put_refusal(out, at, u8::from(refused.refusal), refused.place),
     }
 }
 
 // The opening of a listing, from the reader's answer: the header; or, for a refused file, the line of the refusal, which is then the whole
-// listing. Refusal number 0 refuses nothing. The place after it; none where the buffer is full.
-pub fn opening(reading: Reading, out: &mut [u8], at: usize, why: bool) -> Option<usize>
-    ensures value { result ≡ place_of (written (length out.old) at (opening_of why reading.answer)) }
-    ensures out_after { out.new ≡ placed out.old at (opening_of why reading.answer) }
+// listing. The place after it; none where the buffer is full.
+pub fn opening(
+    answer: Result<Recording, Refused>,
+    out: &mut [u8],
+    at: usize,
+    why: bool,
+) -> Option<usize>
+    ensures value { result ≡ place_of (written (length out.old) at (opening_of why (as_reading answer).answer)) }
+    ensures out_after { out.new ≡ placed out.old at (opening_of why (as_reading answer).answer) }
     ensures at_in_bounds { IfSome result (λ r. r ≤ length out.old) }
 {
-    let answer = reading.answer;
     if !has_room(out.len(), at) {
         return None;
     }
@@ -87,6 +84,16 @@ fn column_of(s: &[u8], run: Run, why: bool) -> Option<Sight>
     ensures { result ≡ column_of why s.now run.rows }
 {
     why.then(|| reasoned::sight_at(s, run))
+}
+
+// The number of records of a row: one that is refused has none.
+fn records_of(turn: Result<Turn, Stopped>) -> usize
+    ensures { result ≡ (as_turn turn).records }
+{
+    match turn {
+        Ok(turn) => turn.records,
+        Err(_) => 0,
+    }
 }
 
 // Runs the run's next row, and puts its lines. Most rows have no record, and then there is no column to find. Where the buffer is full, no
@@ -107,32 +114,31 @@ pub fn row(
     }
     let mut records = [0u8; effects::MOST_ROW_BYTES];
     let turn = rerun::row(s, run, board, &mut records);
-    if turn.records == 0 {
+    let count = records_of(turn);
+    if count == 0 {
         return Some(Printed { at, turn });
     }
     let column = column_of(s, run, why);
-    let next = text::put_lines(out, at, &records, turn.records, column, board);
+    let next = text::put_lines(out, at, &records, count, column, board);
     Some(Printed { at: next, turn })
 }
 
-#[tactic(auto, unfolding(crate::specs::Listing::closing))]
-fn put_closing(out: &mut [u8], at: usize, end: Replayed) -> usize
+fn put_closing(out: &mut [u8], at: usize, end: Result<Counts, Refused>) -> usize
     requires { at + most_piece ≤ length out.old }
-    ensures value { Puts out.old at (closing_of end) result out.new }
+    ensures value { Puts out.old at (closing_of (as_replayed end)) result out.new }
     ensures upper_bound { result ≤ length out.old }
 {
-    if end.number == 0 {
-        text::put_last(out, at, end.rows, end.scans, end.live, end.exercised)
-    } else {
-        text::put_refusal(out, at, end.number, end.place)
+    match end {
+        Ok(c) => text::put_last(out, at, c.rows, c.scans, c.live, c.exercised),
+        Err(stop) => text::put_refusal(out, at, u8::from(stop.refusal), stop.place),
     }
 }
 
 // The closing of a listing, from the answer of the replay: the last line, or the line of a refusal. The place after it; none where the
 // buffer is full.
-pub fn closing(end: Replayed, out: &mut [u8], at: usize) -> Option<usize>
-    ensures value { result ≡ place_of (written (length out.old) at (closing_of end)) }
-    ensures out_after { out.new ≡ placed out.old at (closing_of end) }
+pub fn closing(end: Result<Counts, Refused>, out: &mut [u8], at: usize) -> Option<usize>
+    ensures value { result ≡ place_of (written (length out.old) at (closing_of (as_replayed end))) }
+    ensures out_after { out.new ≡ placed out.old at (closing_of (as_replayed end)) }
     ensures at_in_bounds { IfSome result (λ r. r ≤ length out.old) }
 {
     if !has_room(out.len(), at) {

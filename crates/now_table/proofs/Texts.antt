@@ -22,7 +22,7 @@ use Rattle.standing.specs.declared.Standing.{Standing}
 use Rattle.standing.specs.Stands.{last_row, Stands, reason_now}
 use Rattle.standing.proofs.Theorems.{the_reasons_now}
 use Rattle.text.specs.Text.{refusal_line}
-use Rattle.now_table.specs.declared.Shown.{Shown}
+use Rattle.now_table.specs.Answer.{Shown}
 use Rattle.now_table.specs.Now.{now_header, now_line, now_lines, now_text}
 use Rattle.now_table.specs.Lines.{standing_lines, standing_table, ShownOf}
 

@@ -1,2 +1,3 @@
+pub mod Answer
 pub mod Now
 pub mod Lines

@@ -8,7 +8,7 @@ use Rattle.rerun.specs.Replay.{replay}
 use Rattle.standing.specs.declared.Standing.{Standing}
 use Rattle.standing.specs.Stands.{reason_now}
 use Rattle.wording.specs.Text.{most_words}
-use Rattle.now_table.specs.declared.Shown.{Shown}
+use Rattle.now_table.specs.Answer.{Shown}
 use Rattle.now_table.specs.Now.{now_header, now_line, now_text}
 
 -- the most bytes of a line: the number of an effect has at most 2 digits, the name of a state at most 10 letters, and a first-out at most 5

@@ -7,27 +7,27 @@ ghost use Rattle.std.specs.Prelude.{◌≡◌, ◌+◌, ◌≤◌, ◌<◌, leng
 ghost use Rattle.std.proofs.lemmas.List.Edits.{sets};
 ghost use Rattle.rules.specs.Limits.{most_effects};
 ghost use Rattle.rules.specs.Rules.{no_slot};
-ghost use Rattle.recording.specs.Answer.{Accepted};
-ghost use Rattle.recording.specs.Reader.{reading as reading_of};
-ghost use Rattle.rerun.specs.Replay.{replay};
+ghost use Rattle.settings.specs.Refusals.{number_of};
+ghost use Rattle.recording.specs.Opened.{IsRead};
 ghost use Rattle.reasons.specs.Given.{Narrow};
 ghost use Rattle.standing.specs.Stands.{Stands};
 ghost use Rattle.wording.specs.Puts.{Puts, PutsFirst};
 ghost use Rattle.text.specs.Room.{most_piece};
 ghost use Rattle.text.specs.Text.{refusal_line};
+ghost use Rattle.now_table.specs.Answer.{as_shown};
 ghost use Rattle.now_table.specs.Now.{now_header, now_line};
 ghost use Rattle.now_table.specs.Lines.{most_now_lines, standing_lines, standing_table, ShownOf};
 
 use reasons::Reason;
-use recording::Answer;
+use recording::Recording;
 use rules::{EffectState, Slot};
-use settings::Settings;
+use settings::{Refusal, Refused, Settings};
 use standing::Standing;
 
-// What is shown of a recording: its refusal number or 0, and how many bytes its text has.
+// What is shown of a recording: what refuses it, if anything does, and how many bytes its text has.
 #[derive(Clone, Copy)]
 pub struct Shown {
-    pub number: u8,
+    pub refusal: Option<Refusal>,
     pub size: usize,
 }
 
@@ -90,52 +90,39 @@ fn put_table(out: &mut [u8], st: Settings, x: Standing) -> usize
 // ---- what is shown of a recording
 
 // Puts the line of a refusal at the front.
-fn refuse(out: &mut [u8], number: u8, place: usize) -> Shown
+fn refuse(out: &mut [u8], refused: Refused) -> Shown
     requires { most_piece ≤ length out.old }
-    ensures number_value { (result.number ≡ number) × (result.size ≡ length (refusal_line number place)) × (result.size ≤ length out.old) }
-    ensures out_after { out.new ≡ sets out.old 0 (refusal_line number place) }
+    ensures number_value { ((as_shown result).number ≡ number_of refused.refusal) × (result.size ≡ length (refusal_line (number_of refused.refusal) refused.place)) × (result.size ≤ length out.old) }
+    ensures out_after { out.new ≡ sets out.old 0 (refusal_line (number_of refused.refusal) refused.place) }
 {
-    let size = text::put_refusal(out, 0, number, place);
     Shown {
-        number: number,
-        size: size,
+        refusal: Some(refused.refusal),
+        size: text::put_refusal(out, 0, u8::from(refused.refusal), refused.place),
     }
 }
 
 // A file that the reader accepts: 9 shows no table.
-fn show_accepted(
-    out: &mut [u8],
-    s: &[u8],
-    st: Settings,
-    rows: u16,
-    first: usize,
-    width: usize,
-) -> Shown
-    requires { ((reading_of s.now).answer ≡ Accepted rows first width) × (st ≡ (reading_of s.now).settings) × (most_piece ≤ length out.old) }
-    ensures { ShownOf s.now out.old result out.new }
+fn show_accepted(out: &mut [u8], s: &[u8], file: Recording) -> Shown
+    requires { IsRead file s.now × (most_piece ≤ length out.old) }
+    ensures { ShownOf s.now out.old (as_shown result) out.new }
 {
-    let stop = rerun::stop_of(s, rows, first, width);
-    if stop.number != 0 {
-        return refuse(out, stop.number, stop.place);
+    if let Err(refused) = rerun::check_holds(s, file) {
+        return refuse(out, refused);
     }
-    let x = standing::at_end(s, st, rows, first, width);
-    let size = put_table(out, st, x);
+    let x = standing::at_end(s, file);
     Shown {
-        number: 0,
-        size: size,
+        refusal: None,
+        size: put_table(out, file.settings, x),
     }
 }
 
 // Puts the table of a recording at the front of `out`, or the line of its refusal.
 pub fn show(out: &mut [u8], s: &[u8]) -> Shown
     requires { most_piece ≤ length out.old }
-    ensures { ShownOf s.now out.old result out.new }
+    ensures { ShownOf s.now out.old (as_shown result) out.new }
 {
-    let reading = recording::read(s);
-    let answer = reading.answer;
-    let st = reading.settings;
-    match answer {
-        Answer::Accepted { rows, first, width } => show_accepted(out, s, st, rows, first, width),
-        Answer::Refused { number, place } => refuse(out, number, place),
+    match recording::read(s) {
+        Ok(file) => show_accepted(out, s, file),
+        Err(refused) => refuse(out, refused),
     }
 }

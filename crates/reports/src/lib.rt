@@ -6,10 +6,13 @@
 
 ghost use Rattle.std.specs.Prelude.{◌≡◌, ◌+◌, ◌≤◌, length};
 ghost use Rattle.wording.specs.Puts.{Puts, PutsFirst};
+ghost use Rattle.recording.specs.Answer.{as_reading};
+ghost use Rattle.findings.specs.Answer.{as_explained};
 ghost use Rattle.reports.specs.Reports.{heading, accepted_line, refused_line, check_line, refused_at, refused_why, explained_line, most_refused_at, Roomy};
 
 use findings::{Explained, Finding};
-use recording::Answer;
+use recording::Recording;
+use settings::Refused;
 
 // ---- the heading, and a check
 
@@ -46,18 +49,14 @@ fn put_refused(out: &mut [u8], name: &[u8], number: u8, place: usize) -> usize
 }
 
 // What the reader answered.
-pub fn put_check(out: &mut [u8], name: &[u8], answer: Answer) -> usize
+pub fn put_check(out: &mut [u8], name: &[u8], answer: Result<Recording, Refused>) -> usize
     requires { Roomy name.now out.old }
-    ensures value { PutsFirst out.old (check_line name.now answer) result out.new }
+    ensures value { PutsFirst out.old (check_line name.now (as_reading answer).answer) result out.new }
     ensures upper_bound { result ≤ length out.new }
 {
     match answer {
-        Answer::Accepted {
-            rows,
-            first: _,
-            width: _,
-        } => put_accepted(out, name, rows),
-        Answer::Refused { number, place } => put_refused(out, name, number, place),
+        Ok(file) => put_accepted(out, name, file.rows),
+        Err(refused) => put_refused(out, name, u8::from(refused.refusal), refused.place),
     }
 }
 
@@ -87,15 +86,16 @@ fn put_why(out: &mut [u8], name: &[u8], number: u8, place: usize, finding: Findi
 }
 
 // What a replay would be refused by, in words.
-#[tactic(auto, using(crate::proofs::Front::explained_accepted, crate::proofs::Front::explained_refused))]
 pub fn put_explained(out: &mut [u8], name: &[u8], e: Explained) -> usize
     requires { Roomy name.now out.old }
-    ensures value { PutsFirst out.old (explained_line name.now e) result out.new }
+    ensures value { PutsFirst out.old (explained_line name.now (as_explained e)) result out.new }
     ensures upper_bound { result ≤ length out.new }
 {
-    if e.number == 0 {
-        return put_accepted(out, name, e.rows);
+    match e.refused {
+        Some(refused) => {
+            let number = u8::from(refused.refusal);
+            put_why(out, name, number, refused.place, e.finding)
+        }
+        None => put_accepted(out, name, e.rows),
     }
-    let finding = e.finding;
-    put_why(out, name, e.number, e.place, finding)
 }

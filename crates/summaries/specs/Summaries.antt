@@ -57,6 +57,10 @@ summary_line name r =
 unfoldable pub three : (a b c : ℕ) → List ℕ
 three a b c = decimal a ++ ascii "," ++ (decimal b ++ ascii ",") ++ (decimal c ++ ascii ",")
 
+-- the numbers before the records
+abbrev pub fields : Replayed → List ℕ
+fields r = r.number ∷ r.place ∷ r.rows ∷ r.scans ∷ r.live ∷ r.exercised ∷ []
+
 -- the fields behind the name
 unfoldable pub numbers : Replayed → List ℕ
 numbers r = three r.number r.place r.rows ++ three r.scans r.live r.exercised ++ (decimal r.records ++ ascii "\n")

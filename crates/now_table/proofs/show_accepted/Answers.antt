@@ -5,7 +5,9 @@ use Prim.Native.Nat.{ℕ}
 use native.Mathlib.Omega.{arith}
 use lib.ListN.{length}
 use lib.Seq.{sets}
+use Rattle.settings.proofs.Refusals.{number_some}
 use Rattle.recording.specs.Accepted.{Accepted}
+use Rattle.recording.proofs.Opened.{answer_is, settings_are}
 use Rattle.rerun.specs.Answer.{Stop}
 use Rattle.rerun.proofs.Turns.{few_effects}
 use Rattle.recording.specs.Answers.{number}
@@ -15,35 +17,32 @@ use Rattle.now_table.proofs.Texts.{narrow, shows_table, shows_refusal}
 use Rattle.now_table.proofs.show_accepted.Goals as goal
 
 -- 9
-pub returns-then-stop-ne0 : goal.returns-then-stop-ne0
-returns-then-stop-ne0 c =
-    let number = ap (λ (r : Stop). r.number) c.stop_of-stop.ensures in
-    let place = ap (λ (r : Stop). r.place) c.stop_of-stop.ensures in
-    shows_refusal _ _ (sym number) (sym place) c.if-stop-ne0.true c.refuse.ensures.number_value c.refuse.ensures.out_after
+pub returns-in-Err : goal.returns-in-Err
+returns-in-Err c =
+    let number = ap (λ (r : Stop). r.number) c.in-Err.ensures in
+    let place = ap (λ (r : Stop). r.place) c.in-Err.ensures in
+    shows_refusal _ _ (sym number) (sym place) (number_some c.in-Err.refused.refusal) c.refuse.ensures.number_value c.refuse.ensures.out_after
 
 pub at_end-x-requires : goal.at_end-x-requires
-at_end-x-requires c =
-    let p = c.requires in
-    -- all rows run
-    let runs = sym (ap (λ (r : Stop). r.number) c.stop_of-stop.ensures) ∙ c.if-stop-ne0.false in
-    (p.0, p.1, runs)
+at_end-x-requires c = (c.requires.0, sym (ap (λ (r : Stop). r.number) c.in_default.ensures))
 
-pub put_table-size-requires : goal.put_table-size-requires
-put_table-size-requires c =
+pub put_table-requires : goal.put_table-requires
+put_table-requires c =
     let p = c.requires in
     -- all rows run
-    let runs = sym (ap (λ (r : Stop). r.number) c.stop_of-stop.ensures) ∙ c.if-stop-ne0.false in
-    let accepted : Accepted c.args.s.now = ap number p.0 in
-    (few_effects _ _ _ _ _ p.0 p.1, narrow accepted runs c.at_end-x.ensures, omega (arith, p.2))
+    let runs = sym (ap (λ (r : Stop). r.number) c.in_default.ensures) in
+    let is = answer_is _ c.args.file p.0 in
+    let accepted : Accepted c.args.s.now = ap number is in
+    (few_effects _ _ _ _ _ is (settings_are _ c.args.file p.0), narrow accepted runs c.at_end-x.ensures, omega (arith, p.1))
 
 pub returns : goal.returns
 returns c =
     let p = c.requires in
     -- all rows run
-    let runs = sym (ap (λ (r : Stop). r.number) c.stop_of-stop.ensures) ∙ c.if-stop-ne0.false in
-    let accepted : Accepted c.args.s.now = ap number p.0 in
+    let runs = sym (ap (λ (r : Stop). r.number) c.in_default.ensures) in
+    let accepted : Accepted c.args.s.now = ap number (answer_is _ c.args.file p.0) in
     let a = c.args in
     let table : (st : Settings) → List ℕ = λ st. standing_table st c.at_end-x.result in
-    let put : (c.put_table-size.result ≡ length (table a.st)) × (c.put_table-size.new.out ≡ sets a.out.now 0 (table a.st)) = c.put_table-size.ensures.value in
-    let same = ap table p.1 in
-    shows_table accepted runs c.at_end-x.ensures (put.0 ∙ ap length same, put.1 ∙ ap (sets a.out.now 0) same) c.put_table-size.ensures.upper_bound
+    let put : (c.put_table.result ≡ length (table a.file.settings)) × (c.put_table.new.out ≡ sets a.out.now 0 (table a.file.settings)) = c.put_table.ensures.value in
+    let same = ap table (settings_are _ c.args.file p.0) in
+    shows_table accepted runs c.at_end-x.ensures (put.0 ∙ ap length same, put.1 ∙ ap (sets a.out.now 0) same) c.put_table.ensures.upper_bound
