@@ -11,14 +11,14 @@ use Rattle.cases.proofs.fill.Goals as goal
 
 pub loop-i-init : goal.loop-i-init
 unfolding tabulate
-loop-i-init c = (omega arith, refl, refl)
+loop-i-init c = (refl, refl)
 
 pub loop-i-preserved : goal.loop-i-preserved
 loop-i-preserved c =
-    (omega arith, simp length-set c.loop-i.invariant.1, rw (c.loop-i.invariant.2, c.fill_at.ensures) (fill fill_at c.args.buf.now c.loop-i.i 0 (omega arith)))
+    (simp length-set c.loop-i.invariant.0, rw (c.loop-i.invariant.1, c.fill_at.ensures) (fill fill_at c.args.buf.now c.loop-i.i 0 (omega arith)))
 
 pub returns : goal.returns
 returns c =
     let l = c.args.buf.now in
     let e : c.loop-i.i ≡ length l = omega arith in
-    rw (c.loop-i.invariant.2, e, drop_of_length-le l (le_refl (length l)), append-nil)
+    rw (c.loop-i.invariant.1, e, drop_of_length-le l (le_refl (length l)), append-nil)

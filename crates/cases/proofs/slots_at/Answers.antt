@@ -35,9 +35,9 @@ one_more s at i xs x l before here j h = go (eqb j i) refl
 pub loop-i-preserved : goal.loop-i-preserved
 loop-i-preserved c =
     let a = c.args in
-    (omega arith, simp length-set c.loop-i.invariant.1, one_more a.s.now a.at c.loop-i.i c.loop-i.slots c.slot_at.result (omega (arith, c.loop-i.invariant.1)) c.loop-i.invariant.2 c.slot_at.ensures)
+    (simp length-set c.loop-i.invariant.0, one_more a.s.now a.at c.loop-i.i c.loop-i.slot-items c.slot_at.result (omega (arith, c.loop-i.invariant.0)) c.loop-i.invariant.1 c.slot_at.ensures)
 
 pub returns : goal.returns
 returns c =
     let e : c.loop-i.i ≡ 16 = omega arith in
-    rw e at c.loop-i.invariant.2
+    rw e at c.loop-i.invariant.1
