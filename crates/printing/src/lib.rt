@@ -1,25 +1,26 @@
 // A listing on a program's output: its text is `listing`'s, collected in one lent buffer and handed over when no piece fits any more
 // and at the end. All programs that print listings do it here. It rests on `listing` and what that rests on, and on std's writers.
-// When a part is handed over may change without moving a contract; the parts joined, and the answers 0, 1 and 2, may not.
+// When a part is handed over may change without moving a contract; the parts joined, and how it ends (specs/Status), may not.
 #![tactic(auto)]
 
 mod sending;
 
-ghost use Rattle.std.specs.Prelude.{◌≡◌, true, ◌+◌, ◌≤◌, ◌<◌, length, take, drop};
+ghost use Rattle.std.specs.Prelude.{◌≡◌, true, ◌+◌, ◌≤◌, ◌<◌, length, take, drop, OnOk};
 ghost use Rattle.std.specs.Io.KnownBytes.{Appends};
 ghost use Rattle.text.specs.Room.{most_piece};
 ghost use Rattle.rerun.specs.Turn.{Going};
 ghost use Rattle.rerun.specs.Replay.{replay};
 ghost use Rattle.listing.specs.Printed.{listing_of};
 ghost use Rattle.printing.specs.Filled.{so_far, Filled};
-ghost use Rattle.printing.specs.Status.{status as status_of, Told};
+ghost use Rattle.printing.specs.Status.{status as status_of, outcome_number, Told};
 ghost use Rattle.printing.specs.Waiting.{Buffer, most_gone, Waiting, Closes};
 
 use listing::Printed;
 use recording::Answer;
 use rerun::{Run, Turn};
 pub use sending::Sent;
-use std::io::{Error, Write};
+use std::io;
+use std::io::Write;
 
 // ---- the text
 
@@ -64,41 +65,28 @@ fn fill(
 
 // ---- the output
 
-// How a replay ended, by whether all was written, and the refusal number or 0.
-fn status(good: bool, number: u8) -> u8
-    ensures { result ≡ status_of good number }
-{
-    if !good {
-        return 2;
-    }
-    if number != 0 {
-        return 1;
-    }
-    0
+// How the listing of a recording ends.
+#[derive(Clone, Copy, PartialEq, Eq)]
+pub enum Outcome {
+    Replayed,
+    Refused,
 }
 
-// How printing ended: 0 replayed, 1 refused, 2 the output took no more; and what has gone.
+// How printing ended where the output took all, and what has gone.
 #[derive(Clone, Copy)]
 pub struct Ending {
-    pub status: u8,
+    pub outcome: Outcome,
     pub sent: Sent,
 }
 
-fn ending_of(sent: Sent, number: u8) -> Ending
-    ensures { (result.status ≡ status_of sent.good number) × (result.sent ≡ sent) }
+// How a listing ends, by the refusal number or 0.
+fn outcome_of(number: u8) -> Outcome
+    ensures { outcome_number result ≡ status_of true number }
 {
-    let good = sending::written(sent);
-    Ending {
-        status: status(good, number),
-        sent: sent,
+    if number != 0 {
+        return Outcome::Refused;
     }
-}
-
-// Why the output took no more, if it did not.
-pub fn error_of(ending: Ending) -> Error
-    ensures { result ≡ ending.sent.error }
-{
-    sending::error(ending.sent)
+    Outcome::Replayed
 }
 
 // Writes what waits at the front of the buffer, which is the rest of the listing.
@@ -110,13 +98,17 @@ fn write_rest<W: Write>(
     out: &[u8],
     at: usize,
     number: u8,
-) -> Ending
+) -> io::Result<Ending>
     requires waiting { Waiting why s.now sent (take at out.now) (listing_of why s.now) × ((replay s.now).number ≡ number) }
     requires at_in_bounds { (at ≤ length out.now) × Buffer (length out.now) × (sent.gone < most_gone) }
     ensures told { Told why s.now result }
-    ensures handed { result.sent.good ≡ true → Appends (W.contents output.old) (W.contents output.new) (drop sent.gone (listing_of why s.now)) }
+    ensures handed { OnOk result (Appends (W.contents output.old) (W.contents output.new) (drop sent.gone (listing_of why s.now))) }
 {
-    ending_of(sending::flush(output, s, why, sent, &out[..at]), number)
+    let sent = sending::flush(output, s, why, sent, &out[..at])?;
+    Ok(Ending {
+        outcome: outcome_of(number),
+        sent,
+    })
 }
 
 // Puts the closing at a place from which any piece fits, and writes the rest of the listing.
@@ -128,11 +120,11 @@ fn write_closing<W: Write>(
     turn: Turn,
     out: &mut [u8],
     at: usize,
-) -> Ending
+) -> io::Result<Ending>
     requires closes { Closes why s.now sent turn (take at out.old) }
     requires most_piece_in_bounds { (at + most_piece ≤ length out.old) × Buffer (length out.old) × (sent.gone < most_gone) }
     ensures told { Told why s.now result }
-    ensures handed { result.sent.good ≡ true → Appends (W.contents output.old) (W.contents output.new) (drop sent.gone (listing_of why s.now)) }
+    ensures handed { OnOk result (Appends (W.contents output.old) (W.contents output.new) (drop sent.gone (listing_of why s.now))) }
 {
     let end = rerun::answer_of(turn);
     let w = listing::closing(end, out, at);
@@ -148,19 +140,16 @@ fn print_closing<W: Write>(
     turn: Turn,
     out: &mut [u8],
     at: usize,
-) -> Ending
+) -> io::Result<Ending>
     requires closes { Closes why s.now sent turn (take at out.old) }
     requires at_in_bounds { (at ≤ length out.old) × Buffer (length out.old) × (sent.gone + at < most_gone) }
     ensures told { Told why s.now result }
-    ensures handed { result.sent.good ≡ true → Appends (W.contents output.old) (W.contents output.new) (drop sent.gone (listing_of why s.now)) }
+    ensures handed { OnOk result (Appends (W.contents output.old) (W.contents output.new) (drop sent.gone (listing_of why s.now))) }
 {
     if listing::has_room(out.len(), at) {
         return write_closing(output, s, why, sent, turn, out, at);
     }
-    let next = sending::flush(output, s, why, sent, &out[..at]);
-    if !sending::written(next) {
-        return ending_of(next, 0);
-    }
+    let next = sending::flush(output, s, why, sent, &out[..at])?;
     write_closing(output, s, why, next, turn, out, 0)
 }
 
@@ -173,21 +162,18 @@ fn print_rows<W: Write>(
     out: &mut [u8],
     from: usize,
     why: bool,
-) -> Ending
+) -> io::Result<Ending>
     requires going { Going s.now run board.old × (take from out.old ≡ so_far why s.now run.rows) }
     requires from_in_bounds { (from ≤ length out.old) × Buffer (length out.old) }
     ensures told { Told why s.now result }
-    ensures handed { result.sent.good ≡ true → Appends (W.contents output.old) (W.contents output.new) (listing_of why s.now) }
+    ensures handed { OnOk result (Appends (W.contents output.old) (W.contents output.new) (listing_of why s.now)) }
 {
     let mut sent = sending::nothing();
     let mut p = fill(s, run, board, out, from, why);
     while p.full {
         let turn = p.turn;
         let at = p.at;
-        sent = sending::flush(output, s, why, sent, &out[..at]);
-        if !sending::written(sent) {
-            return ending_of(sent, 0);
-        }
+        sent = sending::flush(output, s, why, sent, &out[..at])?;
         let next = turn.run;
         p = fill(s, next, board, out, 0, why);
     }
@@ -195,12 +181,12 @@ fn print_rows<W: Write>(
     print_closing(output, s, why, sent, turn, out, p.at)
 }
 
-// Prints the listing of a recording, with reasons if `why` asks for them, by way of the lent buffer, and answers how it ended. Where all was
-// written, an output whose bytes are known holds the whole listing more, and nothing else.
-pub fn print<W: Write>(output: &mut W, s: &[u8], why: bool, out: &mut [u8]) -> Ending
+// Prints the listing of a recording, with reasons if `why` asks for them, by way of the lent buffer, and answers how it ended, or
+// the error of the write that failed. Where all was written, an output whose bytes are known holds the whole listing more, and nothing else.
+pub fn print<W: Write>(output: &mut W, s: &[u8], why: bool, out: &mut [u8]) -> io::Result<Ending>
     requires { Buffer (length out.old) }
     ensures told { Told why s.now result }
-    ensures handed { result.sent.good ≡ true → Appends (W.contents output.old) (W.contents output.new) (listing_of why s.now) }
+    ensures handed { OnOk result (Appends (W.contents output.old) (W.contents output.new) (listing_of why s.now)) }
 {
     let reading = recording::read(s);
     let opened = listing::opening(reading, out, 0, why);

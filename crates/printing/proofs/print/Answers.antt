@@ -48,5 +48,5 @@ write_rest-requires g c =
     let all = a_refused_file_is_its_opening c.args.why s (λ z. refusal_number s _ _ refused (sym (ap number refused) ∙ z)) in
     record {
       waiting = (starts nothing (opened ∙ all), number_of_refused s _ _ refused);
-      at_in_bounds = (omega (arith, within), same_buffer, omega (arith, nothing.1));
+      at_in_bounds = (omega (arith, within), same_buffer, omega (arith, nothing));
     }

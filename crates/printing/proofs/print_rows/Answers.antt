@@ -1,12 +1,12 @@
 -- `printing::print_rows` meets its contract: buffer after buffer, the loop goes on from the row that did not fit.
-use mathlib.Core.Path.{sym, ap, ◌∙◌}
-use mathlib.Core.Bool.{not}
+use mathlib.Core.Path.{sym}
 use native.Mathlib.Omega.{arith}
 use lib.ListN.{take-append-drop}
 use borrow.Author.Rules.{rules}
+use Rattle.std.proofs.lemmas.Result.{IfOk-weaker}
 use Rattle.listing.specs.Printed.{listing_of}
 use Rattle.printing.proofs.Handed.{appends_then, appends_none, gone_with}
-use Rattle.printing.proofs.Parts.{starts, next, goes, filled, failed}
+use Rattle.printing.proofs.Parts.{starts, next, goes, filled}
 use Rattle.printing.proofs.Turn.{falls, at_first, rest_follows, counts, later, counted}
 use Rattle.printing.proofs.print_rows.Goals as goal
 
@@ -23,20 +23,16 @@ loop-p-init g c =
         long = search rules;
         within = omega (arith, f.within c.requires.from_in_bounds.0);
         waits = filled (starts nothing c.requires.going.1) f;
-        small = at_first _ c.fill-p.result nothing.1;
+        small = at_first _ c.fill-p.result nothing;
         last = f.last;
       },
-      rw nothing.1 (appends_none _),
+      rw nothing (appends_none _),
     )
 
-pub flush-sent-requires : goal.flush-sent-requires
-flush-sent-requires g c =
+pub flush-requires : goal.flush-requires
+flush-requires g c =
     let i = c.loop-p.invariant.0 in
-    record { good_value = (i.waits.written, next i.waits _ (rest_follows i)); part_bound = counts i }
-
-pub returns-then-not-written-clause-told : goal.returns-then-not-written-clause-told
-returns-then-not-written-clause-told g c =
-    failed c.flush-sent.result 0 _ c.ending_of.ensures c.written.result c.written.ensures (ap not c.if-not-written.true)
+    record { next_part = next i.waits _ (rest_follows i); part_bound = counts i }
 
 pub fill-p-requires-in-loop-p : goal.fill-p-requires-in-loop-p
 fill-p-requires-in-loop-p g c =
@@ -49,8 +45,7 @@ loop-p-smaller g c =
 
 pub loop-p-preserved : goal.loop-p-preserved
 loop-p-preserved g c =
-    let flush = c.flush-sent in
-    let good = sym c.written.ensures ∙ c.if-not-written.false in
+    let sent = c.in_ok-sent.ensures in
     let i = c.loop-p.invariant.0 in
     let f = c.fill-p-in-loop-p.ensures in
     let n = next i.waits _ (rest_follows i) in (
@@ -59,11 +54,11 @@ loop-p-preserved g c =
         buffer = i.buffer;
         long = omega (arith, i.long);
         within = omega (arith, f.within (omega arith));
-        waits = filled (goes i.waits _ (rest_follows i) good flush.ensures.gone_after) f;
-        small = later i c.loop-p-test.true flush.ensures.gone_after f;
+        waits = filled (goes i.waits _ (rest_follows i) sent.gone_after) f;
+        small = later i c.loop-p-test.true sent.gone_after f;
         last = f.last;
       },
-      rw (sym (gone_with n flush.ensures.gone_after)) (appends_then _ _ _ _ _ c.loop-p.invariant.1 (flush.ensures.handed good)),
+      rw (sym (gone_with n sent.gone_after)) (appends_then _ _ _ _ _ c.loop-p.invariant.1 sent.handed),
     )
 
 pub print_closing-requires : goal.print_closing-requires
@@ -74,15 +69,11 @@ print_closing-requires g c =
       at_in_bounds = (omega (arith, i.within), rw i.long i.buffer, counted i);
     }
 
-pub shape_of-out-then-not-written : goal.shape_of-out-then-not-written
-shape_of-out-then-not-written g c =
-    omega (arith, c.loop-p.invariant.0.long)
-
 pub shape_of-out : goal.shape_of-out
 shape_of-out g c =
     omega (arith, c.loop-p.invariant.0.long)
 
 pub returns-clause-handed : goal.returns-clause-handed
-returns-clause-handed g c = λ good.
+returns-clause-handed g c =
     let l = listing_of c.args.why c.args.s.now in
-    rw (sym (take-append-drop c.loop-p.sent.gone l)) (appends_then _ _ _ _ _ c.loop-p.invariant.1 (c.print_closing.ensures.handed good))
+    rw (sym (take-append-drop c.loop-p.sent.gone l)) (IfOk-weaker _ _ _ (λ _. appends_then _ _ _ _ _ c.loop-p.invariant.1) c.print_closing.ensures.handed)
