@@ -395,10 +395,13 @@ pub trait Step {
     // how many more inputs it can take
     ghost room: { Self → ℕ };
 
+    // what each input leaves true
+    ghost kept: { Self → Type 0 };
+
     // Takes an input under its name, and answers how that ended.
     fn take(&mut self, name: &[u8], input: &[u8]) -> Status
-        requires { (length name.now ≤ most_name) × (0 < room self.old) }
-        ensures { room self.old ≤ room self.new + 1 };
+        requires { (length name.now ≤ most_name) × (0 < room self.old) × kept self.old }
+        ensures { (room self.old ≤ room self.new + 1) × kept self.new };
 }
 
 // The place of standard input among the arguments where none names it.
@@ -407,8 +410,8 @@ const NO_NAME: usize = 0;
 impl<R: Files + Env + io::Input + Errors> Program<'_, R> {
     // Takes the input of a name, which is argument i. One that cannot be read is not taken.
     fn take_named<S: Step>(&self, step: &mut S, i: usize, name: &[u8], file: &mut [u8]) -> Status
-        requires { (length name.now ≤ most_name) × (0 < S.room step.old) }
-        ensures { (S.room step.old ≤ S.room step.new + 1) × (length file.new ≡ length file.old) }
+        requires { (length name.now ≤ most_name) × (0 < S.room step.old) × S.kept step.old }
+        ensures { (S.room step.old ≤ S.room step.new + 1) × S.kept step.new × (length file.new ≡ length file.old) }
     {
         let Some(size) = self.read_named(i, name, file) else {
             return Status::Unread;
@@ -424,8 +427,8 @@ impl<R: Files + Env + io::Input + Errors> Program<'_, R> {
         name: &mut [u8],
         file: &mut [u8],
     ) -> Status
-        requires { (length name.old ≤ most_name) × (0 < S.room step.old) }
-        ensures { (S.room step.old ≤ S.room step.new + 1) × (length name.new ≡ length name.old) × (length file.new ≡ length file.old) }
+        requires { (length name.old ≤ most_name) × (0 < S.room step.old) × S.kept step.old }
+        ensures { (S.room step.old ≤ S.room step.new + 1) × S.kept step.new × (length name.new ≡ length name.old) × (length file.new ≡ length file.old) }
     {
         let Some(size) = self.argument(i, name) else {
             return Status::Unread;
@@ -435,7 +438,8 @@ impl<R: Files + Env + io::Input + Errors> Program<'_, R> {
 
     // Takes all inputs that are named by arguments; a failed output ends the run.
     fn take_all<S: Step>(&self, step: &mut S, name: &mut [u8], file: &mut [u8]) -> Status
-        requires { (length name.old ≤ most_name) × (2 ^ 64 ≤ S.room step.old + 1) }
+        requires { (length name.old ≤ most_name) × (2 ^ 64 ≤ S.room step.old + 1) × S.kept step.old }
+        ensures { S.kept step.new }
     {
         let count = argument_count(self.rt);
         let mut gravest = Status::Done;
@@ -451,7 +455,8 @@ impl<R: Files + Env + io::Input + Errors> Program<'_, R> {
 
     // Takes all named inputs, or standard input if none is named, and answers how the gravest ended.
     pub fn take_each<S: Step>(&self, step: &mut S, name: &mut [u8], file: &mut [u8]) -> Status
-        requires { (length name.old ≤ most_name) × (2 ^ 64 ≤ S.room step.old + 1) }
+        requires { (length name.old ≤ most_name) × (2 ^ 64 ≤ S.room step.old + 1) × S.kept step.old }
+        ensures { S.kept step.new }
     {
         if argument_count(self.rt) <= FIRST_NAME {
             return self.take_named(step, NO_NAME, b"-", file);

@@ -109,9 +109,11 @@ impl<R: Print + Errors> Replay<'_, R> {
     }
 }
 
-// There is always room for one recording more.
+// There is always room for one recording more, and nothing is kept from one to the next.
 impl<R: Print + Errors> Step for Replay<'_, R> {
     ghost room = { λ _. 2 ^ 64 };
+
+    ghost kept = { λ _. Unit {0} };
 
     // Answers what is asked of a recording. What is asked is a match here, and no closure: the first line goes by it, too.
     fn take(&mut self, name: &[u8], input: &[u8]) -> Status {

@@ -49,9 +49,11 @@ impl<R: Print + Errors> Why<'_, R> {
     }
 }
 
-// There is always room for one recording more.
+// There is always room for one recording more, and nothing is kept from one to the next.
 impl<R: Print + Errors> Step for Why<'_, R> {
     ghost room = { λ _. 2 ^ 64 };
+
+    ghost kept = { λ _. Unit {0} };
 
     // Answers what is asked of a recording. If several are named, the answer has its name above it: without the heading nobody could tell
     // whose answer it is, so it then is not written.
