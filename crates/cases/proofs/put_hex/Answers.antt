@@ -1,15 +1,11 @@
 -- `cases::put_hex` meets its contract. The loop's invariant: the digits written so far and those that are left make the whole.
 use mathlib.Core.Path.{refl, ◌∙◌}
 use Prim.Native.Nat.{◌+◌, ◌*◌}
-use native.Mathlib.Nat.{add-zero}
 use native.Mathlib.Omega.{arith}
 use lib.Seq.{length-sets}
 use Rattle.bits.proofs.Lists.{store_turn, store_ends}
 use Rattle.cases.specs.Answers.{hex_byte}
 use Rattle.cases.proofs.put_hex.Goals as goal
-
-pub loop-i-init : goal.loop-i-init
-loop-i-init c = (refl, rw add-zero)
 
 pub loop-i-preserved : goal.loop-i-preserved
 loop-i-preserved c =

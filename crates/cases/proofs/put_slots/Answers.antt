@@ -1,7 +1,6 @@
 -- `cases::put_slots` meets its contract. The loop's invariant: the slots written so far and those that are left make the whole.
-use mathlib.Core.Path.{refl, ◌∙◌}
+use mathlib.Core.Path.{◌∙◌}
 use Prim.Native.Nat.{◌+◌, ◌*◌}
-use native.Mathlib.Nat.{add-zero}
 use native.Mathlib.Omega.{arith}
 use lib.Seq.{length-sets}
 use Rattle.bits.proofs.Lists.{length-flat_map, store_turn, store_ends}
@@ -9,9 +8,6 @@ use Rattle.rules.specs.Rules.{no_slot}
 use Rattle.cases.specs.Answers.{slot_bytes}
 use Rattle.cases.proofs.Joined.{length-slot}
 use Rattle.cases.proofs.put_slots.Goals as goal
-
-pub loop-i-init : goal.loop-i-init
-loop-i-init c = (refl, rw add-zero)
 
 pub loop-i-preserved : goal.loop-i-preserved
 loop-i-preserved c =
