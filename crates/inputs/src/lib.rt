@@ -1,6 +1,6 @@
 // Named inputs of a program: each argument but the first names a file, or standard input by `-`, which is read to the front of a lent buffer.
 // If an input cannot be opened or read, standard error says so with its name; it is not taken for an empty one. Every command that takes
-// names stands on this crate. It rests on `bits` and on std's files, arguments and standard streams; no contract can say what is read or
+// names stands on this crate, and says by a `Step` what it does with an input. It rests on `bits` and on std's files, arguments and standard streams; no contract can say what is read or
 // written. All but the messages and the statuses may change.
 #![tactic(auto)]
 
@@ -51,7 +51,8 @@ fn write_status<R: Files>(rt: &R, digit: u8) -> io::Result<()> {
 }
 
 // A program writes its status to descriptor 3 as a digit, and the command that started it ends with that. The answer is the digit. If
-// there is no such descriptor, nobody asks for the status.
+// there is no such descriptor, nobody asks for the status. An exit status of its own, as `main` could return one, would not tell a run that
+// has ended from one that broke off.
 pub fn tell<R: Files>(rt: &R, status: Status) -> u8
     ensures { result ≡ min (status_number status) unread }
 {
@@ -326,7 +327,10 @@ impl<R: Files + Env + io::Input + Errors> Program<'_, R> {
 // The argument that says what is asked of the inputs, and the first that names one.
 pub const ASKED: usize = 1;
 
-pub const FIRST_NAME: usize = 2;
+const FIRST_NAME: usize = 2;
+
+// How many arguments there are where one name is given.
+const ONE_NAME: usize = 3;
 
 // Whether there is an argument i: one that is longer than no room at all is there, too.
 fn is_given<R: Env>(rt: &R, i: usize) -> bool {
@@ -379,6 +383,13 @@ impl<R: Env + Errors> Program<'_, R> {
     }
 }
 
+impl<R: Env> Program<'_, R> {
+    // Whether several names are given.
+    pub fn has_several_names(&self) -> bool {
+        ONE_NAME < argument_count(self.rt)
+    }
+}
+
 impl<R: Files + Env> Program<'_, R> {
     // Tells the status. Without an argument nobody reads it, so it is not told.
     pub fn tell_asked(&self, status: Status) {
@@ -390,7 +401,7 @@ impl<R: Files + Env> Program<'_, R> {
 
 // ---- all inputs
 
-// What a program does with its inputs, one after the other.
+// What a program does with its inputs, one after the other. A bound on closures could not say how many more it takes.
 pub trait Step {
     // how many more inputs it can take
     ghost room: { Self → ℕ };
@@ -453,7 +464,8 @@ impl<R: Files + Env + io::Input + Errors> Program<'_, R> {
         gravest
     }
 
-    // Takes all named inputs, or standard input if none is named, and answers how the gravest ended.
+    // Takes all named inputs, or standard input if none is named, and answers how the gravest ended. The buffers are no struct here: each
+    // program lends its own, and its contract (`InputRoom` of `reports`) says of which length.
     pub fn take_each<S: Step>(&self, step: &mut S, name: &mut [u8], file: &mut [u8]) -> Status
         requires { (length name.old ≤ most_name) × (2 ^ 64 ≤ S.room step.old + 1) × S.kept step.old }
         ensures { S.kept step.new }

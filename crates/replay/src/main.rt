@@ -22,7 +22,8 @@ enum Asked {
     Explanation,
 }
 
-// The word that says what is asked, by its first letter: listing, check, summary or explanation.
+// The word that says what is asked, by its first letter: listing, check, summary or explanation. If the first argument is missing or longer
+// than the buffer, the word is empty, and a listing is asked.
 impl From<&[u8]> for Asked {
     fn from(word: &[u8]) -> Asked {
         match word {
@@ -33,9 +34,6 @@ impl From<&[u8]> for Asked {
         }
     }
 }
-
-// How many arguments there are where one name is given.
-const ONE_NAME: usize = 3;
 
 // What answers the recordings: what is asked of each, whether several are named, and the buffer for what is printed.
 #[derive(Drop)]
@@ -140,21 +138,16 @@ impl<R: Files + Env + Input + Print + Errors> Replay<'_, R> {
     }
 }
 
-// What the first argument asks. If there is none, or it is longer than the buffer, a listing is asked.
-fn asked_first<R: Env>(rt: &R, name: &mut [u8]) -> Asked {
-    let size = inputs::short_argument(rt, ASKED, name);
-    Asked::from(&name[..size])
-}
-
 // Answers what is asked, and tells the status.
 fn run<R: Files + Env + Input + Print + Errors>(rt: &R, name: &mut [u8], file: &mut [u8])
     requires { InputRoom name.old file.old }
 {
+    let size = inputs::short_argument(rt, ASKED, name);
     let program = Program::new(rt, b"replay: ");
     let mut replay = Replay {
         program: &program,
-        asked: asked_first(rt, name),
-        several: ONE_NAME < inputs::argument_count(rt),
+        asked: Asked::from(&name[..size]),
+        several: program.has_several_names(),
         out: [0u8; 65536],
     };
     let status = replay.answer_each(name, file);
