@@ -93,6 +93,7 @@ pub fn state_at(s: &[u8], at: usize) -> State
 // ---- the lent buffer before the call
 
 // The room that stands at `at`, at most `most`. The bound is in the contract, so that a caller need not show it.
+// Each program lends a buffer of this room by itself: one function for all would take a size, a place and a closure for its three lines.
 pub fn room_at(s: &[u8], at: usize, most: usize) -> usize
     requires { at + 2 ≤ length s.now }
     ensures { (result ≡ min (num_at 2 s.now at) most) × (result ≤ most) }
@@ -236,7 +237,13 @@ fn write_line<W: Write>(output: &mut W, a: &[u8], b: &[u8], last: u8, text: &[u8
 }
 
 // Makes a line at the front of `line`, and writes it.
-pub fn print_line<W: Write>(output: &mut W, a: &[u8], b: &[u8], last: u8, line: &mut [u8]) -> io::Result<()>
+pub fn print_line<W: Write>(
+    output: &mut W,
+    a: &[u8],
+    b: &[u8],
+    last: u8,
+    line: &mut [u8],
+) -> io::Result<()>
     requires { 2 * length a.now + 2 * length b.now + 2 ≤ length line.old }
     ensures line_after { line.new ≡ sets line.old 0 (line_bytes a.now b.now last) }
     ensures written { OnOk result (Appends (W.contents output.old) (W.contents output.new) (line_bytes a.now b.now last)) }

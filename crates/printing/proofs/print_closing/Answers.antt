@@ -6,7 +6,7 @@ use lib.ListN.{length, drop}
 use lib.Seq.{length-take-le}
 use borrow.Author.Tests.{leb-true}
 use Rattle.text.specs.Room.{most_piece}
-use Rattle.std.proofs.lemmas.Result.{IfOk-weaker}
+use Rattle.std.proofs.lemmas.Result.{IfOk-weaker, IfOk-at_ok}
 use Rattle.listing.specs.Printed.{listing_of}
 use Rattle.printing.proofs.Handed.{appends_then, left_with}
 use Rattle.printing.proofs.Parts.{next, goes, closed}
@@ -29,7 +29,7 @@ flush-requires g c =
 pub write_closing-requires-2 : goal.write_closing-requires-2
 write_closing-requires-2 g c =
     let a = c.args in
-    let gone = c.in_ok-next.ensures.gone_after in
+    let gone = IfOk-at_ok _ c.in_ok-next.was c.flush.ensures.gone_after in
     let w = goes c.requires.closes.waits _ (closed c.requires.closes _ refl) gone in record {
       closes = record { waits = w; accepted = c.requires.closes.accepted; last = c.requires.closes.last };
       most_piece_in_bounds =
@@ -39,6 +39,6 @@ write_closing-requires-2 g c =
 pub returns-clause-handed : goal.returns-clause-handed
 returns-clause-handed g c =
     let l = listing_of c.args.why c.args.s.now in
-    let sent = c.in_ok-next.ensures in
+    let was = c.in_ok-next.was in
     let n = next c.requires.closes.waits _ (closed c.requires.closes _ refl) in
-    rw (sym (left_with n sent.gone_after)) (IfOk-weaker _ _ _ (λ _. appends_then _ _ _ _ (drop c.in_ok-next.next.gone l) sent.handed) c.write_closing-2.ensures.handed)
+    rw (sym (left_with n (IfOk-at_ok _ was c.flush.ensures.gone_after))) (IfOk-weaker _ _ _ (λ _. appends_then _ _ _ _ (drop c.in_ok-next.next.gone l) (IfOk-at_ok _ was c.flush.ensures.handed)) c.write_closing-2.ensures.handed)
