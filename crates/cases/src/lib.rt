@@ -3,7 +3,7 @@
 // `block`, `layout` (for effects) and what these rest on, and on std's writers; no promise rests on it. All but the streams may change.
 #![tactic(auto)]
 
-ghost use Rattle.std.specs.Prelude.{◌≡◌, true, ◌+◌, ◌*◌, ◌%◌, ◌<◌, ◌≤◌, min, length};
+ghost use Rattle.std.specs.Prelude.{◌≡◌, ◌+◌, ◌*◌, ◌%◌, ◌<◌, ◌≤◌, min, length, OnOk};
 ghost use Rattle.std.specs.Io.KnownBytes.{Appends};
 ghost use mathlib.Core.List.{[], ◌∷◌, flat_map};
 ghost use Rattle.std.proofs.lemmas.List.Edits.{sets};
@@ -17,6 +17,7 @@ ghost use Rattle.cases.specs.Answers.{slot_bytes, state_bytes, answer_bytes, hex
 use block::{Scanned, State};
 use rules::{EffectState, Slot};
 use settings::Settings;
+use std::io;
 use std::io::Write;
 
 // ---- settings: 101 bytes
@@ -26,13 +27,12 @@ pub fn settings_at(s: &[u8], at: usize) -> Settings
     requires { at + 101 ≤ length s.now }
     ensures { result ≡ settings_at s.now at }
 {
-    let effects = layout::effects_at(s, at + 5, 16);
     Settings {
         causes: bits::get8(s, at),
         options: bits::get8(s, at + 1),
         period: bits::get16(s, at + 2),
         count: bits::get8(s, at + 4),
-        effects: effects,
+        effects: layout::effects_at(s, at + 5, 16),
     }
 }
 
@@ -46,8 +46,7 @@ fn code_at(s: &[u8], at: usize) -> u8
     requires { at + 1 ≤ length s.now }
     ensures { (result ≡ code_at s.now at) × (result ≤ most_code) }
 {
-    let code = bits::get8(s, at);
-    if code < MOST_CODE { code } else { MOST_CODE }
+    bits::get8(s, at).min(MOST_CODE)
 }
 
 // Slot i of the slots that stand from `at` on.
@@ -62,6 +61,7 @@ fn slot_at(s: &[u8], at: usize, i: usize) -> Slot
     }
 }
 
+// A loop writes them, since what `array::from_fn` says of each call leaves open what the closure has captured by then.
 fn slots_at(s: &[u8], at: usize) -> [Slot; 16]
     requires { at + 112 ≤ length s.now }
     ensures { SlotsAt s.now at 16 result }
@@ -72,10 +72,8 @@ fn slots_at(s: &[u8], at: usize) -> [Slot; 16]
         first_out: 0,
     };
     let mut slots = [none; 16];
-    let mut i: usize = 0;
-    while i < 16 {
-        slots[i] = slot_at(s, at, i);
-        i += 1;
+    for (i, slot) in slots.iter_mut().enumerate() {
+        *slot = slot_at(s, at, i);
     }
     slots
 }
@@ -85,23 +83,22 @@ pub fn state_at(s: &[u8], at: usize) -> State
     requires { at + 118 ≤ length s.now }
     ensures { StateAt s.now at result }
 {
-    let slots = slots_at(s, at + 6);
     State {
         scans_done: bits::get32(s, at),
         next: bits::get16(s, at + 4),
-        slots: slots,
+        slots: slots_at(s, at + 6),
     }
 }
 
 // ---- the lent buffer before the call
 
 // The room that stands at `at`, at most `most`. The bound is in the contract, so that a caller need not show it.
+// Each program lends a buffer of this room by itself: one function for all would take a size, a place and a closure for its three lines.
 pub fn room_at(s: &[u8], at: usize, most: usize) -> usize
     requires { at + 2 ≤ length s.now }
     ensures { (result ≡ min (num_at 2 s.now at) most) × (result ≤ most) }
 {
-    let room = bits::get16(s, at) as usize;
-    if room < most { room } else { most }
+    (bits::get16(s, at) as usize).min(most)
 }
 
 fn fill_at(i: usize) -> u8
@@ -114,10 +111,8 @@ fn fill_at(i: usize) -> u8
 pub fn fill(buf: &mut [u8])
     ensures { buf.new ≡ tabulate fill_at (length buf.old) }
 {
-    let mut i: usize = 0;
-    while i < buf.len() {
-        buf[i] = fill_at(i);
-        i += 1;
+    for (i, byte) in buf.iter_mut().enumerate() {
+        *byte = fill_at(i);
     }
 }
 
@@ -127,8 +122,7 @@ fn put_slot(out: &mut [u8], at: usize, x: Slot)
     requires { at + 7 ≤ length out.old }
     ensures { out.new ≡ sets out.old at (slot_bytes x) }
 {
-    let p = x.state;
-    bits::put8(out, at, rules::code(p));
+    bits::put8(out, at, rules::code(x.state));
     bits::put32(out, at + 1, x.timer);
     bits::put16(out, at + 5, x.first_out);
 }
@@ -139,11 +133,8 @@ fn put_slots(out: &mut [u8], at: usize, xs: [Slot; 16])
     ensures out_after { out.new ≡ sets out.old at (flat_map slot_bytes xs) }
     ensures xs_len { length (flat_map slot_bytes xs) ≡ 112 }
 {
-    let mut i: usize = 0;
-    while i < 16 {
-        let x = xs[i];
-        put_slot(out, at + 7 * i, x);
-        i += 1;
+    for (i, x) in xs.iter().enumerate() {
+        put_slot(out, at + 7 * i, *x);
     }
 }
 
@@ -152,10 +143,9 @@ fn put_state(out: &mut [u8], at: usize, x: State)
     ensures out_after { out.new ≡ sets out.old at (state_bytes x) }
     ensures x_len { length (state_bytes x) ≡ 118 }
 {
-    let slots = x.slots;
     bits::put32(out, at, x.scans_done);
     bits::put16(out, at + 4, x.next);
-    put_slots(out, at + 6, slots);
+    put_slots(out, at + 6, x.slots);
 }
 
 // Puts the 5 bytes of a refusal number and its place at the front of `out`.
@@ -181,19 +171,19 @@ pub fn put_answer(out: &mut [u8], r: Scanned)
     requires { 129 ≤ length out.old }
     ensures { out.new ≡ sets out.old 0 (answer_bytes r) }
 {
-    let x = r.state;
     put_refusal(out, r.number, r.place);
-    put_state(out, 5, x);
+    put_state(out, 5, r.state);
     put_words(out, r.effect, r.latent, r.records);
 }
 
 // ---- hexadecimal digits
 
+// Written by hand: `write!` prints digits, and no contract says which.
 fn hex_digit(v: u8) -> u8
     requires { v < 16 }
     ensures { result ≡ hex_digit v }
 {
-    if v < 10 { 48 + v } else { 87 + v }
+    if v < 10 { b'0' + v } else { b'a' - 10 + v }
 }
 
 fn put_hex_byte(out: &mut [u8], at: usize, b: u8)
@@ -209,11 +199,8 @@ pub fn put_hex(src: &[u8], out: &mut [u8], at: usize)
     requires { at + 2 * length src.now ≤ length out.old }
     ensures { out.new ≡ sets out.old at (flat_map hex_byte src.now) }
 {
-    let mut i: usize = 0;
-    while i < src.len() {
-        let b = src[i];
-        put_hex_byte(out, at + 2 * i, b);
-        i += 1;
+    for (i, b) in src.iter().enumerate() {
+        put_hex_byte(out, at + 2 * i, *b);
     }
 }
 
@@ -241,19 +228,25 @@ fn put_line(a: &[u8], b: &[u8], last: u8, out: &mut [u8]) -> usize
     n + 1
 }
 
-// Writes a line, as put_line makes it; false if the output takes no more.
-fn write_line<W: Write>(output: &mut W, a: &[u8], b: &[u8], last: u8, text: &[u8]) -> bool
+// Writes a line, as put_line makes it.
+fn write_line<W: Write>(output: &mut W, a: &[u8], b: &[u8], last: u8, text: &[u8]) -> io::Result<()>
     requires { text.now ≡ line_bytes a.now b.now last }
-    ensures { result ≡ true → Appends (W.contents output.old) (W.contents output.new) (line_bytes a.now b.now last) }
+    ensures { OnOk result (Appends (W.contents output.old) (W.contents output.new) (line_bytes a.now b.now last)) }
 {
-    output.write_all(text).is_ok()
+    output.write_all(text)
 }
 
-// Makes a line at the front of `line`, and writes it; false if the output takes no more.
-pub fn print_line<W: Write>(output: &mut W, a: &[u8], b: &[u8], last: u8, line: &mut [u8]) -> bool
+// Makes a line at the front of `line`, and writes it.
+pub fn print_line<W: Write>(
+    output: &mut W,
+    a: &[u8],
+    b: &[u8],
+    last: u8,
+    line: &mut [u8],
+) -> io::Result<()>
     requires { 2 * length a.now + 2 * length b.now + 2 ≤ length line.old }
     ensures line_after { line.new ≡ sets line.old 0 (line_bytes a.now b.now last) }
-    ensures written { result ≡ true → Appends (W.contents output.old) (W.contents output.new) (line_bytes a.now b.now last) }
+    ensures written { OnOk result (Appends (W.contents output.old) (W.contents output.new) (line_bytes a.now b.now last)) }
 {
     let n = put_line(a, b, last, line);
     write_line(output, a, b, last, &line[..n])

@@ -6,7 +6,9 @@ ghost use Rattle.std.specs.Prelude.{◌≡◌, ◌≤◌, length};
 
 use block::{Held, Scanned};
 use settings::Row;
+use std::io;
 use std::io::Write;
+use streams::Answer;
 
 fn run(case: &[u8; 245], buf: &mut [u8]) -> Held {
     let st = cases::settings_at(case, 0);
@@ -39,7 +41,7 @@ fn put_head(r: Held, head: &mut [u8])
 }
 
 // Answers a case in a buffer of exactly its room.
-fn answer_in<W: Write>(output: &mut W, case: &[u8; 245], buf: &mut [u8]) -> bool
+fn answer_in<W: Write>(output: &mut W, case: &[u8; 245], buf: &mut [u8]) -> io::Result<()>
     requires { length buf.old ≤ 400 }
 {
     let r = run(case, buf);
@@ -49,26 +51,18 @@ fn answer_in<W: Write>(output: &mut W, case: &[u8; 245], buf: &mut [u8]) -> bool
     cases::print_line(output, &head, buf, b'\n', &mut line)
 }
 
-// Writes the line that answers a case; false if nothing can be written.
-fn answer<W: Write>(output: &mut W, case: &[u8; 245]) -> bool {
-    let mut space = [0u8; 400];
-    let room = cases::room_at(case, 243, 400);
-    answer_in(output, case, &mut space[0..room])
+// Held cases.
+struct HeldRuns;
+
+impl Answer<245> for HeldRuns {
+    // Writes the line that answers a case.
+    fn answer<W: Write>(output: &mut W, case: &[u8; 245]) -> io::Result<()> {
+        let mut space = [0u8; 400];
+        let room = cases::room_at(case, 243, 400);
+        answer_in(output, case, &mut space[0..room])
+    }
 }
 
-// Answers at most a million cases, so that the program ends.
 fn main(rt: HostRuntime) {
-    let mut input = rt.stdin();
-    let mut output = rt.stdout();
-    let mut case = [0u8; 245];
-    let mut done: usize = 0;
-    while done < 1000000 {
-        if !streams::next_case(&mut input, &mut output, &mut case) {
-            return;
-        }
-        if !answer(&mut output, &case) {
-            return;
-        }
-        done += 1;
-    }
+    streams::answer_each::<245, HeldRuns, _, _>(&mut rt.stdin(), &mut rt.stdout());
 }

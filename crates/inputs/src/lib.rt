@@ -1,12 +1,12 @@
 // Named inputs of a program: each argument but the first names a file, or standard input by `-`, which is read to the front of a lent buffer.
 // If an input cannot be opened or read, standard error says so with its name; it is not taken for an empty one. Every command that takes
-// names stands on this crate. It rests on `bits` and on std's files, arguments and standard streams; no contract can say what is read or
+// names stands on this crate, and says by a `Step` what it does with an input. It rests on `bits` and on std's files, arguments and standard streams; no contract can say what is read or
 // written. All but the messages and the statuses may change.
 #![tactic(auto)]
 
-ghost use Rattle.std.specs.Prelude.{◌≡◌, ◌⊎◌, ◌+◌, ◌≤◌, max, min, length, IfOk, MatchResult};
-ghost use Rattle.inputs.specs.Lengths.{most_program, most_name, most_message};
-ghost use Rattle.inputs.specs.Statuses.{done, refused, unread, unwritten};
+ghost use Rattle.std.specs.Prelude.{◌≡◌, ℕ, None, Some, ◌⊎◌, ◌+◌, ◌≤◌, ◌<◌, ◌^◌, max, min, length, IfOk, IfSome, MatchResult};
+ghost use Rattle.inputs.specs.Lengths.{most_program, most_name};
+ghost use Rattle.inputs.specs.Statuses.{done, refused, unread, unwritten, status_number};
 
 use std::env::{Env, FillError};
 use std::fs::{File, OpenOptions};
@@ -16,32 +16,34 @@ use std::rt::Files;
 
 // ---- statuses
 
-// How a command ended; the greater number is the graver end: all was done; an input was refused; an input could not be read; the output took no
+// How a command ended; the later is the graver end: all was done; an input was refused; an input could not be read; the output took no
 // more, which ends the run.
-pub const DONE: u8 = 0;
+#[derive(Clone, Copy, PartialEq, Eq, PartialOrd, Ord)]
+pub enum Status {
+    Done,
+    Refused,
+    Unread,
+    Unwritten,
+}
 
-pub const REFUSED: u8 = 1;
+impl Status {
+    // The graver of two statuses.
+    pub fn graver(self, other: Status) -> Status
+        ensures { status_number result ≡ max (status_number self) (status_number other) }
+    {
+        self.max(other)
+    }
 
-pub const UNREAD: u8 = 2;
-
-pub const UNWRITTEN: u8 = 3;
-
-// The graver of two statuses.
-pub fn graver(a: u8, b: u8) -> u8
-    ensures { result ≡ max a b }
-{
-    if a < b { b } else { a }
+    // The digit that tells it. For a user the last two statuses are one: not read or not written.
+    fn digit(self) -> u8
+        ensures { result ≡ min (status_number self) unread }
+    {
+        (self as u8).min(Status::Unread as u8)
+    }
 }
 
 // What a status is written to: descriptor 3, which std has no other name for.
 const STATUS_PATH: &str = "/proc/self/fd/3";
-
-// For a user the last two statuses are one: not read or not written.
-fn told(status: u8) -> u8
-    ensures { result ≡ min status unread }
-{
-    if status < UNREAD { status } else { UNREAD }
-}
 
 fn write_status<R: Files>(rt: &R, digit: u8) -> io::Result<()> {
     let mut file = OpenOptions::new().append(true).open(rt, STATUS_PATH)?;
@@ -49,11 +51,12 @@ fn write_status<R: Files>(rt: &R, digit: u8) -> io::Result<()> {
 }
 
 // A program writes its status to descriptor 3 as a digit, and the command that started it ends with that. The answer is the digit. If
-// there is no such descriptor, nobody asks for the status.
-pub fn tell<R: Files>(rt: &R, status: u8) -> u8
-    ensures { result ≡ min status unread }
+// there is no such descriptor, nobody asks for the status. An exit status of its own, as `main` could return one, would not tell a run that
+// has ended from one that broke off.
+pub fn tell<R: Files>(rt: &R, status: Status) -> u8
+    ensures { result ≡ min (status_number status) unread }
 {
-    let digit = told(status);
+    let digit = status.digit();
     let _ = write_status(rt, digit);
     digit
 }
@@ -89,10 +92,9 @@ fn words_len(text: &[u8]) -> usize
     let Ok(whole) = str::from_utf8(text) else {
         return text.len();
     };
-    match whole.rsplit_once(" (os error ") {
-        Some((words, _)) => words.len().min(text.len()),
-        None => text.len(),
-    }
+    whole
+        .rsplit_once(" (os error ")
+        .map_or(text.len(), |(words, _)| words.len().min(text.len()))
 }
 
 // Writes std's text for an error to the front of a lent buffer, and answers how many bytes of that are free.
@@ -122,112 +124,93 @@ fn put_both(text: &mut [u8], program: &[u8], what: &[u8]) -> usize
     bits::put_text(text, at, what)
 }
 
-// The message by way of a lent buffer.
-fn fail_through<R: Errors>(rt: &R, text: &mut [u8], program: &[u8], what: &[u8], error: Error)
-    requires { length program.now + length what.now ≤ length text.old }
-{
-    let end = put_both(text, program, what);
-    let _ = rt.write_error(&text[0..end]);
-    let _ = rt.write_error(b": ");
-    say_reason(rt, error);
+// ---- a program
+
+// A running program: its runtime, and its name with a colon and a space, which its messages begin with.
+#[derive(Drop)]
+pub struct Program<'a, R> {
+    pub rt: &'a R,
+    name: &'a [u8],
+    ghost short: { length name.now ≤ most_program },
 }
 
-// Says on standard error that something failed, and why: the program's name with a colon and a space, what failed, and the system's words
-// for the error.
-fn fail<R: Errors>(rt: &R, program: &[u8], what: &[u8], error: Error)
-    requires { length program.now + length what.now ≤ most_message }
-{
-    let mut text = [0u8; MESSAGE_BYTES];
-    fail_through(rt, &mut text, program, what, error);
+impl<'a, R> Program<'a, R> {
+    pub fn new(rt: &'a R, name: &'a [u8]) -> Program<'a, R>
+        requires { length name.now ≤ most_program }
+    {
+        Program { rt, name }
+    }
 }
 
-// Says the line of a refused input, and answers the status of that. If standard error takes no more, nobody can be told.
-pub fn say_refused<R: Errors>(rt: &R, line: &[u8]) -> u8
-    ensures { result ≡ refused }
-{
-    let _ = rt.write_error(line);
-    REFUSED
+impl<R: Errors> Program<'_, R> {
+    // The message by way of a lent buffer.
+    fn fail_through(&self, text: &mut [u8], what: &[u8], error: Error)
+        requires { length self.now.name.now + length what.now ≤ length text.old }
+    {
+        let end = put_both(text, self.name, what);
+        let _ = self.rt.write_error(&text[0..end]);
+        let _ = self.rt.write_error(b": ");
+        say_reason(self.rt, error);
+    }
+
+    // Says on standard error that something failed, and why: the program's name, what failed, and the system's words for the error.
+    fn fail(&self, what: &[u8], error: Error)
+        requires { length what.now ≤ most_name }
+    {
+        let mut text = [0u8; MESSAGE_BYTES];
+        self.fail_through(&mut text, what, error);
+    }
+
+    // Says the line of a refused input, and answers the status of that. If standard error takes no more, nobody can be told.
+    pub fn say_refused(&self, line: &[u8]) -> Status
+        ensures { status_number result ≡ refused }
+    {
+        let _ = self.rt.write_error(line);
+        Status::Refused
+    }
+
+    // Says that standard output takes no more, and answers the status of that.
+    pub fn say_unwritten(&self, error: Error) -> Status
+        ensures { status_number result ≡ unwritten }
+    {
+        self.fail(b"standard output", error);
+        Status::Unwritten
+    }
 }
 
-// Says that standard output takes no more, and answers the status of that.
-pub fn say_unwritten<R: Errors>(rt: &R, program: &[u8], error: Error) -> u8
-    requires { length program.now ≤ most_program }
-    ensures { result ≡ unwritten }
-{
-    fail(rt, program, b"standard output", error);
-    UNWRITTEN
-}
-
-// Writes a text to standard output, and answers the status: done, or unwritten, which is said.
-pub fn write<R: Print + Errors>(rt: &R, program: &[u8], text: &[u8]) -> u8
-    requires { length program.now ≤ most_program }
-    ensures { (result ≡ done) ⊎ (result ≡ unwritten) }
-{
-    match rt.write_all(text) {
-        Ok(()) => DONE,
-        Err(error) => say_unwritten(rt, program, error),
+impl<R: Print + Errors> Program<'_, R> {
+    // Writes a text to standard output, and answers the status: done, or unwritten, which is said.
+    pub fn write(&self, text: &[u8]) -> Status
+        ensures { (status_number result ≡ done) ⊎ (status_number result ≡ unwritten) }
+    {
+        match self.rt.write_all(text) {
+            Ok(()) => Status::Done,
+            Err(error) => self.say_unwritten(error),
+        }
     }
 }
 
 // ---- reading
 
-// Whether an input could be read, and how many bytes it has, up to the room for them.
-#[derive(Clone, Copy)]
-pub struct Input {
-    pub good: bool,
-    pub size: usize,
-}
-
-// Reads to the front of `file` until that is full or the input ends, and answers how many bytes there are. A read that fails is not the end.
+// Reads to the front of `file` until that is full or the input ends, and answers how many bytes there are. A read that fails is not the
+// end. How many bytes a read gives is not known before, so no `for` counts them.
 fn read<I: Read>(input: &mut I, file: &mut [u8]) -> io::Result<usize>
     ensures { IfOk result (λ n. n ≤ length file.new) × (length file.new ≡ length file.old) }
 {
     let mut size: usize = 0;
     while size < file.len() {
-        match input.read(&mut file[size..]) {
-            Ok(0) => return Ok(size),
-            Ok(more) => size += more,
-            Err(error) => return Err(error),
+        let more = input.read(&mut file[size..])?;
+        if more == 0 {
+            break;
         }
+        size += more;
     }
     Ok(size)
 }
 
 // Whether a name stands for standard input.
 fn is_standard(name: &[u8]) -> bool {
-    if name.len() != 1 {
-        return false;
-    }
-    name[0] == b'-'
-}
-
-// What a read of `what` gave. If it failed, standard error says so.
-fn input_of<R: Errors>(rt: &R, program: &[u8], what: &[u8], got: io::Result<usize>) -> Input
-    requires { length program.now + length what.now ≤ most_message }
-    ensures { MatchResult got (λ n. result.size ≡ n) (λ _. result.size ≡ 0) }
-{
-    match got {
-        Ok(size) => Input {
-            good: true,
-            size: size,
-        },
-        Err(error) => {
-            fail(rt, program, what, error);
-            Input {
-                good: false,
-                size: 0,
-            }
-        }
-    }
-}
-
-// Reads standard input.
-fn read_standard<R: io::Input + Errors>(rt: &R, program: &[u8], file: &mut [u8]) -> Input
-    requires { length program.now ≤ most_program }
-    ensures { (result.size ≤ length file.new) × (length file.new ≡ length file.old) }
-{
-    let got = read(&mut rt.reader(), file);
-    input_of(rt, program, b"standard input", got)
+    matches!(name, b"-")
 }
 
 // The variable of the environment that names a folder of links. std opens a file by a name that is UTF-8 alone; a file of another name is
@@ -239,27 +222,34 @@ const LINK_BYTES: usize = 4117;
 
 const FOLDER_BYTES: usize = 4096;
 
-// Puts the name of the link for argument i at the front of a lent buffer, and answers its length, or 0 if there are no links.
-fn put_link<R: Env>(rt: &R, i: usize, path: &mut [u8; LINK_BYTES]) -> usize
-    ensures { result ≤ length path.new }
+// Puts the name of the link for argument i at the front of a lent buffer, and answers its length, if there are links.
+fn put_link<R: Env>(rt: &R, i: usize, path: &mut [u8; LINK_BYTES]) -> Option<usize>
+    ensures { IfSome result (λ size. size ≤ length path.new) }
 {
     match rt.var(LINKS, &mut path[..FOLDER_BYTES]) {
-        Ok(0) => 0,
+        Ok(0) => None,
         Ok(size) => {
             let end = bits::put_text(path, size, b"/");
-            bits::put_decimal(path, end, i as u64)
+            Some(bits::put_decimal(path, end, i as u64))
         }
-        Err(_) => 0,
+        Err(_) => None,
     }
+}
+
+// The system's error for a name that is no text, and has no link.
+fn no_text() -> Error {
+    Error::from_raw_os_error(EILSEQ)
 }
 
 // Opens the file of argument i by its link.
 fn open_link<R: Files + Env>(rt: &R, i: usize) -> io::Result<R::File> {
     let mut path = [0u8; LINK_BYTES];
-    let size = put_link(rt, i, &mut path);
+    let Some(size) = put_link(rt, i, &mut path) else {
+        return Err(no_text());
+    };
     match str::from_utf8(&path[..size]) {
-        Ok(text) if size > 0 => File::open(rt, text),
-        _ => Err(Error::from_raw_os_error(EILSEQ)),
+        Ok(text) => File::open(rt, text),
+        Err(_) => Err(no_text()),
     }
 }
 
@@ -284,36 +274,51 @@ fn open_and_read<R: Files + Env>(
     read(&mut opened, file)
 }
 
-// Reads a file.
-fn read_file<R: Files + Env + Errors>(
-    rt: &R,
-    program: &[u8],
-    i: usize,
-    name: &[u8],
-    file: &mut [u8],
-) -> Input
-    requires { (length program.now ≤ most_program) × (length name.now ≤ most_name) }
-    ensures { (result.size ≤ length file.new) × (length file.new ≡ length file.old) }
-{
-    let got = open_and_read(rt, i, name, file);
-    input_of(rt, program, name, got)
+impl<R: Errors> Program<'_, R> {
+    // What a read of `what` gave. If it failed, standard error says so.
+    fn input_of(&self, what: &[u8], got: io::Result<usize>) -> Option<usize>
+        requires { length what.now ≤ most_name }
+        ensures { MatchResult got (λ n. result ≡ Some n) (λ _. result ≡ None) }
+    {
+        match got {
+            Ok(size) => Some(size),
+            Err(error) => {
+                self.fail(what, error);
+                None
+            }
+        }
+    }
 }
 
-// Reads the input that a name stands for, which is argument i or stands for none. If it cannot be read, standard error says so.
-pub fn read_named<R: Files + Env + io::Input + Errors>(
-    rt: &R,
-    program: &[u8],
-    i: usize,
-    name: &[u8],
-    file: &mut [u8],
-) -> Input
-    requires { (length program.now ≤ most_program) × (length name.now ≤ most_name) }
-    ensures { (result.size ≤ length file.new) × (length file.new ≡ length file.old) }
-{
-    if is_standard(name) {
-        read_standard(rt, program, file)
-    } else {
-        read_file(rt, program, i, name, file)
+impl<R: Files + Env + io::Input + Errors> Program<'_, R> {
+    // Reads standard input.
+    fn read_standard(&self, file: &mut [u8]) -> Option<usize>
+        ensures { IfSome result (λ size. size ≤ length file.new) × (length file.new ≡ length file.old) }
+    {
+        let got = read(&mut self.rt.reader(), file);
+        self.input_of(b"standard input", got)
+    }
+
+    // Reads a file.
+    fn read_file(&self, i: usize, name: &[u8], file: &mut [u8]) -> Option<usize>
+        requires { length name.now ≤ most_name }
+        ensures { IfSome result (λ size. size ≤ length file.new) × (length file.new ≡ length file.old) }
+    {
+        let got = open_and_read(self.rt, i, name, file);
+        self.input_of(name, got)
+    }
+
+    // Reads the input that a name stands for, which is argument i or stands for none, and answers how many bytes it has, up to the room for
+    // them. If it cannot be read, standard error says so.
+    pub fn read_named(&self, i: usize, name: &[u8], file: &mut [u8]) -> Option<usize>
+        requires { length name.now ≤ most_name }
+        ensures { IfSome result (λ size. size ≤ length file.new) × (length file.new ≡ length file.old) }
+    {
+        if is_standard(name) {
+            self.read_standard(file)
+        } else {
+            self.read_file(i, name, file)
+        }
     }
 }
 
@@ -322,14 +327,10 @@ pub fn read_named<R: Files + Env + io::Input + Errors>(
 // The argument that says what is asked of the inputs, and the first that names one.
 pub const ASKED: usize = 1;
 
-pub const FIRST_NAME: usize = 2;
+const FIRST_NAME: usize = 2;
 
-// Whether an argument is in the lent buffer whole, and how many bytes it has.
-#[derive(Clone, Copy)]
-pub struct Name {
-    pub good: bool,
-    pub size: usize,
-}
+// How many arguments there are where one name is given.
+const ONE_NAME: usize = 3;
 
 // Whether there is an argument i: one that is longer than no room at all is there, too.
 fn is_given<R: Env>(rt: &R, i: usize) -> bool {
@@ -354,10 +355,7 @@ pub fn argument_count<R: Env>(rt: &R) -> usize {
 pub fn short_argument<R: Env>(rt: &R, i: usize, name: &mut [u8]) -> usize
     ensures { (result ≤ length name.new) × (length name.new ≡ length name.old) }
 {
-    match rt.arg(i, name) {
-        Ok(size) => size,
-        Err(_) => 0,
-    }
+    rt.arg(i, name).unwrap_or(0)
 }
 
 // The system's error for an argument that is not given whole.
@@ -368,22 +366,113 @@ fn argument_error(error: FillError) -> Error {
     })
 }
 
-// Puts argument i at the front of `name`. If it is longer than a name can be, standard error says so with its first bytes.
-pub fn argument<R: Env + Errors>(rt: &R, program: &[u8], i: usize, name: &mut [u8]) -> Name
-    requires { (length program.now ≤ most_program) × (length name.old ≤ most_name) }
-    ensures { (result.size ≤ length name.new) × (length name.new ≡ length name.old) }
-{
-    match rt.arg(i, name) {
-        Ok(size) => Name {
-            good: true,
-            size: size,
-        },
-        Err(error) => {
-            fail(rt, program, name, argument_error(error));
-            Name {
-                good: false,
-                size: 0,
+impl<R: Env + Errors> Program<'_, R> {
+    // Puts argument i at the front of `name`, and answers its length. If it is longer than a name can be, standard error says so with its
+    // first bytes.
+    pub fn argument(&self, i: usize, name: &mut [u8]) -> Option<usize>
+        requires { length name.old ≤ most_name }
+        ensures { IfSome result (λ size. size ≤ length name.new) × (length name.new ≡ length name.old) }
+    {
+        match self.rt.arg(i, name) {
+            Ok(size) => Some(size),
+            Err(error) => {
+                self.fail(name, argument_error(error));
+                None
             }
         }
+    }
+}
+
+impl<R: Env> Program<'_, R> {
+    // Whether several names are given.
+    pub fn has_several_names(&self) -> bool {
+        ONE_NAME < argument_count(self.rt)
+    }
+}
+
+impl<R: Files + Env> Program<'_, R> {
+    // Tells the status. Without an argument nobody reads it, so it is not told.
+    pub fn tell_asked(&self, status: Status) {
+        if ASKED < argument_count(self.rt) {
+            tell(self.rt, status);
+        }
+    }
+}
+
+// ---- all inputs
+
+// What a program does with its inputs, one after the other. A bound on closures could not say how many more it takes.
+pub trait Step {
+    // how many more inputs it can take
+    ghost room: { Self → ℕ };
+
+    // what each input leaves true
+    ghost kept: { Self → Type 0 };
+
+    // Takes an input under its name, and answers how that ended.
+    fn take(&mut self, name: &[u8], input: &[u8]) -> Status
+        requires { (length name.now ≤ most_name) × (0 < room self.old) × kept self.old }
+        ensures { (room self.old ≤ room self.new + 1) × kept self.new };
+}
+
+// The place of standard input among the arguments where none names it.
+const NO_NAME: usize = 0;
+
+impl<R: Files + Env + io::Input + Errors> Program<'_, R> {
+    // Takes the input of a name, which is argument i. One that cannot be read is not taken.
+    fn take_named<S: Step>(&self, step: &mut S, i: usize, name: &[u8], file: &mut [u8]) -> Status
+        requires { (length name.now ≤ most_name) × (0 < S.room step.old) × S.kept step.old }
+        ensures { (S.room step.old ≤ S.room step.new + 1) × S.kept step.new × (length file.new ≡ length file.old) }
+    {
+        let Some(size) = self.read_named(i, name, file) else {
+            return Status::Unread;
+        };
+        step.take(name, &file[..size])
+    }
+
+    // Takes the input that argument i names.
+    fn take_argument<S: Step>(
+        &self,
+        step: &mut S,
+        i: usize,
+        name: &mut [u8],
+        file: &mut [u8],
+    ) -> Status
+        requires { (length name.old ≤ most_name) × (0 < S.room step.old) × S.kept step.old }
+        ensures { (S.room step.old ≤ S.room step.new + 1) × S.kept step.new × (length name.new ≡ length name.old) × (length file.new ≡ length file.old) }
+    {
+        let Some(size) = self.argument(i, name) else {
+            return Status::Unread;
+        };
+        self.take_named(step, i, &name[..size], file)
+    }
+
+    // Takes all inputs that are named by arguments; a failed output ends the run.
+    fn take_all<S: Step>(&self, step: &mut S, name: &mut [u8], file: &mut [u8]) -> Status
+        requires { (length name.old ≤ most_name) × (2 ^ 64 ≤ S.room step.old + 1) × S.kept step.old }
+        ensures { S.kept step.new }
+    {
+        let count = argument_count(self.rt);
+        let mut gravest = Status::Done;
+        for i in FIRST_NAME..count {
+            let status = self.take_argument(step, i, name, file);
+            if status == Status::Unwritten {
+                return status;
+            }
+            gravest = gravest.graver(status);
+        }
+        gravest
+    }
+
+    // Takes all named inputs, or standard input if none is named, and answers how the gravest ended. The buffers are no struct here: each
+    // program lends its own, and its contract (`InputRoom` of `reports`) says of which length.
+    pub fn take_each<S: Step>(&self, step: &mut S, name: &mut [u8], file: &mut [u8]) -> Status
+        requires { (length name.old ≤ most_name) × (2 ^ 64 ≤ S.room step.old + 1) × S.kept step.old }
+        ensures { S.kept step.new }
+    {
+        if argument_count(self.rt) <= FIRST_NAME {
+            return self.take_named(step, NO_NAME, b"-", file);
+        }
+        self.take_all(step, name, file)
     }
 }

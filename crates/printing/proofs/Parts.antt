@@ -1,16 +1,17 @@
 -- The parts of a listing: what has gone, what waits in the buffer, and that what waits is the next part.
 use mathlib.Core.Path.{◌≡◌, sym, ap, ◌∙◌}
-use mathlib.Core.Bool.{Bool, true, false, not, true≢false}
+use mathlib.Core.Bool.{Bool, true}
 use mathlib.Core.List.{List, [], ◌++◌, append_assoc, append-nil}
 use Prim.Native.Nat.{ℕ, ◌+◌, ◌≤◌}
 use native.Mathlib.Omega.{arith}
-use borrow.Author.Tests.{le-leb, not-true}
+use borrow.Author.Tests.{le-leb}
 use lib.ListN.{length, take, drop, length-append}
 use lib.Seq.{sets, sets-eq, take_at, drop_at, take-append_seam, length-take-le}
 use Rattle.std.specs.Prelude.{Option, Some, unwrap_or}
 use Rattle.recording.specs.Answer.{Answer}
 use Rattle.recording.specs.Answer.{Refused}
 use Rattle.recording.specs.Reader.{reading}
+use Rattle.std.specs.declared.result.Result.TheVariants.{Ok}
 use Rattle.rerun.specs.Answer.{Replayed}
 use Rattle.rerun.specs.declared.Run.{Run}
 use Rattle.rerun.specs.Answer.{Turn}
@@ -25,7 +26,7 @@ use Rattle.printing.specs.declared.sending.Sent.{Sent}
 use Rattle.printing.specs.declared.Ending.{Ending}
 use Rattle.printing.specs.Filled.{so_far, Filled}
 use Rattle.printing.specs.Sent.{NextPart}
-use Rattle.printing.specs.Status.{status, Told}
+use Rattle.printing.specs.Status.{status, outcome_number, Told}
 use Rattle.printing.specs.Waiting.{Waiting, Closes}
 
 -- ## A piece at a place of the buffer
@@ -54,8 +55,8 @@ opening_put why s out a room e f within is = piece_put out (opening why a) 0 (om
 -- ## What waits
 
 -- nothing has gone
-pub starts : {why : Bool} {s : List ℕ} {sent : Sent} {text front : List ℕ} → (sent.good ≡ true) × (sent.gone ≡ 0) → text ≡ front → Waiting why s sent text front
-starts {s = s} n e = record { written = n.0; within = omega (arith, n.1); joined = rw n.1 e }
+pub starts : {why : Bool} {s : List ℕ} {sent : Sent} {text front : List ℕ} → sent.gone ≡ 0 → text ≡ front → Waiting why s sent text front
+starts {s = s} n e = record { within = omega (arith, n); joined = rw n e }
 
 module _ {why : Bool} {s : List ℕ} {sent : Sent} {text front : List ℕ} (w : Waiting why s sent text front) where
   abbrev given : List ℕ
@@ -65,7 +66,6 @@ module _ {why : Bool} {s : List ℕ} {sent : Sent} {text front : List ℕ} (w : 
   pub grows : {text' front' : List ℕ} (piece : List ℕ) → text' ≡ text ++ piece → front ++ piece ≡ front' → Waiting why s sent text' front'
   grows piece e f =
       record {
-        written = w.written;
         within = w.within;
         joined = ap (λ (l : List ℕ). given ++ l) e ∙ sym (append_assoc given text piece) ∙ ap (λ (l : List ℕ). l ++ piece) w.joined ∙ f;
       }
@@ -92,10 +92,9 @@ module _ {why : Bool} {s : List ℕ} {sent : Sent} {text front : List ℕ} (w : 
         }
 
     -- and once it is written, nothing waits
-    pub goes : {r : Sent} → r.good ≡ true → r.gone ≡ sent.gone + length text → Waiting why s r [] front
-    goes {r} good e =
+    pub goes : {r : Sent} → r.gone ≡ sent.gone + length text → Waiting why s r [] front
+    goes {r} e =
         record {
-          written = good;
           within = omega (arith, e, next.within);
           joined = append-nil (take r.gone (listing_of why s)) ∙ ap (take r.gone) (sym whole) ∙ take_at front rest r.gone (sym ends_at ∙ sym e);
         }
@@ -103,7 +102,7 @@ module _ {why : Bool} {s : List ℕ} {sent : Sent} {text front : List ℕ} (w : 
 -- a buffer that was filled
 pub filled : {why : Bool} {s : List ℕ} {sent : Sent} {run : Run} {at : ℕ} {out : List ℕ} {r : PrintedPiece} {array' out' : List ℕ} → Waiting why s sent (take at out) (so_far why s run.rows)
     → Filled why s run at out r array' out' → Waiting why s sent (take r.at out') (so_far why s r.turn.run.rows)
-filled {why} {s} {sent} w f = record { written = w.written; within = w.within; joined = f.text (take sent.gone (listing_of why s)) w.joined }
+filled {why} {s} {sent} w f = record { within = w.within; joined = f.text (take sent.gone (listing_of why s)) w.joined }
 
 -- ## How it ends
 
@@ -116,17 +115,7 @@ closed {why} {s} {turn = turn} c end e = rw e (pieces_are_the_listing why s c.ac
 pub number_of_refused : (s : List ℕ) (n p : ℕ) → (reading s).answer ≡ Refused n p → (replay s).number ≡ n
 number_of_refused s n p e = ap (λ (o : Outcome). o.number) (refused_replay s n p e)
 
-module _ (sent : Sent) (number : ℕ) (r : Ending) (is : (r.status ≡ status sent.good number) × (r.sent ≡ sent)) where
-  same : r.status ≡ status r.sent.good number
-  same = is.0 ∙ ap (λ (x : Sent). status x.good number) (sym is.1)
-
-  module _ {why : Bool} {s : List ℕ} where
-    -- a write failed
-    pub failed : (b : Bool) → b ≡ sent.good → not b ≡ true → Told why s r
-    failed b e h =
-        let f : r.sent.good ≡ false = ap (λ (x : Sent). x.good) is.1 ∙ sym e ∙ not-true b h in
-        record { by_number = same ∙ rw f; all-gone = λ g. absurd (true≢false (sym g ∙ f)) }
-
-    -- the rest was handed over
-    pub told : {before : Sent} {text : List ℕ} → Waiting why s before text (listing_of why s) → sent.gone ≡ before.gone + length text → (replay s).number ≡ number → Told why s r
-    told w e n = record { by_number = same ∙ ap (status r.sent.good) (sym n); all-gone = λ g. ap (λ (x : Sent). x.gone) is.1 ∙ e ∙ ends_at w }
+-- the rest was handed over
+pub told : {E : Type 0} {why : Bool} {s : List ℕ} {before : Sent} {text : List ℕ} → Waiting why s before text (listing_of why s) → (r : Ending) (number : ℕ)
+    → outcome_number r.outcome ≡ status true number → r.sent.gone ≡ before.gone + length text → (replay s).number ≡ number → Told {E = E} why s (Ok r)
+told w r number is e n = record { by_number = is ∙ ap (status true) (sym n); all-gone = e ∙ ends_at w }

@@ -3,6 +3,7 @@ use Rattle.std.specs.Prelude.{ℕ, ◌+◌, ◌≤◌, ◌<◌, ◌≡◌, Bool,
 use Rattle.recording.specs.Answers.{row_count_of}
 use Rattle.recording.specs.Reader.{reading}
 use Rattle.rerun.specs.declared.Run.{Run}
+use Rattle.rerun.specs.Answer.{as_end}
 use Rattle.rerun.specs.Turn.{Going}
 use Rattle.text.specs.Room.{most_piece}
 use Rattle.listing.specs.Printed.{opening, rows_lines, PrintedPiece, printed_of, Last}
@@ -13,10 +14,10 @@ use Rattle.printing.specs.declared.Progress.TheVariants.{Full, Last as Ended}
 abbrev pub so_far : (why : Bool) → List ℕ → (n : ℕ) → List ℕ
 so_far why s n = opening why (reading s).answer ++ rows_lines why s n
 
--- a full buffer, as a row that did not fit leaves it, or the last row that was put
+-- a full buffer, as a row that did not fit leaves it, or how the rows ended
 abbrev pub filled_of : Progress → PrintedPiece
 filled_of (Full at run) = printed_of run at None
-filled_of (Ended p) = record { full = false; at = p.at; turn = p.turn }
+filled_of (Ended at end) = record { full = false; at = at; turn = as_end end }
 
 -- from this run, this place and these lent bytes to that answer, that array and those bytes
 pub record Filled (why : Bool) (s : List ℕ) (run : Run) (at : ℕ) (out : List ℕ) (r : PrintedPiece) (array' out' : List ℕ) : Type 0 where

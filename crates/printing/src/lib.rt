@@ -1,32 +1,33 @@
 // A listing on a program's output: its text is `listing`'s, collected in one lent buffer and handed over when no piece fits any more
 // and at the end. All programs that print listings do it here. It rests on `listing` and what that rests on, and on std's writers.
-// When a part is handed over may change without moving a contract; the parts joined, and the answers 0, 1 and 2, may not.
+// When a part is handed over may change without moving a contract; the parts joined, and how it ends (specs/Status), may not.
 #![tactic(auto)]
 
 mod sending;
 
-ghost use Rattle.std.specs.Prelude.{◌≡◌, true, ◌+◌, ◌≤◌, ◌<◌, length, take, drop};
+ghost use Rattle.std.specs.Prelude.{◌≡◌, true, ◌+◌, ◌≤◌, ◌<◌, length, take, drop, OnOk};
 ghost use Rattle.std.specs.Io.KnownBytes.{Appends};
 ghost use Rattle.text.specs.Room.{most_piece};
 ghost use Rattle.rerun.specs.Turn.{Going};
 ghost use Rattle.rerun.specs.Replay.{replay};
 ghost use Rattle.listing.specs.Printed.{listing_of};
+ghost use Rattle.rerun.specs.Answer.{as_end, as_replayed};
 ghost use Rattle.printing.specs.Filled.{so_far, filled_of, Filled};
-ghost use Rattle.printing.specs.Status.{status as status_of, Told};
+ghost use Rattle.printing.specs.Status.{status as status_of, outcome_number, Told};
 ghost use Rattle.printing.specs.Waiting.{Buffer, most_gone, Waiting, Closes};
 
-use listing::Printed;
-use recording::Answer;
-use rerun::{Run, Turn};
+use rerun::{Counts, Run, Stopped};
+use settings::Refused;
 pub use sending::Sent;
-use std::io::{Error, Write};
+use std::io;
+use std::io::Write;
 
 // ---- the text
 
-// How far a buffer was filled: it is full, and the run has a row left for the next one; or no row is left, and what the last one resulted in.
+// How far a buffer was filled: it is full, and the run has a row left for the next one; or no row is left to run, and how the rows ended.
 enum Progress {
     Full { at: usize, run: Run },
-    Last(Printed),
+    Last { at: usize, end: Result<Run, Stopped> },
 }
 
 // Puts the lines of rows, from the one that the run has reached: all that are left, up to a refused one, or as many as fit.
@@ -47,59 +48,44 @@ fn fill(
         let Some(p) = listing::row(s, t, board, out, at, why) else {
             return Progress::Full { at, run: t };
         };
-        let turn = p.turn;
-        if turn.number != 0 {
-            return Progress::Last(p);
+        match p.turn {
+            Ok(turn) => t = turn.run,
+            Err(stopped) => {
+                return Progress::Last {
+                    at: p.at,
+                    end: Err(stopped),
+                };
+            }
         }
-        let next = turn.run;
-        t = next;
         at = p.at;
     }
-    let turn = Turn {
-        number: 0,
-        records: 0,
-        run: t,
-    };
-    Progress::Last(Printed { at, turn })
+    Progress::Last { at, end: Ok(t) }
 }
 
 // ---- the output
 
-// How a replay ended, by whether all was written, and the refusal number or 0.
-fn status(good: bool, number: u8) -> u8
-    ensures { result ≡ status_of good number }
-{
-    if !good {
-        return 2;
-    }
-    if number != 0 {
-        return 1;
-    }
-    0
+// How the listing of a recording ends.
+#[derive(Clone, Copy, PartialEq, Eq)]
+pub enum Outcome {
+    Replayed,
+    Refused,
 }
 
-// How printing ended: 0 replayed, 1 refused, 2 the output took no more; and what has gone.
+// How printing ended where the output took all, and what has gone.
 #[derive(Clone, Copy)]
 pub struct Ending {
-    pub status: u8,
+    pub outcome: Outcome,
     pub sent: Sent,
 }
 
-fn ending_of(sent: Sent, number: u8) -> Ending
-    ensures { (result.status ≡ status_of sent.good number) × (result.sent ≡ sent) }
+// How a listing ends, by the answer of the replay.
+fn outcome_of(end: Result<Counts, Refused>) -> Outcome
+    ensures { outcome_number result ≡ status_of true (as_replayed end).number }
 {
-    let good = sending::written(sent);
-    Ending {
-        status: status(good, number),
-        sent: sent,
+    match end {
+        Ok(_) => Outcome::Replayed,
+        Err(_) => Outcome::Refused,
     }
-}
-
-// Why the output took no more, if it did not.
-pub fn error_of(ending: Ending) -> Error
-    ensures { result ≡ ending.sent.error }
-{
-    sending::error(ending.sent)
 }
 
 // Writes what waits at the front of the buffer, which is the rest of the listing.
@@ -110,14 +96,15 @@ fn write_rest<W: Write>(
     sent: Sent,
     out: &[u8],
     at: usize,
-    number: u8,
-) -> Ending
-    requires waiting { Waiting why s.now sent (take at out.now) (listing_of why s.now) × ((replay s.now).number ≡ number) }
+    outcome: Outcome,
+) -> io::Result<Ending>
+    requires waiting { Waiting why s.now sent (take at out.now) (listing_of why s.now) × (outcome_number outcome ≡ status_of true (replay s.now).number) }
     requires at_in_bounds { (at ≤ length out.now) × Buffer (length out.now) × (sent.gone < most_gone) }
     ensures told { Told why s.now result }
-    ensures handed { result.sent.good ≡ true → Appends (W.contents output.old) (W.contents output.new) (drop sent.gone (listing_of why s.now)) }
+    ensures handed { OnOk result (Appends (W.contents output.old) (W.contents output.new) (drop sent.gone (listing_of why s.now))) }
 {
-    ending_of(sending::flush(output, s, why, sent, &out[..at]), number)
+    let sent = sending::flush(output, s, why, sent, &out[..at])?;
+    Ok(Ending { outcome, sent })
 }
 
 // Puts the closing at a place from which any piece fits, and writes the rest of the listing.
@@ -126,18 +113,19 @@ fn write_closing<W: Write>(
     s: &[u8],
     why: bool,
     sent: Sent,
-    turn: Turn,
+    end: Result<Run, Stopped>,
     out: &mut [u8],
     at: usize,
-) -> Ending
-    requires closes { Closes why s.now sent turn (take at out.old) }
+) -> io::Result<Ending>
+    requires closes { Closes why s.now sent (as_end end) (take at out.old) }
     requires most_piece_in_bounds { (at + most_piece ≤ length out.old) × Buffer (length out.old) × (sent.gone < most_gone) }
     ensures told { Told why s.now result }
-    ensures handed { result.sent.good ≡ true → Appends (W.contents output.old) (W.contents output.new) (drop sent.gone (listing_of why s.now)) }
+    ensures handed { OnOk result (Appends (W.contents output.old) (W.contents output.new) (drop sent.gone (listing_of why s.now))) }
 {
-    let end = rerun::answer_of(turn);
-    let to = listing::closing(end, out, at).unwrap();
-    write_rest(output, s, why, sent, out, to, turn.number)
+    let answer = rerun::answer_of(end);
+    let to = listing::closing(answer, out, at).unwrap();
+    let outcome = outcome_of(answer);
+    write_rest(output, s, why, sent, out, to, outcome)
 }
 
 // The same from any place: where the closing may not fit, what waits is written first.
@@ -146,23 +134,20 @@ fn print_closing<W: Write>(
     s: &[u8],
     why: bool,
     sent: Sent,
-    turn: Turn,
+    end: Result<Run, Stopped>,
     out: &mut [u8],
     at: usize,
-) -> Ending
-    requires closes { Closes why s.now sent turn (take at out.old) }
+) -> io::Result<Ending>
+    requires closes { Closes why s.now sent (as_end end) (take at out.old) }
     requires at_in_bounds { (at ≤ length out.old) × Buffer (length out.old) × (sent.gone + at < most_gone) }
     ensures told { Told why s.now result }
-    ensures handed { result.sent.good ≡ true → Appends (W.contents output.old) (W.contents output.new) (drop sent.gone (listing_of why s.now)) }
+    ensures handed { OnOk result (Appends (W.contents output.old) (W.contents output.new) (drop sent.gone (listing_of why s.now))) }
 {
     if listing::has_room(out.len(), at) {
-        return write_closing(output, s, why, sent, turn, out, at);
+        return write_closing(output, s, why, sent, end, out, at);
     }
-    let next = sending::flush(output, s, why, sent, &out[..at]);
-    if !sending::written(next) {
-        return ending_of(next, 0);
-    }
-    write_closing(output, s, why, next, turn, out, 0)
+    let next = sending::flush(output, s, why, sent, &out[..at])?;
+    write_closing(output, s, why, next, end, out, 0)
 }
 
 // The listing of a file that the reader accepted, whose opening waits.
@@ -174,56 +159,45 @@ fn print_rows<W: Write>(
     out: &mut [u8],
     from: usize,
     why: bool,
-) -> Ending
+) -> io::Result<Ending>
     requires going { Going s.now run board.old × (take from out.old ≡ so_far why s.now run.rows) }
     requires from_in_bounds { (from ≤ length out.old) × Buffer (length out.old) }
     ensures told { Told why s.now result }
-    ensures handed { result.sent.good ≡ true → Appends (W.contents output.old) (W.contents output.new) (listing_of why s.now) }
+    ensures handed { OnOk result (Appends (W.contents output.old) (W.contents output.new) (listing_of why s.now)) }
 {
     let mut sent = sending::nothing();
     let mut filled = fill(s, run, board, out, from, why);
     loop {
         match filled {
             Progress::Full { at, run: next } => {
-                sent = sending::flush(output, s, why, sent, &out[..at]);
-                if !sending::written(sent) {
-                    return ending_of(sent, 0);
-                }
+                sent = sending::flush(output, s, why, sent, &out[..at])?;
                 filled = fill(s, next, board, out, 0, why);
             }
-            Progress::Last(p) => {
-                let turn = p.turn;
-                return print_closing(output, s, why, sent, turn, out, p.at);
+            Progress::Last { at, end } => {
+                return print_closing(output, s, why, sent, end, out, at);
             }
         }
     }
 }
 
-// Prints the listing of a recording, with reasons if `why` asks for them, by way of the lent buffer, and answers how it ended. Where all was
-// written, an output whose bytes are known holds the whole listing more, and nothing else.
-pub fn print<W: Write>(output: &mut W, s: &[u8], why: bool, out: &mut [u8]) -> Ending
+// Prints the listing of a recording, with reasons if `why` asks for them, by way of the lent buffer, and answers how it ended, or
+// the error of the write that failed. Where all was written, an output whose bytes are known holds the whole listing more, and nothing else.
+pub fn print<W: Write>(output: &mut W, s: &[u8], why: bool, out: &mut [u8]) -> io::Result<Ending>
     requires { Buffer (length out.old) }
     ensures told { Told why s.now result }
-    ensures handed { result.sent.good ≡ true → Appends (W.contents output.old) (W.contents output.new) (listing_of why s.now) }
+    ensures handed { OnOk result (Appends (W.contents output.old) (W.contents output.new) (listing_of why s.now)) }
 {
-    let reading = recording::read(s);
-    let at = listing::opening(reading, out, 0, why).unwrap();
-    let st = reading.settings;
-    let answer = reading.answer;
+    let answer = recording::read(s);
+    let at = listing::opening(answer, out, 0, why).unwrap();
     match answer {
-        Answer::Accepted { rows, first, width } => {
+        Ok(file) => {
             let mut board = [0u32; 64];
-            let run = rerun::begin(st, rows, first, width, &mut board);
+            let run = rerun::begin(file, &mut board);
             print_rows(output, s, run, &mut board, out, at, why)
         }
-        Answer::Refused { number, place: _ } => write_rest(
-            output,
-            s,
-            why,
-            sending::nothing(),
-            out,
-            at,
-            number,
-        ),
+        Err(_) => {
+            let sent = sending::nothing();
+            write_rest(output, s, why, sent, out, at, Outcome::Refused)
+        }
     }
 }

@@ -7,7 +7,9 @@
 ghost use Rattle.std.specs.Prelude.{◌≤◌, length};
 
 use queries::Reply;
+use std::io;
 use std::io::Write;
+use streams::Answer;
 
 // Where the state, the words and the effect number stand behind the settings of a case, and its bytes.
 const STATE: usize = 101;
@@ -34,8 +36,8 @@ fn ask(case: &[u8; CASE_BYTES]) -> Reply {
     queries::why(st, x, w, effect)
 }
 
-// Writes the line of an answer; false if nothing can be written.
-fn print<W: Write>(output: &mut W, number: u8, place: usize, reason: &[u8]) -> bool
+// Writes the line of an answer.
+fn print<W: Write>(output: &mut W, number: u8, place: usize, reason: &[u8]) -> io::Result<()>
     requires { length reason.now ≤ 8 }
 {
     let mut head = [0u8; REFUSAL_BYTES];
@@ -44,32 +46,24 @@ fn print<W: Write>(output: &mut W, number: u8, place: usize, reason: &[u8]) -> b
     cases::print_line(output, &head, reason, b'\n', &mut line)
 }
 
-// Answers a case; false if nothing can be written.
-fn answer<W: Write>(output: &mut W, case: &[u8; CASE_BYTES]) -> bool {
-    let reply = ask(case);
-    match reply {
-        Reply::Because(reason) => {
-            let mut bytes = [0u8; REASON_BYTES];
-            reason_bytes::put_numbers(&mut bytes, 0, reason);
-            print(output, 0, 0, &bytes)
+// Reason cases.
+struct Reasons;
+
+impl Answer<CASE_BYTES> for Reasons {
+    // Writes the line that answers a case.
+    fn answer<W: Write>(output: &mut W, case: &[u8; CASE_BYTES]) -> io::Result<()> {
+        let reply = ask(case);
+        match reply {
+            Reply::Because(reason) => {
+                let mut bytes = [0u8; REASON_BYTES];
+                reason_bytes::put_numbers(&mut bytes, 0, reason);
+                print(output, 0, 0, &bytes)
+            }
+            Reply::Refused { number, place } => print(output, number, place, b""),
         }
-        Reply::Refused { number, place } => print(output, number, place, b""),
     }
 }
 
-// Answers at most a million cases, so that the program ends.
 fn main(rt: HostRuntime) {
-    let mut input = rt.stdin();
-    let mut output = rt.stdout();
-    let mut case = [0u8; CASE_BYTES];
-    let mut done: usize = 0;
-    while done < 1000000 {
-        if !streams::next_case(&mut input, &mut output, &mut case) {
-            return;
-        }
-        if !answer(&mut output, &case) {
-            return;
-        }
-        done += 1;
-    }
+    streams::answer_each::<CASE_BYTES, Reasons, _, _>(&mut rt.stdin(), &mut rt.stdout());
 }

@@ -7,21 +7,21 @@ ghost use Rattle.std.specs.Prelude.{◌≡◌, ◌+◌, ◌≤◌, length};
 
 use recording::{Answer, Step};
 use settings::{Row, Settings, Words};
+use std::io;
 use std::io::Write;
 use writing::Written;
 
-// Writes the hexadecimal digits of some bytes.
-fn print_hex<W: Write>(output: &mut W, s: &[u8]) -> bool
+// Writes the hexadecimal digits of some bytes. If they can't be written, what comes after them is tried all the same.
+fn print_hex<W: Write>(output: &mut W, s: &[u8])
     requires { length s.now ≤ 160 }
 {
     let mut line = [0u8; 320];
     cases::put_hex(s, &mut line, 0);
-    let n = 2 * s.len();
-    output.write_all(&line[0..n]).is_ok()
+    let _ = output.write_all(&line[..2 * s.len()]);
 }
 
-fn print_end<W: Write>(output: &mut W) -> bool {
-    output.write_all(b"\n").is_ok()
+fn print_end<W: Write>(output: &mut W) -> io::Result<()> {
+    output.write_all(b"\n")
 }
 
 // ---- the reader's answer: 116 bytes
@@ -30,12 +30,9 @@ fn put_effects(out: &mut [u8], st: Settings)
     requires { length out.old ≡ 116 }
     ensures { length out.new ≡ 116 }
 {
-    let mut i: usize = 0;
-    while i < 16 {
-        let e = st.effects[i];
+    for (i, e) in st.effects.iter().enumerate() {
         bits::put16(out, 10 + 6 * i, e.association);
         bits::put32(out, 12 + 6 * i, e.delay);
-        i += 1;
     }
 }
 
@@ -69,12 +66,12 @@ fn print_head<W: Write>(
     rows: u16,
     first: usize,
     width: usize,
-) -> bool {
+) {
     let mut out = [0u8; 116];
     put_numbers(&mut out, number, place, rows, first, width);
     put_settings(&mut out, st);
     print_hex(output, &out);
-    print_end(output)
+    let _ = print_end(output);
 }
 
 // ---- a row: its place, its hold and its words, 28 bytes
@@ -84,10 +81,8 @@ fn put_words(out: &mut [u8], at: usize, words: [u16; 10])
     requires { (length out.old ≡ 28) × (at + 20 ≤ 28) }
     ensures { length out.new ≡ 28 }
 {
-    let mut i: usize = 0;
-    while i < 10 {
-        bits::put16(out, at + 2 * i, words[i]);
-        i += 1;
+    for (i, word) in words.iter().enumerate() {
+        bits::put16(out, at + 2 * i, *word);
     }
 }
 
@@ -124,43 +119,41 @@ fn print_row<W: Write>(output: &mut W, s: &[u8], at: usize) -> usize {
     let mut out = [0u8; 28];
     put_row(&mut out, at, row);
     print_hex(output, &out);
-    print_end(output);
+    let _ = print_end(output);
     next
 }
 
 fn print_rows<W: Write>(output: &mut W, s: &[u8], first: usize, rows: u16) {
     let mut at = first;
-    let mut left = rows;
-    while 0 < left {
+    for _ in 0..rows {
         at = print_row(output, s, at);
-        left -= 1;
     }
 }
 
 // ---- the bytes written back
 
-fn print_piece<W: Write>(output: &mut W, w: Written, out: &[u8]) -> bool
+fn print_piece<W: Write>(output: &mut W, w: Written, out: &[u8])
     requires { length out.now ≡ 160 }
 {
     let Written::Bytes(n) = w else {
-        return false;
+        return;
     };
     if 160 < n {
-        return false;
+        return;
     }
-    print_hex(output, &out[0..n])
+    print_hex(output, &out[0..n]);
 }
 
-fn print_opening<W: Write>(output: &mut W, st: Settings, rows: u16) -> bool {
+fn print_opening<W: Write>(output: &mut W, st: Settings, rows: u16) {
     let mut out = [0u8; 160];
     let w = writing::write_opening(st, rows, &mut out);
-    print_piece(output, w, &out)
+    print_piece(output, w, &out);
 }
 
-fn print_written_row<W: Write>(output: &mut W, st: Settings, row: Row) -> bool {
+fn print_written_row<W: Write>(output: &mut W, st: Settings, row: Row) {
     let mut out = [0u8; 160];
     let w = writing::write_row(st, row, &mut out);
-    print_piece(output, w, &out)
+    print_piece(output, w, &out);
 }
 
 // How many rows are found by a walk. A walk reads the file at each step, so later rows are found by their place.
@@ -194,10 +187,8 @@ fn print_rows_back<W: Write>(
     rows: u16,
 ) -> usize {
     let mut at = first;
-    let mut i = 0;
-    while i < rows {
+    for i in 0..rows {
         at = print_row_back(output, st, s, i, at);
-        i += 1;
     }
     print_row_back(output, st, s, rows, at)
 }
@@ -208,14 +199,12 @@ fn put_replayed(out: &mut [u8], numbers: [u32; 7])
     requires { length out.old ≡ 28 }
     ensures { length out.new ≡ 28 }
 {
-    let mut i: usize = 0;
-    while i < 7 {
-        bits::put32(out, 4 * i, numbers[i]);
-        i += 1;
+    for (i, number) in numbers.iter().enumerate() {
+        bits::put32(out, 4 * i, *number);
     }
 }
 
-fn print_replay<W: Write>(output: &mut W, s: &[u8]) -> bool {
+fn print_replay<W: Write>(output: &mut W, s: &[u8]) -> io::Result<()> {
     let r = rerun::replay(s);
     let numbers = [
         r.number as u32,
@@ -234,8 +223,8 @@ fn print_replay<W: Write>(output: &mut W, s: &[u8]) -> bool {
 
 // ---- one recording
 
-// Prints what answers a recording; false if nothing can be written.
-fn answer<W: Write>(output: &mut W, s: &[u8]) -> bool {
+// Prints what answers a recording.
+fn answer<W: Write>(output: &mut W, s: &[u8]) -> io::Result<()> {
     exactness::each_is_a_byte(s);
     let reading = recording::read(s);
     let st = reading.settings;
@@ -246,28 +235,16 @@ fn answer<W: Write>(output: &mut W, s: &[u8]) -> bool {
             print_rows(output, s, first, rows);
             print_opening(output, st, rows);
             print_rows_back(output, st, s, first, rows);
-            print_end(output)
+            let _ = print_end(output);
         }
         Answer::Refused { number, place } => print_head(output, number, place, st, 0, 0, 0),
     };
     print_replay(output, s)
 }
 
-// Answers at most a million recordings, so that the program ends. A stream has none above 49,262 bytes.
+// The bytes of the longest case of a stream.
+const MOST_BYTES: usize = 49262;
+
 fn main(rt: HostRuntime) {
-    let mut input = rt.stdin();
-    let mut output = rt.stdout();
-    let mut file = [0u8; 49262];
-    let mut done: usize = 0;
-    while done < 1000000 {
-        let next = streams::next_sized(&mut input, &mut output, &mut file);
-        let n = next.size;
-        if !next.more {
-            return;
-        }
-        if !answer(&mut output, &file[0..n]) {
-            return;
-        }
-        done += 1;
-    }
+    streams::answer_each_sized::<MOST_BYTES, _, _, _>(&mut rt.stdin(), &mut rt.stdout(), answer);
 }

@@ -5,11 +5,10 @@
 // but what it prints, and the digit that it tells, may change.
 #![tactic(auto)]
 
-ghost use Rattle.std.specs.Prelude.{◌≡◌, ◌+◌, ◌≤◌, length};
+ghost use Rattle.std.specs.Prelude.{◌≤◌, ◌^◌, length};
 ghost use Rattle.reports.specs.Reports.{most_name, InputRoom};
-ghost use Rattle.listings.specs.Buffers.{Printing};
 
-use inputs::{ASKED, DONE, Errors, FIRST_NAME, UNREAD, UNWRITTEN};
+use inputs::{ASKED, Errors, Program, Status, Step};
 use recording::Answer;
 use std::env::Env;
 use std::rt::Files;
@@ -23,26 +22,26 @@ enum Asked {
     Explanation,
 }
 
-// The name that messages begin with.
-const PROGRAM: [u8; 8] = *b"replay: ";
-
-// How many arguments there are where one name is given.
-const ONE_NAME: usize = 3;
-
-// The place of standard input among the arguments where none names it.
-const NO_NAME: usize = 0;
-
-// ---- one recording
-
-// A listing under a heading with its name. Without the heading nobody could tell whose listing it is, so it then is not written.
-fn list_named<R: Print + Errors>(rt: &R, name: &[u8], s: &[u8], out: &mut [u8]) -> u8
-    requires { (length name.now ≤ most_name) × Printing out.old }
-{
-    let status = listings::head(rt, &PROGRAM, name, out);
-    if status != DONE {
-        return status;
+// The word that says what is asked, by its first letter: listing, check, summary or explanation. If the first argument is missing or longer
+// than the buffer, the word is empty, and a listing is asked.
+impl From<&[u8]> for Asked {
+    fn from(word: &[u8]) -> Asked {
+        match word {
+            [b'c', ..] => Asked::Check,
+            [b's', ..] => Asked::Summary,
+            [b'e', ..] => Asked::Explanation,
+            _ => Asked::Listing,
+        }
     }
-    listings::list(rt, &PROGRAM, s, false, out)
+}
+
+// What answers the recordings: what is asked of each, whether several are named, and the buffer for what is printed.
+#[derive(Drop)]
+struct Replay<'a, R> {
+    program: &'a Program<'a, R>,
+    asked: Asked,
+    several: bool,
+    out: [u8; 65536],
 }
 
 fn number_of(answer: Answer) -> u8 {
@@ -56,197 +55,107 @@ fn number_of(answer: Answer) -> u8 {
     }
 }
 
-fn check<R: Print + Errors>(rt: &R, name: &[u8], s: &[u8], out: &mut [u8]) -> u8
-    requires { (length name.now ≤ most_name) × Printing out.old }
-{
-    let reading = recording::read(s);
-    let answer = reading.answer;
-    let size = reports::put_check(out, name, answer);
-    listings::write_front(rt, &PROGRAM, out, size, number_of(answer))
-}
-
-fn summarize<R: Print + Errors>(rt: &R, name: &[u8], s: &[u8], out: &mut [u8]) -> u8
-    requires { (length name.now ≤ most_name) × Printing out.old }
-{
-    let replayed = rerun::replay(s);
-    let size = summaries::put_summary(out, name, replayed);
-    listings::write_front(rt, &PROGRAM, out, size, replayed.number)
-}
-
-fn explain<R: Print + Errors>(rt: &R, name: &[u8], s: &[u8], out: &mut [u8]) -> u8
-    requires { (length name.now ≤ most_name) × Printing out.old }
-{
-    let explained = findings::explain(s);
-    let size = reports::put_explained(out, name, explained);
-    listings::write_front(rt, &PROGRAM, out, size, explained.number)
-}
-
-// Answers what is asked of a recording. If several are named, a listing has its name above it.
-fn answer<R: Print + Errors>(
-    rt: &R,
-    asked: Asked,
-    several: bool,
-    name: &[u8],
-    s: &[u8],
-    out: &mut [u8],
-) -> u8
-    requires { (length name.now ≤ most_name) × Printing out.old }
-{
-    match asked {
-        Asked::Listing => {
-            if several {
-                list_named(rt, name, s, out)
-            } else {
-                listings::list(rt, &PROGRAM, s, false, out)
+impl<R: Print + Errors> Replay<'_, R> {
+    // A listing. If several recordings are named, it has its name above it: without the heading nobody could tell whose listing it is, so it
+    // then is not written.
+    fn list(&mut self, name: &[u8], s: &[u8]) -> Status
+        requires { length name.now ≤ most_name }
+    {
+        if self.several {
+            let status = listings::head(self.program, name, &mut self.out);
+            if status != Status::Done {
+                return status;
             }
         }
-        Asked::Check => check(rt, name, s, out),
-        Asked::Summary => summarize(rt, name, s, out),
-        Asked::Explanation => explain(rt, name, s, out),
+        listings::list(self.program, s, false, &mut self.out)
+    }
+
+    fn check(&mut self, name: &[u8], s: &[u8]) -> Status
+        requires { length name.now ≤ most_name }
+    {
+        let reading = recording::read(s);
+        let answer = reading.answer;
+        let size = reports::put_check(&mut self.out, name, answer);
+        listings::write_text(self.program, &self.out[..size], number_of(answer))
+    }
+
+    fn summarize(&mut self, name: &[u8], s: &[u8]) -> Status
+        requires { length name.now ≤ most_name }
+    {
+        let replayed = rerun::replay(s);
+        let size = summaries::put_summary(&mut self.out, name, replayed);
+        listings::write_text(self.program, &self.out[..size], replayed.number)
+    }
+
+    fn explain(&mut self, name: &[u8], s: &[u8]) -> Status
+        requires { length name.now ≤ most_name }
+    {
+        let explained = findings::explain(s);
+        let size = reports::put_explained(&mut self.out, name, explained);
+        listings::write_text(self.program, &self.out[..size], explained.number)
+    }
+
+    // The first line of summaries, which names the fields; other answers have none.
+    fn begin(&mut self) -> Status {
+        match self.asked {
+            Asked::Summary => {
+                let size = summaries::put_summary_header(&mut self.out);
+                listings::write_text(self.program, &self.out[..size], 0)
+            }
+            Asked::Listing | Asked::Check | Asked::Explanation => Status::Done,
+        }
     }
 }
 
-// ---- named recordings
+// There is always room for one recording more, and nothing is kept from one to the next.
+impl<R: Print + Errors> Step for Replay<'_, R> {
+    ghost room = { λ _. 2 ^ 64 };
 
-// Answers the recording of a name, which is argument i. If it cannot be read, `inputs` has said so, and it has no line and no heading.
-fn answer_named<R: Files + Env + Input + Print + Errors>(
-    rt: &R,
-    asked: Asked,
-    several: bool,
-    i: usize,
-    name: &[u8],
-    file: &mut [u8],
-    out: &mut [u8],
-) -> u8
-    requires { InputRoom name.now file.old × Printing out.old }
-{
-    let input = inputs::read_named(rt, &PROGRAM, i, name, file);
-    if !input.good {
-        return UNREAD;
+    ghost kept = { λ _. Unit {0} };
+
+    // Answers what is asked of a recording. What is asked is a match here, and no closure: the first line goes by it, too.
+    fn take(&mut self, name: &[u8], input: &[u8]) -> Status {
+        match self.asked {
+            Asked::Listing => self.list(name, input),
+            Asked::Check => self.check(name, input),
+            Asked::Summary => self.summarize(name, input),
+            Asked::Explanation => self.explain(name, input),
+        }
     }
-    let size = input.size;
-    answer(rt, asked, several, name, &file[0..size], out)
 }
 
-// Answers the recording that argument i names.
-fn answer_argument<R: Files + Env + Input + Print + Errors>(
-    rt: &R,
-    asked: Asked,
-    several: bool,
-    i: usize,
-    name: &mut [u8],
-    file: &mut [u8],
-    out: &mut [u8],
-) -> u8
-    requires { InputRoom name.old file.old × Printing out.old }
-{
-    let argument = inputs::argument(rt, &PROGRAM, i, name);
-    if !argument.good {
-        return UNREAD;
-    }
-    let size = argument.size;
-    answer_named(rt, asked, several, i, &name[0..size], file, out)
-}
-
-// Answers all recordings that are named by arguments; a failed output ends the run.
-fn answer_all<R: Files + Env + Input + Print + Errors>(
-    rt: &R,
-    asked: Asked,
-    name: &mut [u8],
-    file: &mut [u8],
-    out: &mut [u8],
-) -> u8
-    requires { InputRoom name.old file.old × Printing out.old }
-{
-    let count = inputs::argument_count(rt);
-    let mut gravest = DONE;
-    let mut i: usize = FIRST_NAME;
-    while i < count {
-        let status = answer_argument(rt, asked, ONE_NAME < count, i, name, file, out);
-        if status == UNWRITTEN {
+impl<R: Files + Env + Input + Print + Errors> Replay<'_, R> {
+    // Answers all named recordings, or standard input if none is named.
+    fn answer_each(&mut self, name: &mut [u8], file: &mut [u8]) -> Status
+        requires { InputRoom name.old file.old }
+    {
+        let status = self.begin();
+        if status != Status::Done {
             return status;
         }
-        gravest = inputs::graver(gravest, status);
-        i += 1;
-    }
-    gravest
-}
-
-// ---- what is asked
-
-// The word that says what is asked, by its first letter: listing, check, summary or explanation.
-fn asked_by(word: &[u8]) -> Asked {
-    if word.len() == 0 {
-        return Asked::Listing;
-    }
-    match word[0] {
-        b'c' => Asked::Check,
-        b's' => Asked::Summary,
-        b'e' => Asked::Explanation,
-        _ => Asked::Listing,
+        let program = self.program;
+        program.take_each(self, name, file)
     }
 }
 
-// The first line of summaries, which names the fields; other answers have none.
-fn begin<R: Print + Errors>(rt: &R, asked: Asked, out: &mut [u8]) -> u8
-    requires { Printing out.old }
+// Answers what is asked, and tells the status.
+fn run<R: Files + Env + Input + Print + Errors>(rt: &R, name: &mut [u8], file: &mut [u8])
+    requires { InputRoom name.old file.old }
 {
-    match asked {
-        Asked::Listing => DONE,
-        Asked::Check => DONE,
-        Asked::Summary => {
-            let size = summaries::put_summary_header(out);
-            listings::write_front(rt, &PROGRAM, out, size, 0)
-        }
-        Asked::Explanation => DONE,
-    }
-}
-
-// Answers all named recordings, or standard input if none is named.
-fn answer_each<R: Files + Env + Input + Print + Errors>(
-    rt: &R,
-    asked: Asked,
-    name: &mut [u8],
-    file: &mut [u8],
-    out: &mut [u8],
-) -> u8
-    requires { InputRoom name.old file.old × Printing out.old }
-{
-    let status = begin(rt, asked, out);
-    if status != DONE {
-        return status;
-    }
-    if inputs::argument_count(rt) <= FIRST_NAME {
-        return answer_named(rt, asked, false, NO_NAME, b"-", file, out);
-    }
-    answer_all(rt, asked, name, file, out)
-}
-
-// What the first argument asks. If there is none, or it is longer than the buffer, a listing is asked.
-fn asked_first<R: Env>(rt: &R, name: &mut [u8]) -> Asked {
     let size = inputs::short_argument(rt, ASKED, name);
-    asked_by(&name[0..size])
-}
-
-// Answers what is asked, and tells the status. Without an argument nobody reads it, so it is not told.
-fn run<R: Files + Env + Input + Print + Errors>(
-    rt: &R,
-    name: &mut [u8],
-    file: &mut [u8],
-    out: &mut [u8],
-)
-    requires { InputRoom name.old file.old × Printing out.old }
-{
-    let asked = asked_first(rt, name);
-    let status = answer_each(rt, asked, name, file, out);
-    if ASKED < inputs::argument_count(rt) {
-        inputs::tell(rt, status);
-    }
+    let program = Program::new(rt, b"replay: ");
+    let mut replay = Replay {
+        program: &program,
+        asked: Asked::from(&name[..size]),
+        several: program.has_several_names(),
+        out: [0u8; 65536],
+    };
+    let status = replay.answer_each(name, file);
+    program.tell_asked(status);
 }
 
 fn main(rt: HostRuntime) {
     let mut name = [0u8; 4096];
     let mut file = [0u8; 49259];
-    let mut out = [0u8; 65536];
-    run(&rt, &mut name, &mut file, &mut out);
+    run(&rt, &mut name, &mut file);
 }

@@ -5,7 +5,9 @@
 ghost use Rattle.std.specs.Prelude.{◌≤◌, length};
 
 use block::Scanned;
+use std::io;
 use std::io::Write;
+use streams::Answer;
 
 fn run(case: &[u8; 241], buf: &mut [u8]) -> Scanned {
     let st = cases::settings_at(case, 0);
@@ -16,7 +18,7 @@ fn run(case: &[u8; 241], buf: &mut [u8]) -> Scanned {
 }
 
 // Answers a case in a buffer of exactly its room.
-fn answer_in<W: Write>(output: &mut W, case: &[u8; 241], buf: &mut [u8]) -> bool
+fn answer_in<W: Write>(output: &mut W, case: &[u8; 241], buf: &mut [u8]) -> io::Result<()>
     requires { length buf.old ≤ 400 }
 {
     let r = run(case, buf);
@@ -26,26 +28,18 @@ fn answer_in<W: Write>(output: &mut W, case: &[u8; 241], buf: &mut [u8]) -> bool
     cases::print_line(output, &head, buf, b'\n', &mut line)
 }
 
-// Writes the line that answers a case; false if nothing can be written.
-fn answer<W: Write>(output: &mut W, case: &[u8; 241]) -> bool {
-    let mut space = [0u8; 400];
-    let room = cases::room_at(case, 239, 400);
-    answer_in(output, case, &mut space[0..room])
+// Scan cases.
+struct Scans;
+
+impl Answer<241> for Scans {
+    // Writes the line that answers a case.
+    fn answer<W: Write>(output: &mut W, case: &[u8; 241]) -> io::Result<()> {
+        let mut space = [0u8; 400];
+        let room = cases::room_at(case, 239, 400);
+        answer_in(output, case, &mut space[0..room])
+    }
 }
 
-// Answers at most a million cases, so that the program ends.
 fn main(rt: HostRuntime) {
-    let mut input = rt.stdin();
-    let mut output = rt.stdout();
-    let mut case = [0u8; 241];
-    let mut done: usize = 0;
-    while done < 1000000 {
-        if !streams::next_case(&mut input, &mut output, &mut case) {
-            return;
-        }
-        if !answer(&mut output, &case) {
-            return;
-        }
-        done += 1;
-    }
+    streams::answer_each::<241, Scans, _, _>(&mut rt.stdin(), &mut rt.stdout());
 }

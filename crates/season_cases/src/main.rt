@@ -7,7 +7,8 @@ ghost use Rattle.std.specs.Prelude.{◌≤◌, length};
 ghost use Rattle.season_bytes.specs.Bytes.{report_length};
 
 use season::Added;
-use std::io::Write;
+use std::io;
+use std::io::{ErrorKind, Write};
 
 // The bytes of a report.
 const REPORT_BYTES: usize = 904;
@@ -29,49 +30,36 @@ fn answer_bytes(a: Added) -> [u8; ANSWER_BYTES] {
     bits::put8(&mut out, 0, a.number);
     bits::put64(&mut out, PLACE, a.place as u64);
     bits::put8(&mut out, EFFECTS, a.effects);
-    let report = a.report;
-    season_bytes::put_report(&mut out[REPORT..], report);
+    season_bytes::put_report(&mut out[REPORT..], a.report);
     out
 }
 
-// Writes the line of an answer; false if nothing can be written.
-fn print<W: Write>(output: &mut W, a: Added) -> bool {
+// Writes the line of an answer.
+fn print<W: Write>(output: &mut W, a: Added) -> io::Result<()> {
     let mut line = [b'\n'; DIGITS + 1];
     cases::put_hex(&answer_bytes(a), &mut line, 0);
-    output.write_all(&line).is_ok()
+    output.write_all(&line)
 }
 
 // Adds the recording that stands behind a report to it, and writes the answer.
-fn answer_whole<W: Write>(output: &mut W, case: &[u8]) -> bool
+fn answer_whole<W: Write>(output: &mut W, case: &[u8]) -> io::Result<()>
     requires { report_length ≤ length case.now }
 {
     let before = season_bytes::report_at(case);
     print(output, before.add(&case[REPORT_BYTES..]))
 }
 
-// Answers a case; false if it is too short for a report, or nothing can be written.
-fn answer<W: Write>(output: &mut W, case: &[u8]) -> bool {
+// Answers a case; one that is too short for a report has no answer.
+fn answer<W: Write>(output: &mut W, case: &[u8]) -> io::Result<()> {
     if case.len() < REPORT_BYTES {
-        return false;
+        return Err(ErrorKind::UnexpectedEof.into());
     }
     answer_whole(output, case)
 }
 
-// Answers at most a million cases, so that the program ends. A stream has none above 50,166 bytes.
+// The bytes of the longest case of a stream.
+const MOST_BYTES: usize = 50166;
+
 fn main(rt: HostRuntime) {
-    let mut input = rt.stdin();
-    let mut output = rt.stdout();
-    let mut case = [0u8; 50166];
-    let mut done: usize = 0;
-    while done < 1000000 {
-        let next = streams::next_sized(&mut input, &mut output, &mut case);
-        let n = next.size;
-        if !next.more {
-            return;
-        }
-        if !answer(&mut output, &case[0..n]) {
-            return;
-        }
-        done += 1;
-    }
+    streams::answer_each_sized::<MOST_BYTES, _, _, _>(&mut rt.stdin(), &mut rt.stdout(), answer);
 }

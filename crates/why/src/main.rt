@@ -5,11 +5,10 @@
 // it prints, and the digit that it tells, may change.
 #![tactic(auto)]
 
-ghost use Rattle.std.specs.Prelude.{◌≡◌, ◌+◌, ◌≤◌, length};
+ghost use Rattle.std.specs.Prelude.{◌≤◌, ◌^◌, length};
 ghost use Rattle.reports.specs.Reports.{most_name, InputRoom};
-ghost use Rattle.listings.specs.Buffers.{Printing};
 
-use inputs::{ASKED, DONE, Errors, FIRST_NAME, UNREAD, UNWRITTEN};
+use inputs::{ASKED, Errors, Program, Status, Step};
 use std::env::Env;
 use std::rt::Files;
 
@@ -20,176 +19,74 @@ enum Asked {
     Now,
 }
 
-// The name that messages begin with.
-const PROGRAM: [u8; 5] = *b"why: ";
-
-// How many arguments there are where one name is given.
-const ONE_NAME: usize = 3;
-
-// The place of standard input among the arguments where none names it.
-const NO_NAME: usize = 0;
-
-// ---- one recording
-
-// Prints how all effects stand after the last scan.
-fn show_now<R: Print + Errors>(rt: &R, s: &[u8], out: &mut [u8]) -> u8
-    requires { Printing out.old }
-{
-    let shown = now_table::show(out, s);
-    listings::write_front(rt, &PROGRAM, out, shown.size, shown.number)
-}
-
-// Answers what is asked of a recording.
-fn answer<R: Print + Errors>(rt: &R, asked: Asked, s: &[u8], out: &mut [u8]) -> u8
-    requires { Printing out.old }
-{
-    match asked {
-        Asked::Listing => listings::list(rt, &PROGRAM, s, true, out),
-        Asked::Now => show_now(rt, s, out),
-    }
-}
-
-// The same under a heading with the name. Without the heading nobody could tell whose answer it is, so it then is not written.
-fn answer_under<R: Print + Errors>(
-    rt: &R,
-    asked: Asked,
-    name: &[u8],
-    s: &[u8],
-    out: &mut [u8],
-) -> u8
-    requires { (length name.now ≤ most_name) × Printing out.old }
-{
-    let status = listings::head(rt, &PROGRAM, name, out);
-    if status != DONE {
-        return status;
-    }
-    answer(rt, asked, s, out)
-}
-
-// ---- named recordings
-
-// Answers the recording of a name, which is argument i, under a heading if several are named. If it cannot be read, `inputs` has said so, and
-// it has no heading.
-fn answer_named<R: Files + Env + Input + Print + Errors>(
-    rt: &R,
-    asked: Asked,
-    several: bool,
-    i: usize,
-    name: &[u8],
-    file: &mut [u8],
-    out: &mut [u8],
-) -> u8
-    requires { InputRoom name.now file.old × Printing out.old }
-{
-    let input = inputs::read_named(rt, &PROGRAM, i, name, file);
-    if !input.good {
-        return UNREAD;
-    }
-    let size = input.size;
-    if several {
-        return answer_under(rt, asked, name, &file[0..size], out);
-    }
-    answer(rt, asked, &file[0..size], out)
-}
-
-// Answers the recording that argument i names.
-fn answer_argument<R: Files + Env + Input + Print + Errors>(
-    rt: &R,
-    asked: Asked,
-    several: bool,
-    i: usize,
-    name: &mut [u8],
-    file: &mut [u8],
-    out: &mut [u8],
-) -> u8
-    requires { InputRoom name.old file.old × Printing out.old }
-{
-    let argument = inputs::argument(rt, &PROGRAM, i, name);
-    if !argument.good {
-        return UNREAD;
-    }
-    let size = argument.size;
-    answer_named(rt, asked, several, i, &name[0..size], file, out)
-}
-
-// Answers all recordings that are named by arguments; a failed output ends the run.
-fn answer_all<R: Files + Env + Input + Print + Errors>(
-    rt: &R,
-    asked: Asked,
-    name: &mut [u8],
-    file: &mut [u8],
-    out: &mut [u8],
-) -> u8
-    requires { InputRoom name.old file.old × Printing out.old }
-{
-    let count = inputs::argument_count(rt);
-    let mut gravest = DONE;
-    let mut i: usize = FIRST_NAME;
-    while i < count {
-        let status = answer_argument(rt, asked, ONE_NAME < count, i, name, file, out);
-        if status == UNWRITTEN {
-            return status;
+// The word that says what is asked, by its first letter: listing or now. If the first argument is missing or longer than the buffer, the word
+// is empty, and a listing is asked.
+impl From<&[u8]> for Asked {
+    fn from(word: &[u8]) -> Asked {
+        match word {
+            [b'n', ..] => Asked::Now,
+            _ => Asked::Listing,
         }
-        gravest = inputs::graver(gravest, status);
-        i += 1;
-    }
-    gravest
-}
-
-// ---- what is asked
-
-// The word that says what is asked, by its first letter: listing or now.
-fn asked_by(word: &[u8]) -> Asked {
-    if word.len() == 0 {
-        return Asked::Listing;
-    }
-    match word[0] {
-        b'n' => Asked::Now,
-        _ => Asked::Listing,
     }
 }
 
-// Answers all named recordings, or standard input if none is named.
-fn answer_each<R: Files + Env + Input + Print + Errors>(
-    rt: &R,
+// What answers the recordings: what is asked of each, whether several are named, and the buffer for what is printed.
+#[derive(Drop)]
+struct Why<'a, R> {
+    program: &'a Program<'a, R>,
     asked: Asked,
-    name: &mut [u8],
-    file: &mut [u8],
-    out: &mut [u8],
-) -> u8
-    requires { InputRoom name.old file.old × Printing out.old }
-{
-    if inputs::argument_count(rt) <= FIRST_NAME {
-        return answer_named(rt, asked, false, NO_NAME, b"-", file, out);
-    }
-    answer_all(rt, asked, name, file, out)
+    several: bool,
+    out: [u8; 65536],
 }
 
-// What the first argument asks. If there is none, or it is longer than the buffer, a listing is asked.
-fn asked_first<R: Env>(rt: &R, name: &mut [u8]) -> Asked {
+impl<R: Print + Errors> Why<'_, R> {
+    // Prints how all effects stand after the last scan.
+    fn show_now(&mut self, s: &[u8]) -> Status {
+        let shown = now_table::show(&mut self.out, s);
+        listings::write_text(self.program, &self.out[..shown.size], shown.number)
+    }
+}
+
+// There is always room for one recording more, and nothing is kept from one to the next.
+impl<R: Print + Errors> Step for Why<'_, R> {
+    ghost room = { λ _. 2 ^ 64 };
+
+    ghost kept = { λ _. Unit {0} };
+
+    // Answers what is asked of a recording. If several are named, the answer has its name above it: without the heading nobody could tell
+    // whose answer it is, so it then is not written.
+    fn take(&mut self, name: &[u8], input: &[u8]) -> Status {
+        if self.several {
+            let status = listings::head(self.program, name, &mut self.out);
+            if status != Status::Done {
+                return status;
+            }
+        }
+        match self.asked {
+            Asked::Listing => listings::list(self.program, input, true, &mut self.out),
+            Asked::Now => self.show_now(input),
+        }
+    }
+}
+
+// Answers all named recordings, or standard input if none is named, and tells the status.
+fn run<R: Files + Env + Input + Print + Errors>(rt: &R, name: &mut [u8], file: &mut [u8])
+    requires { InputRoom name.old file.old }
+{
     let size = inputs::short_argument(rt, ASKED, name);
-    asked_by(&name[0..size])
-}
-
-// Answers what is asked, and tells the status. Without an argument nobody reads it, so it is not told.
-fn run<R: Files + Env + Input + Print + Errors>(
-    rt: &R,
-    name: &mut [u8],
-    file: &mut [u8],
-    out: &mut [u8],
-)
-    requires { InputRoom name.old file.old × Printing out.old }
-{
-    let asked = asked_first(rt, name);
-    let status = answer_each(rt, asked, name, file, out);
-    if ASKED < inputs::argument_count(rt) {
-        inputs::tell(rt, status);
-    }
+    let program = Program::new(rt, b"why: ");
+    let mut why = Why {
+        program: &program,
+        asked: Asked::from(&name[..size]),
+        several: program.has_several_names(),
+        out: [0u8; 65536],
+    };
+    let status = program.take_each(&mut why, name, file);
+    program.tell_asked(status);
 }
 
 fn main(rt: HostRuntime) {
     let mut name = [0u8; 4096];
     let mut file = [0u8; 49259];
-    let mut out = [0u8; 65536];
-    run(&rt, &mut name, &mut file, &mut out);
+    run(&rt, &mut name, &mut file);
 }

@@ -6,7 +6,9 @@
 ghost use Rattle.std.specs.Prelude.{◌≤◌, length};
 
 use settings::Row;
+use std::io;
 use std::io::Write;
+use streams::Answer;
 use writing::Written;
 
 // The refusal number, place and length of a written piece: 7 bytes.
@@ -18,14 +20,14 @@ fn head_of(w: Written) -> [u8; 7] {
 }
 
 // Writes the digits of a piece's answer and of its buffer, and the character after them.
-fn print<W: Write>(output: &mut W, w: Written, buf: &[u8], last: u8) -> bool
+fn print<W: Write>(output: &mut W, w: Written, buf: &[u8], last: u8) -> io::Result<()>
     requires { length buf.now ≤ 160 }
 {
     let mut line = [0u8; 1076];
     cases::print_line(output, &head_of(w), buf, last, &mut line)
 }
 
-fn print_opening<W: Write>(output: &mut W, case: &[u8; 129], buf: &mut [u8]) -> bool
+fn print_opening<W: Write>(output: &mut W, case: &[u8; 129], buf: &mut [u8]) -> io::Result<()>
     requires { length buf.old ≤ 160 }
 {
     let st = cases::settings_at(case, 0);
@@ -35,7 +37,7 @@ fn print_opening<W: Write>(output: &mut W, case: &[u8; 129], buf: &mut [u8]) -> 
     print(output, w, buf, b' ')
 }
 
-fn print_row<W: Write>(output: &mut W, case: &[u8; 129], buf: &mut [u8]) -> bool
+fn print_row<W: Write>(output: &mut W, case: &[u8; 129], buf: &mut [u8]) -> io::Result<()>
     requires { length buf.old ≤ 160 }
 {
     let st = cases::settings_at(case, 0);
@@ -46,34 +48,26 @@ fn print_row<W: Write>(output: &mut W, case: &[u8; 129], buf: &mut [u8]) -> bool
     print(output, w, buf, b'\n')
 }
 
-// Answers a case in a buffer of exactly its room.
-fn answer_in<W: Write>(output: &mut W, case: &[u8; 129], buf: &mut [u8]) -> bool
+// Answers a case in a buffer of exactly its room. Where the opening's half of the line can't be written, the row's is tried all the same.
+fn answer_in<W: Write>(output: &mut W, case: &[u8; 129], buf: &mut [u8]) -> io::Result<()>
     requires { length buf.old ≤ 160 }
 {
-    print_opening(output, case, buf);
+    let _ = print_opening(output, case, buf);
     print_row(output, case, buf)
 }
 
-// Writes the line that answers a case; false if nothing can be written.
-fn answer<W: Write>(output: &mut W, case: &[u8; 129]) -> bool {
-    let mut space = [0u8; 160];
-    let room = cases::room_at(case, 127, 160);
-    answer_in(output, case, &mut space[0..room])
+// Writing cases.
+struct Pieces;
+
+impl Answer<129> for Pieces {
+    // Writes the line that answers a case.
+    fn answer<W: Write>(output: &mut W, case: &[u8; 129]) -> io::Result<()> {
+        let mut space = [0u8; 160];
+        let room = cases::room_at(case, 127, 160);
+        answer_in(output, case, &mut space[0..room])
+    }
 }
 
-// Answers at most a million cases, so that the program ends.
 fn main(rt: HostRuntime) {
-    let mut input = rt.stdin();
-    let mut output = rt.stdout();
-    let mut case = [0u8; 129];
-    let mut done: usize = 0;
-    while done < 1000000 {
-        if !streams::next_case(&mut input, &mut output, &mut case) {
-            return;
-        }
-        if !answer(&mut output, &case) {
-            return;
-        }
-        done += 1;
-    }
+    streams::answer_each::<129, Pieces, _, _>(&mut rt.stdin(), &mut rt.stdout());
 }

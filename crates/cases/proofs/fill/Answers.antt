@@ -1,9 +1,7 @@
 -- `cases::fill` meets its contract. The loop's invariant: the first i bytes are filled, and the others stay.
-use mathlib.Core.List.{append-nil}
-use mathlib.Core.Path.{◌≡◌, refl}
-use native.Mathlib.Nat.{le_refl}
+use mathlib.Core.Path.{refl}
 use native.Mathlib.Omega.{arith}
-use lib.ListN.{drop_of_length-le, length, length-set}
+use lib.ListN.{length-set}
 use Rattle.bits.proofs.Lists.{fill}
 use Rattle.bits.specs.Lists.{tabulate}
 use Rattle.cases.specs.Given.{fill_at}
@@ -11,14 +9,8 @@ use Rattle.cases.proofs.fill.Goals as goal
 
 pub loop-i-init : goal.loop-i-init
 unfolding tabulate
-loop-i-init c = (omega arith, refl, refl)
+loop-i-init c = (refl, refl)
 
 pub loop-i-preserved : goal.loop-i-preserved
 loop-i-preserved c =
-    (omega arith, simp length-set c.loop-i.invariant.1, rw (c.loop-i.invariant.2, c.fill_at.ensures) (fill fill_at c.args.buf.now c.loop-i.i 0 (omega arith)))
-
-pub returns : goal.returns
-returns c =
-    let l = c.args.buf.now in
-    let e : c.loop-i.i ≡ length l = omega arith in
-    rw (c.loop-i.invariant.2, e, drop_of_length-le l (le_refl (length l)), append-nil)
+    (simp length-set c.loop-i.invariant.0, rw (c.loop-i.invariant.1, c.fill_at.ensures) (fill fill_at c.args.buf.now c.loop-i.i 0 (omega arith)))

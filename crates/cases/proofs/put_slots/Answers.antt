@@ -1,7 +1,6 @@
 -- `cases::put_slots` meets its contract. The loop's invariant: the slots written so far and those that are left make the whole.
-use mathlib.Core.Path.{refl, ◌∙◌}
+use mathlib.Core.Path.{◌∙◌}
 use Prim.Native.Nat.{◌+◌, ◌*◌}
-use native.Mathlib.Nat.{add-zero}
 use native.Mathlib.Omega.{arith}
 use lib.Seq.{length-sets}
 use Rattle.bits.proofs.Lists.{length-flat_map, store_turn, store_ends}
@@ -10,16 +9,13 @@ use Rattle.cases.specs.Answers.{slot_bytes}
 use Rattle.cases.proofs.Joined.{length-slot}
 use Rattle.cases.proofs.put_slots.Goals as goal
 
-pub loop-i-init : goal.loop-i-init
-loop-i-init c = (omega arith, refl, rw add-zero)
-
 pub loop-i-preserved : goal.loop-i-preserved
 loop-i-preserved c =
     let e = c.put_slot.ensures in
-    (omega arith, rw (e, length-sets) c.loop-i.invariant.1, rw e (store_turn slot_bytes 7 length-slot c.loop-i.out c.args.at c.loop-i.i c.args.xs no_slot (omega arith) ∙ c.loop-i.invariant.2))
+    (rw (e, length-sets) c.loop-i.invariant.0, rw e (store_turn slot_bytes 7 length-slot c.loop-i.out c.args.at c.loop-i.i c.args.xs no_slot (omega arith) ∙ c.loop-i.invariant.1))
 
 pub returns : goal.returns
 returns c = record {
-  out_after = store_ends slot_bytes _ _ (c.args.at + 7 * c.loop-i.i) c.loop-i.i c.args.xs (omega arith) c.loop-i.invariant.2;
+  out_after = store_ends slot_bytes _ _ (c.args.at + 7 * c.loop-i.i) c.loop-i.i c.args.xs (omega arith) c.loop-i.invariant.1;
   xs_len = omega (arith, length-flat_map slot_bytes 7 length-slot c.args.xs);
 }

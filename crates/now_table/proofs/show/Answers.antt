@@ -1,6 +1,5 @@
 -- `now_table::show` meets its contract: by what the reader answers.
 use mathlib.Core.Path.{ap}
-use native.Mathlib.Omega.{arith}
 use Rattle.recording.proofs.Opened.{refusal_is}
 use Rattle.rerun.specs.Replay.{Outcome}
 use Rattle.rerun.proofs.Files.{refused_replay, refusal_number}

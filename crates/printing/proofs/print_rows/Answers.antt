@@ -1,22 +1,22 @@
 -- `printing::print_rows` meets its contract: buffer after buffer, the loop goes on from the row that did not fit.
-use mathlib.Core.Path.{refl, sym, ◌∙◌}
+use mathlib.Core.Path.{refl, sym}
 use native.Mathlib.Omega.{arith}
 use lib.ListN.{take-append-drop}
+use Rattle.std.proofs.lemmas.Result.{IfOk-weaker}
 use Rattle.listing.specs.Printed.{listing_of}
 use Rattle.printing.proofs.Handed.{appends_then, gone_with}
 use Rattle.printing.proofs.Parts.{next, goes, filled}
 use Rattle.printing.proofs.Turn.{rest_follows, later, counted}
 use Rattle.printing.proofs.print_rows.Goals as goal
 
-pub flush-sent-requires-clause-good_value : goal.flush-sent-requires-clause-good_value
-flush-sent-requires-clause-good_value g c =
+pub flush-sent-requires-clause-next_part : goal.flush-sent-requires-clause-next_part
+flush-sent-requires-clause-next_part g c =
     let i = rw c.in-Full.is at c.loop-filled.invariant.0 in
-    (i.waits.written, next i.waits _ (rest_follows i))
+    next i.waits _ (rest_follows i)
 
 pub loop-filled-preserved : goal.loop-filled-preserved
 loop-filled-preserved g c =
-    let flush = c.flush-sent in
-    let good = sym c.written.ensures ∙ c.if-not-written.false in
+    let sent = c.in_ok-sent.ensures in
     let i = rw c.in-Full.is at c.loop-filled.invariant.0 in
     let f = c.fill-filled-in-Full.ensures in
     let n = next i.waits _ (rest_follows i) in (
@@ -25,11 +25,11 @@ loop-filled-preserved g c =
         buffer = i.buffer;
         long = omega (arith, i.long);
         within = omega (arith, f.within (omega arith));
-        waits = filled (goes i.waits _ (rest_follows i) good flush.ensures.gone_after) f;
-        small = later i refl flush.ensures.gone_after f;
+        waits = filled (goes i.waits _ (rest_follows i) sent.gone_after) f;
+        small = later i refl sent.gone_after f;
         last = f.last;
       },
-      rw (sym (gone_with n flush.ensures.gone_after)) (appends_then _ _ _ _ _ c.loop-filled.invariant.1 (flush.ensures.handed good)),
+      rw (sym (gone_with n sent.gone_after)) (appends_then _ _ _ _ _ c.loop-filled.invariant.1 sent.handed),
     )
 
 pub print_closing-requires-clause-at_in_bounds : goal.print_closing-requires-clause-at_in_bounds
@@ -38,6 +38,6 @@ print_closing-requires-clause-at_in_bounds g c =
     (omega (arith, i.within), rw i.long i.buffer, counted i)
 
 pub returns-in-Last-clause-handed : goal.returns-in-Last-clause-handed
-returns-in-Last-clause-handed g c = λ good.
+returns-in-Last-clause-handed g c =
     let l = listing_of c.args.why c.args.s.now in
-    rw (sym (take-append-drop c.loop-filled.sent.gone l)) (appends_then _ _ _ _ _ c.loop-filled.invariant.1 (c.print_closing.ensures.handed good))
+    rw (sym (take-append-drop c.loop-filled.sent.gone l)) (IfOk-weaker _ _ _ (λ _. appends_then _ _ _ _ _ c.loop-filled.invariant.1) c.print_closing.ensures.handed)

@@ -1,8 +1,0 @@
--- `listings::write_front` meets its contract: the graver of two statuses.
-use Rattle.listings.proofs.Endings.{graver_ended}
-use Rattle.listings.proofs.write_front.Goals as goal
-
-pub returns : goal.returns
-returns g c =
-    let a = c.args in
-    rw (c.graver.ensures, c.status_of.ensures) (graver_ended c.write-status.result a.number c.write-status.ensures)

@@ -1,8 +1,0 @@
--- `season_command::print` is safe: a table over files has lines for at most sixteen effects, and the buffer has room for it.
-use native.Mathlib.Omega.{arith}
-use Rattle.season_table.proofs.Theorems.{a_table's_effects_are_few}
-use Rattle.season_command.proofs.print.Goals as goal
-
-pub put_table-size-requires : goal.put_table-size-requires
-put_table-size-requires g c =
-    (a_table's_effects_are_few c.args.adding.table c.requires.0, omega (arith, c.requires.1))
