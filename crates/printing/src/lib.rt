@@ -17,8 +17,8 @@ ghost use Rattle.printing.specs.Status.{status as status_of, outcome_number, Tol
 ghost use Rattle.printing.specs.Waiting.{Buffer, most_gone, Waiting, Closes};
 
 use rerun::{Counts, Run, Stopped};
-use settings::Refused;
 pub use sending::Sent;
+use settings::Refused;
 use std::io;
 use std::io::Write;
 
@@ -26,8 +26,14 @@ use std::io::Write;
 
 // How far a buffer was filled: it is full, and the run has a row left for the next one; or no row is left to run, and how the rows ended.
 enum Progress {
-    Full { at: usize, run: Run },
-    Last { at: usize, end: Result<Run, Stopped> },
+    Full {
+        at: usize,
+        run: Run,
+    },
+    Last {
+        at: usize,
+        end: Result<Run, Stopped>,
+    },
 }
 
 // Puts the lines of rows, from the one that the run has reached: all that are left, up to a refused one, or as many as fit.

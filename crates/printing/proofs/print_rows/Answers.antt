@@ -9,14 +9,14 @@ use Rattle.printing.proofs.Parts.{next, goes, filled}
 use Rattle.printing.proofs.Turn.{rest_follows, later, counted}
 use Rattle.printing.proofs.print_rows.Goals as goal
 
-pub flush-sent-requires-clause-next_part : goal.flush-sent-requires-clause-next_part
-flush-sent-requires-clause-next_part g c =
+pub flush-requires-clause-next_part : goal.flush-requires-clause-next_part
+flush-requires-clause-next_part g c =
     let i = rw c.in-Full.is at c.loop-filled.invariant.0 in
     next i.waits _ (rest_follows i)
 
 pub loop-filled-preserved : goal.loop-filled-preserved
 loop-filled-preserved g c =
-    let sent = c.in_ok-sent.ensures in
+    let sent = c.in_ok-sent-in-Full.ensures in
     let i = rw c.in-Full.is at c.loop-filled.invariant.0 in
     let f = c.fill-filled-in-Full.ensures in
     let n = next i.waits _ (rest_follows i) in (

@@ -1,5 +1,6 @@
 -- `printing::write_closing` meets its contract: with the closing, what waits is the rest of the listing.
-use mathlib.Core.Path.{sym, ◌∙◌}
+use mathlib.Core.Bool.{true}
+use mathlib.Core.Path.{sym, ap, ◌∙◌}
 use Rattle.listing.specs.Listing.{closing}
 use Rattle.printing.proofs.Parts.{piece_put, grows, closed}
 use Rattle.rerun.specs.Answer.{Replayed, as_replayed}
@@ -15,6 +16,7 @@ write_rest-requires-clause-waiting g c =
     let text = closing (as_replayed c.answer_of-answer.result) in
     let e = c.closing.ensures in
     let is = c.unwrap-to.ensures in
-    let within = rw is at e.at_in_bounds in
-    (grows p.waits text (piece_put a.out.now text a.at room.0 (sym is ∙ e.value) e.out_after within) (closed p (as_replayed c.answer_of-answer.result) c.answer_of-answer.ensures),
-     c.outcome_of-outcome.ensures ∙ ap (status true) (ap (λ (r : Replayed). r.number) (c.answer_of-answer.ensures ∙ p.last.answer_is) ∙ an_answer_has_the_number a.s.now))
+    let within = rw is at e.at_in_bounds in (
+      grows p.waits text (piece_put a.out.now text a.at room.0 (sym is ∙ e.value) e.out_after within) (closed p (as_replayed c.answer_of-answer.result) c.answer_of-answer.ensures),
+      c.outcome_of-outcome.ensures ∙ ap (status true) (ap (λ (r : Replayed). r.number) (c.answer_of-answer.ensures ∙ p.last.answer_is) ∙ an_answer_has_the_number a.s.now),
+    )

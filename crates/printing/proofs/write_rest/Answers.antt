@@ -1,4 +1,5 @@
 -- `printing::write_rest` meets its contract: what waits ends where the listing ends.
+use mathlib.Core.Path.{refl}
 use mathlib.Core.List.{[], append-nil}
 use native.Mathlib.Omega.{arith}
 use lib.Seq.{length-take-le}
