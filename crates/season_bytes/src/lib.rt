@@ -1,5 +1,6 @@
 // A report in lent bytes, as it crosses to other languages: 113 numbers of 8 bytes, big-endian. Document 02, L1. It rests on `season` for
-// the report and on `bits` for the numbers. How a recording is added may change without moving a contract; the bytes of a report may not.
+// the report, and on `bits` and `numbers` for the numbers. How a recording is added may change without moving a contract; the bytes of a
+// report may not.
 #![tactic(auto)]
 
 ghost use Rattle.std.specs.Prelude.{◌≡◌, ◌≤◌, length};

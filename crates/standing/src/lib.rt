@@ -22,6 +22,7 @@ use settings::Settings;
 
 // from: each effect's state before the last scan, in a slot of which only the state counts. to: its slot after that scan. sight: what a
 // reason reads of the last row.
+// Two arrays: `cells` gives the slots of all effects at once, before the last row and after it, and pairs would be copies of both.
 #[derive(Clone, Copy)]
 pub struct Standing {
     pub from: [Slot; 16],
