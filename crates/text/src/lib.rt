@@ -109,7 +109,7 @@ fn put_change(out: &mut [u8], at: usize, e: Event, end: u8) -> usize
     put_field(out, first, e.first_out as u64, end)
 }
 
-// Puts the words of a reason, and LF. As a `Field` a reason takes a listing with reasons beyond its bar of speed.
+// Puts the words of a reason, and LF. A reason always ends its line, so that it would be no plainer as a `Field` with the byte behind it.
 pub fn put_end(out: &mut [u8], at: usize, r: Reason) -> usize
     requires { at + length (words_of r ++ ascii "\n") ≤ length out.old }
     ensures { Puts out.old at (words_of r ++ ascii "\n") result out.new }
@@ -135,8 +135,8 @@ fn put_line(
     match column {
         None => put_change(out, from, e, b'\n'),
         Some(sight) => {
-            let last = put_change(out, from, e, b' ');
             let r = reasons::reason_in(sight, associations, e);
+            let last = put_change(out, from, e, b' ');
             put_end(out, last, r)
         }
     }
@@ -158,8 +158,13 @@ pub fn put_lines(
 {
     let mut next = at;
     for i in 0..n {
-        let e = effects::event_at(records, effects::RECORD_LENGTH * i);
-        next = put_line(out, next, e, column, associations);
+        next = put_line(
+            out,
+            next,
+            effects::event_at(records, effects::RECORD_LENGTH * i),
+            column,
+            associations,
+        );
     }
     next
 }
