@@ -21,7 +21,8 @@ use rules::EffectState;
 
 // ---- fields
 
-// What stands between two spaces of a line: a word, a number, or the name of a state.
+// What stands between two spaces of a line: a word, a number, or the name of a state. It is no `Display`, whose `fmt` promises its bytes only
+// where it answers Ok, and nothing promises that it does: `put` cannot fail.
 pub trait Field {
     // Its bytes.
     ghost text: { Self → List ℕ };
