@@ -1,7 +1,7 @@
 -- A piece at a place of a lent buffer: what is answered where the buffer is full, and where it is not.
 use Rattle.std.proofs.Common.{Result}
-use mathlib.Core.Path.{◌≡◌, refl, sym, ◌∙◌}
-use mathlib.Core.Bool.{Bool, true, false}
+use mathlib.Core.Path.{◌≡◌, refl, sym, ap, ap₂, ◌∙◌}
+use mathlib.Core.Bool.{Bool, true, false, true≢false}
 use mathlib.Core.List.{List}
 use Prim.Native.Nat.{ℕ, ◌+◌, ◌-◌, ◌≤◌, ◌<◌}
 use native.Mathlib.Omega.{arith}
@@ -15,8 +15,9 @@ use Rattle.rerun.specs.Answer.{as_turn}
 use Rattle.rerun.specs.declared.Turn.{Turn as RowTurn}
 use Rattle.rerun.specs.declared.Stopped.{Stopped}
 use Rattle.rerun.specs.Turn.{Going, RowDone}
+use Rattle.listing.specs.declared.Printed.{Printed}
 use Rattle.text.specs.Room.{most_piece}
-use Rattle.listing.specs.Printed.{has_room, placed, written, place_of, printed_of, row_lines, PrintedRow}
+use Rattle.listing.specs.Printed.{has_room, placed, written, place_of, PrintedPiece, printed_of, row_lines, PrintedRow}
 use Rattle.bits.proofs.Puts.{Put}
 
 -- ## The test
@@ -71,3 +72,11 @@ module _ (out : List ℕ) (at : ℕ) (b : Bool) (is : b ≡ has_room (length out
           going = d.going;
           rows_are = rw e d.rows_are;
         }
+
+-- a record of a row's answer is that of one answer only
+pub printed_once : (run : Run) (at : ℕ) (r q : Option Printed) → printed_of run at r ≡ printed_of run at q → r ≡ q
+printed_once run at None None e = refl
+printed_once run at None (Some q) e = absurd (true≢false (ap (λ (x : PrintedPiece). x.full) e))
+printed_once run at (Some p) None e = absurd (true≢false (sym (ap (λ (x : PrintedPiece). x.full) e)))
+printed_once run at (Some p) (Some q) e =
+    ap₂ (λ (n : ℕ) (t : Turn). Some (record { at = n; turn = t })) (ap (λ (x : PrintedPiece). x.at) e) (ap (λ (x : PrintedPiece). x.turn) e)

@@ -49,7 +49,7 @@ fn put_effect(
     let state = text::put_field(out, at, n as u64, b' ');
     let first = text::put_field(out, state, p, b' ');
     let reason = text::put_field(out, first, first_out as u64, b' ');
-    text::put_field(out, reason, r, b'\n')
+    text::put_end(out, reason, r)
 }
 
 // The slot of effect i, from 0, after the last scan. The call says that its numbers fit their types, which an index does not.

@@ -27,6 +27,7 @@ pub fn put_heading(out: &mut [u8], name: &[u8]) -> usize
     bits::put_text(out, to, b" ==\n")
 }
 
+// The lines of an accepted and a refused recording have in common that the name is put first, which is one call: they stay apart.
 fn put_accepted(out: &mut [u8], name: &[u8], rows: u16) -> usize
     requires { Roomy name.now out.old }
     ensures value { PutsFirst out.old (accepted_line name.now rows) result out.new }

@@ -5,7 +5,7 @@
 #![tactic(auto)]
 
 ghost use Rattle.std.specs.Prelude.{ℕ, ◌≡◌, List, [], ◌∷◌, ◌++◌, ◌+◌, ◌≤◌, length, IfSome};
-ghost use Rattle.bits.specs.Decimal.{decimal};
+ghost use Rattle.bits.specs.Decimal.{ascii, decimal};
 ghost use Rattle.rules.specs.Limits.{most_effects};
 ghost use Rattle.effects.specs.Records.{most_records, Recorded};
 ghost use Rattle.reasons.specs.Given.{Narrow};
@@ -21,7 +21,8 @@ use rules::EffectState;
 
 // ---- fields
 
-// What stands between two spaces of a line: a word, a number, the name of a state, or the words of a reason.
+// What stands between two spaces of a line: a word, a number, or the name of a state. It is no `Display`, whose `fmt` promises its bytes only
+// where it answers Ok, and nothing promises that it does: `put` cannot fail.
 pub trait Field {
     // Its bytes.
     ghost text: { Self → List ℕ };
@@ -62,14 +63,6 @@ impl Field for EffectState {
             EffectState::Normal => bits::put_text(out, at, b"normal"),
             EffectState::Delayed => bits::put_text(out, at, b"delayed"),
         }
-    }
-}
-
-impl Field for Reason {
-    ghost text = { λ r. words_of r };
-
-    fn put(self, out: &mut [u8], at: usize) -> usize {
-        wording::put_reason(out, at, self)
     }
 }
 
@@ -117,6 +110,16 @@ fn put_change(out: &mut [u8], at: usize, e: Event, end: u8) -> usize
     put_field(out, first, e.first_out as u64, end)
 }
 
+// Puts the words of a reason, and LF. A reason always ends its line, so that it would be no plainer as a `Field` with the byte behind it.
+pub fn put_end(out: &mut [u8], at: usize, r: Reason) -> usize
+    requires { at + length (words_of r ++ ascii "\n") ≤ length out.old }
+    ensures { Puts out.old at (words_of r ++ ascii "\n") result out.new }
+{
+    let last = wording::put_reason(out, at, r);
+    out[last] = b'\n';
+    last + 1
+}
+
 // Puts the line of a record, with its reason where a column tells what reasons read of the row.
 #[tactic(auto, unfolding(crate::specs::Pieces::further, crate::specs::Pieces::when, crate::specs::Pieces::change, crate::specs::Text::line_with))]
 fn put_line(
@@ -133,9 +136,9 @@ fn put_line(
     match column {
         None => put_change(out, from, e, b'\n'),
         Some(sight) => {
-            let last = put_change(out, from, e, b' ');
             let r = reasons::reason_in(sight, associations, e);
-            put_field(out, last, r, b'\n')
+            let last = put_change(out, from, e, b' ');
+            put_end(out, last, r)
         }
     }
 }
@@ -156,8 +159,13 @@ pub fn put_lines(
 {
     let mut next = at;
     for i in 0..n {
-        let e = effects::event_at(records, effects::RECORD_LENGTH * i);
-        next = put_line(out, next, e, column, associations);
+        next = put_line(
+            out,
+            next,
+            effects::event_at(records, effects::RECORD_LENGTH * i),
+            column,
+            associations,
+        );
     }
     next
 }

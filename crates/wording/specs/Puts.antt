@@ -1,4 +1,5 @@
--- What a function that writes a text promises.
+-- What a function that writes a text promises. It takes the lent bytes and the place apart, as the entry points of `listing` do, which no
+-- struct of both would make plainer: its fields would stand in this definition instead.
 use Rattle.std.specs.Prelude.{ℕ, ◌+◌, ◌≡◌, List, length}
 use Rattle.std.proofs.lemmas.List.Edits.{sets}
 

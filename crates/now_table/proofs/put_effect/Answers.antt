@@ -11,7 +11,7 @@ returns c =
     let p = a.p in
     let f = a.first_out in
     let r = a.r in
-    let behind = put_then _ _ _ _ _ _ (first_field n p f r) (reason_field n p f r) c.put_field-reason.ensures c.put_field.ensures in
+    let behind = put_then _ _ _ _ _ _ (first_field n p f r) (reason_field n p f r) c.put_field-reason.ensures c.put_end.ensures in
     let later = put_then _ _ _ _ _ _ (state_field n p f r) (first_field n p f r ++ reason_field n p f r) c.put_field-first.ensures behind in
     rw (fields n p f r)
     (put_then a.out.now _ _ a.at _ _ (number_field n p f r) (state_field n p f r ++ (first_field n p f r ++ reason_field n p f r)) c.put_field-state.ensures later)

@@ -14,5 +14,5 @@ pub returns-in-Some : goal.returns-in-Some
 returns-in-Some c =
     let a = c.args in
     let last = end a.associations.now a.e c.in-Some.sight in
-    let later = put_then _ _ _ _ _ _ (change a.e 32) last c.put_change-last.ensures (rw c.reason_in-r.ensures at c.put_field.ensures) in
+    let later = put_then _ _ _ _ _ _ (change a.e 32) last c.put_change-last.ensures (rw c.reason_in-r.ensures at c.put_end.ensures) in
     rw (c.in-Some.is, told a.associations.now a.e c.in-Some.sight) (put_then a.out.now _ _ a.at _ _ (when a.e) (change a.e 32 ++ last) c.put_when-from.ensures later)

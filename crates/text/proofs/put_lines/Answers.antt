@@ -16,8 +16,8 @@ use Rattle.text.proofs.Lines.{left_turn, left_length, left-none}
 use Rattle.text.proofs.Room.{lines_at_most}
 use Rattle.text.proofs.put_lines.Goals as goal
 
-pub event_at-e-requires : goal.event_at-e-requires
-event_at-e-requires c =
+pub event_at-requires : goal.event_at-requires
+event_at-requires c =
     let g = c.requires.1 in
     (get_or g.0 c.loop-i.i no_event, nth c.args.records.now g.0 c.args.n c.loop-i.i g.1 g.2 (omega arith))
 
@@ -26,7 +26,7 @@ put_line-next-requires c =
     let a = c.args in
     let g = c.requires.1 in
     let line = column_line a.column a.associations.now in
-    let is = one_event a.records.now (record_length * c.loop-i.i) c.event_at-e.result _ c.event_at-e.ensures (nth a.records.now g.0 a.n c.loop-i.i g.1 g.2 (omega arith)) in
+    let is = one_event a.records.now (record_length * c.loop-i.i) c.event_at.result _ c.event_at.ensures (nth a.records.now g.0 a.n c.loop-i.i g.1 g.2 (omega arith)) in
     let number = numbered_at most_effects g.0 c.loop-i.i no_event g.3 (omega (arith, g.1)) in
     let same = ap (λ (e : Event). e.effect) is in
     (omega (arith, number.0, same), omega (arith, number.1, same), omega (arith, lines_at_most a.column c.requires.3 a.associations.now a.records.now (λ i. (c.type_inv.records i).fits) 0 g.0 g.2, c.requires.2, left_length line g.0 c.loop-i.i no_event (omega (arith, g.1)), ap (λ (e : Event). length (line e)) is, (c.loop-i.invariant.1 g.0 g.1 g.2).0, g.1))
@@ -36,7 +36,7 @@ loop-i-preserved c =
     let a = c.args in
     let line = column_line a.column a.associations.now in
     let p = c.put_line-next.ensures in
-    let e = c.event_at-e in (
+    let e = c.event_at in (
       rw (p.1, length-sets) c.loop-i.invariant.0,
       λ es n h.
           let is = one_event a.records.now (record_length * c.loop-i.i) e.result _ e.ensures (nth a.records.now es a.n c.loop-i.i n h (omega arith)) in
