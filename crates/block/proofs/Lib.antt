@@ -7,3 +7,4 @@ pub mod Scans
 pub mod Runs
 pub mod Loads
 pub mod Theorems
+pub mod Once

@@ -3,3 +3,4 @@ pub mod Numbers
 pub mod Named
 pub mod Stops
 pub mod Theorems
+pub mod Once

@@ -15,6 +15,7 @@ use Rattle.rerun.specs.Answer.{as_turn}
 use Rattle.rerun.specs.declared.Turn.{Turn as RowTurn}
 use Rattle.rerun.specs.declared.Stopped.{Stopped}
 use Rattle.rerun.specs.Turn.{Going, RowDone}
+use Rattle.rerun.proofs.Once.{turn_once}
 use Rattle.listing.specs.declared.Printed.{Printed}
 use Rattle.text.specs.Room.{most_piece}
 use Rattle.listing.specs.Printed.{has_room, placed, written, place_of, PrintedPiece, printed_of, row_lines, PrintedRow}
@@ -79,4 +80,5 @@ printed_once run at None None e = refl
 printed_once run at None (Some q) e = absurd (true≢false (ap (λ (x : PrintedPiece). x.full) e))
 printed_once run at (Some p) None e = absurd (true≢false (sym (ap (λ (x : PrintedPiece). x.full) e)))
 printed_once run at (Some p) (Some q) e =
-    ap₂ (λ (n : ℕ) (t : Turn). Some (record { at = n; turn = t })) (ap (λ (x : PrintedPiece). x.at) e) (ap (λ (x : PrintedPiece). x.turn) e)
+    ap₂ (λ (n : ℕ) (t : Result RowTurn Stopped). Some (record { at = n; turn = t })) (ap (λ (x : PrintedPiece). x.at) e)
+    (turn_once p.turn q.turn (ap (λ (x : PrintedPiece). x.turn) e))

@@ -3,3 +3,4 @@ pub mod Between
 pub mod Cases
 pub mod Steps
 pub mod Opened
+pub mod Once

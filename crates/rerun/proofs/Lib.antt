@@ -5,3 +5,4 @@ pub mod Turns
 pub mod Passing
 pub mod Stops
 pub mod Theorems
+pub mod Once

@@ -7,6 +7,7 @@
 ghost use Rattle.std.specs.Prelude.{◌≡◌};
 ghost use Rattle.recording.specs.Answer.{as_reading};
 ghost use Rattle.recording.specs.Answers.{first_row};
+ghost use Rattle.recording.specs.Reader.{reading};
 ghost use Rattle.recording.specs.Step.{as_step};
 ghost use Rattle.walk.specs.Started.{as_started};
 ghost use Rattle.walk.specs.Walks.{start_of, next_of, moved_on, nth_of};
@@ -39,7 +40,7 @@ fn first_place(answer: Result<Recording, Refused>) -> usize
 
 // Starts a walk at the first row. On bytes that the reader refuses, it gives the refusal and a walk at 0, which has ended.
 pub fn start<'a>(bytes: &'a [u8]) -> Started<'a>
-    ensures { as_started result ≡ start_of bytes.entry }
+    ensures { (as_started result ≡ start_of bytes.entry) × (as_reading result.answer ≡ reading bytes.now) }
 {
     let answer = recording::read(bytes);
     Started {

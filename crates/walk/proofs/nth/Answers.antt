@@ -23,7 +23,7 @@ one_more w v i e h = (
 )
 
 pub loop-i-init : goal.loop-i-init
-loop-i-init c = begun c.args.bytes c.start.result.walk (ap (λ (x : Started). x.walk) c.start.ensures)
+loop-i-init c = begun c.args.bytes c.start.result.walk (ap (λ (x : Started). x.walk) c.start.ensures.0)
 
 pub loop-i-preserved : goal.loop-i-preserved
 loop-i-preserved c =
