@@ -8,6 +8,7 @@ ghost use Rattle.settings.specs.Refusals.{or_else, room_number};
 ghost use Rattle.rerun.specs.Answer.{as_replayed};
 ghost use Rattle.numbers.specs.Numbers.{number_bytes, check_bytes, totals_bytes, numbers, fitted, crossing};
 
+use bits::BigEndian;
 use rerun::Counts;
 use settings::Refused;
 
@@ -24,7 +25,7 @@ pub fn put_numbers(out: &mut [u8], values: &[u64])
     ensures { out.new ≡ sets out.old 0 (numbers values.now) }
 {
     for (i, value) in values.iter().enumerate() {
-        bits::put64(out, NUMBER_BYTES * i, *value);
+        u64::put(out, NUMBER_BYTES * i, *value);
     }
 }
 

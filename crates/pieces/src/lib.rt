@@ -13,6 +13,7 @@ ghost use Rattle.layout.specs.declared.Kind.TheVariants.{Rows};
 ghost use Rattle.layout.specs.Sections.{width_of};
 ghost use Rattle.recording.specs.Encode.{opening, opening_length};
 
+use bits::BigEndian;
 use layout::Kind;
 use settings::{Effect, Row, Settings};
 
@@ -49,7 +50,7 @@ fn put_words(s: &mut [u8], at: usize, words: &[u16])
     ensures { s.new ≡ sets s.old at (flat_map (digits 2) words.now) }
 {
     for (i, word) in words.iter().enumerate() {
-        bits::put16(s, at + 2 * i, *word);
+        u16::put(s, at + 2 * i, *word);
     }
 }
 
@@ -58,7 +59,7 @@ pub fn put_row(s: &mut [u8], at: usize, row: Row)
     ensures { s.new ≡ sets s.old at (put_row row) }
 {
     let w = row.words;
-    bits::put32(s, at, row.hold);
+    u32::put(s, at, row.hold);
     let words = [
         w.values,
         w.bad,
@@ -78,8 +79,8 @@ fn put_effect(s: &mut [u8], at: usize, e: Effect)
     requires { at + 6 ≤ length s.old }
     ensures { s.new ≡ sets s.old at (put_effect e) }
 {
-    bits::put16(s, at, e.association);
-    bits::put32(s, at + 2, e.delay);
+    u16::put(s, at, e.association);
+    u32::put(s, at + 2, e.delay);
 }
 
 // Puts the first n effects at `at`. The contract also says that there are n of them, so that a caller need not show it.
@@ -100,11 +101,11 @@ fn put_block(s: &mut [u8], causes: u8, options: u8, period: u16, count: u16)
 {
     let b = layout::entries_of(0);
     let e = effects_section();
-    bits::put16(s, 0, 1);
-    bits::put8(s, b, causes);
-    bits::put8(s, b + 1, options);
-    bits::put16(s, b + 2, period);
-    bits::put16(s, e, count);
+    u16::put(s, 0, 1);
+    u8::put(s, b, causes);
+    u8::put(s, b + 1, options);
+    u16::put(s, b + 2, period);
+    u16::put(s, e, count);
 }
 
 // Puts the opening piece at the start of `s`. The contract also gives its length, so that a caller need not show it.
@@ -117,5 +118,5 @@ pub fn put_opening(s: &mut [u8], st: Settings, rows: u16)
     let effects = st.effects;
     put_block(s, st.causes, st.options, st.period, st.count as u16);
     put_effects(s, layout::entries_of(effects_section()), effects, n);
-    bits::put16(s, rows_section(n), rows);
+    u16::put(s, rows_section(n), rows);
 }

@@ -7,6 +7,7 @@ ghost use Rattle.std.proofs.lemmas.List.Edits.{sets};
 ghost use Rattle.reasons.specs.Reasons.{kind, mask, millis, thing, missing};
 ghost use Rattle.reason_bytes.specs.Bytes.{numbers_of};
 
+use bits::BigEndian;
 use reasons::{Missing, Reason};
 
 // The numbers of a reason: its kind, in document 02's order; the missing thing that it names, the causes, as a word, and the milliseconds
@@ -84,8 +85,8 @@ pub fn put_numbers(out: &mut [u8], at: usize, r: Reason)
         mask,
         millis,
     } = numbers_in(r);
-    bits::put8(out, at, kind);
-    bits::put8(out, at + 1, missing);
-    bits::put16(out, at + 2, mask);
-    bits::put32(out, at + 4, millis);
+    u8::put(out, at, kind);
+    u8::put(out, at + 1, missing);
+    u16::put(out, at + 2, mask);
+    u32::put(out, at + 4, millis);
 }

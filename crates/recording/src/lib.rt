@@ -14,6 +14,7 @@ ghost use Rattle.recording.specs.Step.{as_step};
 ghost use Rattle.recording.specs.Reader.{nothing_known, known_of_block, settings_at, reading};
 ghost use Rattle.recording.specs.Steps.{is_place, step_at};
 
+use bits::BigEndian;
 use layout::Kind;
 use settings::{Known, Refusal, Refused, Row, Settings};
 
@@ -53,7 +54,7 @@ fn read_section(kind: Kind, known: Known, s: &[u8], at: usize) -> Result<usize, 
     if s.len() - at < 2 {
         return Err(ended(s));
     }
-    let n = bits::get16(s, at);
+    let n = u16::get(s, at);
     if !layout::count_ok(kind, n) {
         return Err(Refused {
             refusal: layout::refusal_of(kind),
@@ -86,12 +87,12 @@ fn settings_at(s: &[u8], e: usize) -> Settings
     ensures { result ≡ settings_at s.now e }
 {
     let b = layout::entries_of(0);
-    let count = bits::get16(s, e);
+    let count = u16::get(s, e);
     let effects = layout::effects_at(s, e + 2, count as usize);
     Settings {
-        causes: bits::get8(s, b),
-        options: bits::get8(s, b + 1),
-        period: bits::get16(s, b + 2),
+        causes: u8::get(s, b),
+        options: u8::get(s, b + 1),
+        period: u16::get(s, b + 2),
         count: count as u8,
         effects: effects,
     }
@@ -104,9 +105,9 @@ fn known_of_block(s: &[u8]) -> Known
 {
     let b = layout::entries_of(0);
     Known {
-        causes: bits::get8(s, b),
+        causes: u8::get(s, b),
         count: 0,
-        options: bits::get8(s, b + 1),
+        options: u8::get(s, b + 1),
     }
 }
 
@@ -145,7 +146,7 @@ pub fn read(s: &[u8]) -> Result<Recording, Refused>
     }
     Ok(Recording {
         settings,
-        rows: bits::get16(s, r),
+        rows: u16::get(s, r),
         first: r + 2,
         width: layout::width_of(Kind::Rows),
     })

@@ -9,6 +9,7 @@ ghost use Rattle.settings.specs.Refusals.{or_else, number_in};
 ghost use Rattle.rerun.specs.Replay.{replay};
 ghost use Rattle.season_bytes.specs.Bytes.{report_length, report_of, report_bytes, into_number, season_into};
 
+use bits::BigEndian;
 use season::Report;
 use settings::Refusal;
 
@@ -26,7 +27,7 @@ pub fn report_at(bytes: &[u8]) -> Report
 {
     let mut sums = [0u64; SUM_COUNT];
     for (k, sum) in sums.iter_mut().enumerate() {
-        *sum = bits::get64(bytes, NUMBER_BYTES * k);
+        *sum = u64::get(bytes, NUMBER_BYTES * k);
     }
     Report { sums }
 }

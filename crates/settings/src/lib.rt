@@ -226,7 +226,7 @@ fn check_apart(w: Words) -> Result<(), Refusal>
 pub fn is_several(w: Words) -> bool
     ensures { result ≡ several w }
 {
-    1 < bits::count_bits(w.force_trip) + bits::count_bits(w.force_normal)
+    1 < w.force_trip.count_ones() + w.force_normal.count_ones()
 }
 
 fn check_several(known: Known, w: Words) -> Result<(), Refusal>
@@ -283,6 +283,10 @@ pub fn seen_of(options: u8, w: Words) -> Seen
 {
     Seen {
         tripped: !w.values & !w.mask,
-        bad: bits::pick16(bits::bit(options as u16, 0), w.bad & !w.mask, 0),
+        bad: if bits::bit(options as u16, 0) {
+            w.bad & !w.mask
+        } else {
+            0
+        },
     }
 }

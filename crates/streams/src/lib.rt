@@ -5,6 +5,7 @@
 
 ghost use Rattle.std.specs.Prelude.{◌≡◌, ◌≤◌, ◌<◌, ◌^◌, length, IfSome};
 
+use bits::BigEndian;
 use std::io;
 use std::io::{Read, Write};
 
@@ -66,7 +67,7 @@ pub fn next_sized<R: Read, W: Write>(
 {
     let mut head = [0u8; 4];
     next_case(input, output, &mut head)?;
-    let n = bits::get32(&head, 0) as usize;
+    let n = u32::get(&head, 0) as usize;
     whole(output, file.len(), n)?;
     read_body(input, output, &mut file[..n])?;
     Some(n)

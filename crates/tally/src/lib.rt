@@ -41,7 +41,7 @@ pub struct Count {
 fn is_tripped(p: EffectState) -> u64
     ensures { (result ≡ one (same_as p Tripped)) × (result ≤ 1) }
 {
-    if rules::same(p, EffectState::Tripped) {
+    if p == EffectState::Tripped {
         return 1;
     }
     0
@@ -68,8 +68,8 @@ impl Count {
     {
         let open = self.stretches[i];
         let state = open.state;
-        let stood = SUMS_OF_EFFECT * i + rules::code(state) as usize;
-        self.sums[stood] += bits::minus(scan, open.since) as u64;
+        let stood = SUMS_OF_EFFECT * i + u8::from(state) as usize;
+        self.sums[stood] += scan.saturating_sub(open.since) as u64;
     }
 
     // The stretches of the first n slots end with this scan.
@@ -89,7 +89,7 @@ impl Count {
     {
         let state = e.to;
         let i = (e.effect - 1) as usize;
-        let since = bits::minus(e.scan, 1);
+        let since = e.scan.saturating_sub(1);
         self.close(i, since);
         let trips = SUMS_OF_EFFECT * i + TRIP_PLACE;
         self.sums[trips] += is_tripped(state);

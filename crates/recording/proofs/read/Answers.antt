@@ -91,8 +91,8 @@ returns-then-end-s c =
     let g = sym (rows_are s _ (S.Next c.in-Ok-rows.end) c.in-Ok.e c.in-Ok-effects.r _ c.settings_at-settings.ensures c.known_of.ensures c.in-Ok-rows.ensures) in
     left_over s c.in-Ok.e c.in-Ok-effects.r c.in-Ok-rows.end (λ q. omega (arith, q, c.if-end-s.true)) ∙ sym (read-rows _ _ b _ f _ g)
 
-pub get16-requires : goal.get16-requires
-get16-requires c =
+pub get-requires : goal.get-requires
+get-requires c =
     let s = c.args.s.now in
     let g = sym (rows_are s _ (S.Next c.in-Ok-rows.end) c.in-Ok.e c.in-Ok-effects.r _ c.settings_at-settings.ensures c.known_of.ensures c.in-Ok-rows.ensures) in
     (section_next Rows _ s _ _ g).room

@@ -5,4 +5,3 @@ use Rattle.walk.proofs.nth.Given as goal
 
 abbrev pub invariant-loop-i : goal.invariant-loop-i
 invariant-loop-i l = (l.walk.bytes.now ≡ l.bytes) × (l.walk ≡ walked l.i (start_of l.walk.bytes).walk)
-
