@@ -2,7 +2,7 @@
 use mathlib.Core.Path.{◌≡◌, refl, sym, ap, ap₂, ◌∙◌}
 use mathlib.Core.List.{List, [], ◌∷◌, ◌++◌, append_assoc}
 use Prim.Native.Nat.{ℕ, zero, suc, ◌+◌, ◌*◌, ◌/◌, ◌%◌, ◌^◌, ◌≤◌, ◌<◌}
-use native.Mathlib.Nat.{add_assoc, add-zero, zero-add, one-mul, div-one, div-add-mod', div-div-eq-div-mul, mod-lt, add-suc, suc-add, add-mul, mul_assoc, pow-suc, mul_comm, mul_right_comm}
+use native.Mathlib.Nat.{add_assoc, add-zero, zero-add, one-mul, div-one, div-add-mod', div-div-eq-div-mul, div-lt_iff_lt-mul, mod-lt, add-suc, suc-add, add-mul, mul_assoc, pow-suc, mul_comm, mul_right_comm}
 use native.Mathlib.Numerals.{add-one}
 use native.Mathlib.Omega.{arith}
 use borrow.Rule.Slice.PartMut.{put_mid}
@@ -10,7 +10,9 @@ use lib.ListN.{length, get_or, take, drop, set, length-append}
 use lib.Seq.{sets, sets-eq, drop-cons, get_or_at, take-add, drop-drop}
 use lib.Pow.{pow-add}
 use lib.Arith.{digits_div, digits_mod, digits_lt, mod-mul}
-use Rattle.bits.specs.Numbers.{Bytes, num_at, low_at, lows, turned, digits}
+use Rattle.std.specs.Int.{w32, w64, to_be_bytes}
+use Rattle.std.proofs.lemmas.Nat.{be_bytes_4, be_bytes_8}
+use Rattle.bits.specs.Numbers.{Bytes, num_at, digits}
 use Rattle.bits.specs.Layout.{pack}
 
 -- as many numbers as the layout has, each within its width
@@ -118,70 +120,18 @@ num_parts (suc v) w s at =
     let next : at + 1 + v ≡ at + suc v = omega arith in
     rw (suc-add, num_parts v w s (at + 1), pow-add 256 v w, next, add-mul, mul_assoc, add_assoc)
 
--- a number that is read the lowest byte first, and then turned, is the number that is read the highest byte first
-pub turned_low : (w : ℕ) (s : List ℕ) (at : ℕ) → Bytes s → turned w (low_at w s at) ≡ num_at w s at
-turned_low zero s at b = refl
-turned_low (suc w) s at b =
-    let first : low_at (suc w) s at % 256 ≡ get_or s at 0 = omega (arith, b at) in
-    let rest : low_at (suc w) s at / 256 ≡ low_at w s (at + 1) = omega (arith, b at) in
-    rw (first, rest, turned_low w s (at + 1) b)
+-- each digit is a byte
+digits_bytes : (w v : ℕ) → v < 256 ^ w → Bytes (digits w v)
+digits_bytes zero v h i = omega arith
+digits_bytes (suc w) v h zero = (div-lt_iff_lt-mul (pow_pos w)).1 (rw (pow-suc 256 w, mul_comm (256 ^ w) 256) at h)
+digits_bytes (suc w) v h (suc i) = digits_bytes w (v % 256 ^ w) (mod-lt v (pow_pos w)) i
 
-low_lt : (w : ℕ) (s : List ℕ) (at : ℕ) → Bytes s → low_at w s at < 256 ^ w
-low_lt zero s at b = omega arith
-low_lt (suc w) s at b = rw (pow-suc 256 w) (omega (arith, b at, low_lt w s (at + 1) b))
+-- the bytes that std gives of a number of 32 bits, and of 64
+pub be_four : (v : ℕ) → v < 2 ^ 32 → to_be_bytes w32 v ≡ digits 4 v
+be_four v h = be_bytes_4 (digits 4 v) v refl (digits_bytes 4 v (omega arith)) (omega arith)
 
-halves : (l h x : ℕ) → l < 2 ^ 32 → x ≡ l + h * 2 ^ 32 → (x % 2 ^ 32 ≡ l) × (x / 2 ^ 32 ≡ h)
-halves l h x lt e = (omega arith, omega arith)
-
--- eight bytes that are read by halves, the lowest first, each half turned and the halves exchanged, are read the highest first
-pub turned_halves : (s : List ℕ) (at : ℕ) → Bytes s → (x r : ℕ) → x ≡ low_at 4 s at + low_at 4 s (at + 4) * 2 ^ 32
-    → r ≡ turned 4 (x % 2 ^ 32) * 2 ^ 32 + turned 4 (x / 2 ^ 32) → r ≡ num_at 8 s at
-turned_halves s at b x r e f =
-    let h = halves (low_at 4 s at) (low_at 4 s (at + 4)) x (low_lt 4 s at b) e in
-    f ∙ ap₂ (λ (l m : ℕ). turned 4 l * 2 ^ 32 + turned 4 m) h.0 h.1
-    ∙ ap₂ (λ (l m : ℕ). l * 2 ^ 32 + m) (turned_low 4 s at b) (turned_low 4 s (at + 4) b)
-    ∙ sym (num_parts 4 4 s at)
-
--- a number that is turned, and then written the lowest byte first, is the number that is written the highest byte first
-turned_lt : (w v : ℕ) → turned w v < 256 ^ w
-turned_lt zero v = omega arith
-turned_lt (suc w) v = rw (pow-suc 256 w, mul_comm (256 ^ w) 256) (digits_lt (mod-lt v (omega arith)) (turned_lt w (v / 256)))
-
-lows_last : (w d r : ℕ) → r < 256 ^ w → d < 256 → lows (suc w) (d * 256 ^ w + r) ≡ lows w r ++ (d ∷ [])
-lows_last zero d r lt b = ap (λ (x : ℕ). x ∷ []) (omega (arith, lt, b))
-lows_last (suc w) d r lt b =
-    let m = d * 256 ^ w in
-    let e : d * 256 ^ suc w + r ≡ m * 256 + r = rw (pow-suc 256 w, mul_assoc) in
-    let first : (d * 256 ^ suc w + r) % 256 ≡ r % 256 = rw e (omega arith) in
-    let rest : (d * 256 ^ suc w + r) / 256 ≡ m + r / 256 = rw e (omega arith) in
-    let below : r / 256 < 256 ^ w = omega (arith, lt, pow-suc 256 w) in
-    ap₂ (λ (x : ℕ) (l : List ℕ). x ∷ l) first (ap (lows (suc w)) rest ∙ lows_last w d (r / 256) below b)
-
-digits_last : (w v : ℕ) → v < 256 ^ suc w → digits (suc w) v ≡ digits w (v / 256) ++ (v % 256 ∷ [])
-digits_last zero v lt = ap (λ (x : ℕ). x ∷ []) (omega (arith, lt))
-digits_last (suc w) v lt = ap (λ (n : ℕ). digits (suc n) v) (sym (add-one w)) ∙ digits_parts w 1 v ∙ rw div-one
-
-pub lows_turned : (w v : ℕ) → v < 256 ^ w → lows w (turned w v) ≡ digits w v
-lows_turned zero v lt = refl
-lows_turned (suc w) v lt =
-    let below : v / 256 < 256 ^ w = omega (arith, lt, pow-suc 256 w) in
-    lows_last w (v % 256) (turned w (v / 256)) (turned_lt w (v / 256)) (mod-lt v (omega arith))
-    ∙ ap (λ (l : List ℕ). l ++ (v % 256 ∷ [])) (lows_turned w (v / 256) below)
-    ∙ sym (digits_last w v lt)
-
-half_lt : (v : ℕ) → v < 256 ^ 8 → v / 2 ^ 32 < 256 ^ 4
-half_lt v lt = omega (arith, lt)
-
--- the same of eight bytes that are turned by halves, as `turned_halves` has it
-pub lows_halves : (v t : ℕ) → v < 256 ^ 8 → t ≡ turned 4 (v % 2 ^ 32) * 2 ^ 32 + turned 4 (v / 2 ^ 32)
-    → lows 4 (t % 2 ^ 32) ++ lows 4 (t / 2 ^ 32) ≡ digits 8 v
-lows_halves v t lt e =
-    let upper = v / 2 ^ 32 in
-    let lower = v % 2 ^ 32 in
-    let h = halves (turned 4 upper) (turned 4 lower) t (turned_lt 4 upper) (omega (arith, e)) in
-    ap₂ (λ (x y : ℕ). lows 4 x ++ lows 4 y) h.0 h.1
-    ∙ ap₂ (λ (x y : List ℕ). x ++ y) (lows_turned 4 upper (half_lt v lt)) (lows_turned 4 lower (omega arith))
-    ∙ sym (digits_parts 3 4 v)
+pub be_eight : (v : ℕ) → v < 2 ^ 64 → to_be_bytes w64 v ≡ digits 8 v
+be_eight v h = be_bytes_8 (digits 8 v) v refl (digits_bytes 8 v (omega arith)) (omega arith)
 
 -- the bytes of a number that is put together from two are those of the one and then those of the other
 pub digits_joined : (a b q r : ℕ) → r < 256 ^ b → digits (suc (a + b)) (q * 256 ^ b + r) ≡ digits (suc a) q ++ digits b r

@@ -21,6 +21,11 @@ word_of_lt t (suc n) = go (t n) (word_of_lt t n)
     go true h = omega arith
     go false h = omega arith
 
+-- a bit that is put in above the others
+pub more_lt : (w n : ℕ) (b : Bool) → w < 2 ^ n → w + cond b (2 ^ n) 0 < 2 ^ (n + 1)
+more_lt w n true h = rw add-one (omega arith)
+more_lt w n false h = rw add-one (omega arith)
+
 pub word_of_more : (t : ℕ → Bool) (n : ℕ) → word_of t (n + 1) ≡ word_of t n + cond (t n) (2 ^ n) 0
 unfolding word_of
 word_of_more t n = rw add-one

@@ -15,17 +15,3 @@ num_at (suc w) s at = get_or s at 0 * 256 ^ w + num_at w s (at + 1)
 abbrev pub digits : ℕ → ℕ → List ℕ
 digits zero v = []
 digits (suc w) v = v / 256 ^ w ∷ digits w (v % 256 ^ w)
-
--- the number that the w bytes from `at` spell, the lowest first; the w bytes of v, the lowest first; and the number of the w bytes of v in
--- the other order. No entry point's contract cites these three
-abbrev pub low_at : ℕ → List ℕ → ℕ → ℕ
-low_at zero s at = 0
-low_at (suc w) s at = get_or s at 0 + 256 * low_at w s (at + 1)
-
-abbrev pub lows : ℕ → ℕ → List ℕ
-lows zero v = []
-lows (suc w) v = v % 256 ∷ lows w (v / 256)
-
-abbrev pub turned : ℕ → ℕ → ℕ
-turned zero v = 0
-turned (suc w) v = v % 256 * 256 ^ w + turned w (v / 256)

@@ -4,11 +4,11 @@
 // proofs/ are cited by name.
 #![tactic(auto)]
 
-ghost use Rattle.std.specs.Prelude.{◌≡◌, cond, ◌+◌, ◌-◌, ◌*◌, ◌/◌, ◌%◌, ◌^◌, ◌≤◌, ◌<◌, ltb, length, take, drop, ◌++◌};
-ghost use Rattle.std.specs.Int.Count.{ones};
+ghost use Rattle.std.specs.Prelude.{◌≡◌, ℕ, Bool, cond, ◌+◌, ◌-◌, ◌*◌, ◌/◌, ◌%◌, ◌^◌, ◌≤◌, ◌<◌, ltb, length, take, drop, ◌++◌};
+ghost use Rattle.std.specs.Iterator.{at_most};
 ghost use Rattle.std.proofs.lemmas.List.Edits.{sets};
-ghost use Rattle.bits.specs.Words.{bit_of};
-ghost use Rattle.bits.specs.Numbers.{num_at, low_at, lows, turned, digits};
+ghost use Rattle.bits.specs.Words.{bit_of, word_of, LowestOf};
+ghost use Rattle.bits.specs.Numbers.{num_at, digits};
 ghost use Rattle.bits.specs.Decimal.{decimal};
 
 // ---- words of bits
@@ -40,170 +40,124 @@ pub fn within(word: u16, n: u8) -> bool
     }
 }
 
-// How many bits of the word are set. The bound is in the contract, so that a caller need not show it.
-pub fn count_bits(word: u16) -> u32
-    ensures { (result ≡ ones word) × (result ≤ 16) }
+// The word of the indices below `count` at which the test answers yes.
+pub fn word_where<F: Fn(usize) -> bool>(count: usize, test: F) -> u16
+    requires few { count ≤ 16 }
+    requires askable { (i : ℕ) → i < count → F.pre test i }
+    ensures { (t : ℕ → Bool) → ((i : ℕ) (b : Bool) → i < count → F.post test i b → b ≡ t i) → result ≡ word_of t count }
 {
-    u16::count_ones(word)
+    let mut word: u16 = 0;
+    for i in 0..count {
+        word = put_bit(word, i, test(i));
+    }
+    word
 }
 
-// ---- choices and differences
+// The set bits of a word by their numbers, the lowest first.
+#[derive(Drop)]
+pub struct Ones(pub u16);
 
-// The first if the test holds, else the second.
-pub fn pick16(b: bool, x: u16, y: u16) -> u16
-    ensures { result ≡ cond b x y }
-{
-    if b { x } else { y }
-}
+impl Iterator for Ones {
+    type Item = usize;
 
-// The first if the test holds, else the second, of 32 bits.
-pub fn pick32(b: bool, x: u32, y: u32) -> u32
-    ensures { result ≡ cond b x y }
-{
-    if b { x } else { y }
-}
+    ghost next_gives = { λ s r t. LowestOf s.0 r t.0 };
 
-// a - b, or 0 where b is above a.
-pub fn minus(a: u32, b: u32) -> u32
-    ensures { result ≡ a - b }
-{
-    if b < a { a - b } else { 0 }
+    ghost remaining = { λ s. at_most s.0 };
+
+    fn next(&mut self) -> Option<usize> {
+        let word = self.0;
+        if word == 0 {
+            return None;
+        }
+        self.0 = word & (word - 1);
+        Some(word.trailing_zeros() as usize)
+    }
 }
 
 // ---- big-endian numbers in a slice
 
-// A byte as 16 bits. The bound is in the contract, so that a caller need not show it.
-fn wide(x: u8) -> u16
-    ensures { (result ≡ x) × (result < 256) }
-{
-    x as u16
+// A number of so many bytes, the highest first: `u16::get(s, at)` reads two bytes, and `u16::put(s, at, v)` writes two. The compiler makes one
+// load or store of each.
+pub trait BigEndian: Sized {
+    // How many bytes it has, and which number it is.
+    ghost width: { ℕ };
+
+    ghost value: { Self → ℕ };
+
+    // The number at `at`.
+    fn get(s: &[u8], at: usize) -> Self
+        requires { at + width ≤ length s.now }
+        ensures { value result ≡ num_at width s.now at };
+
+    // Writes the bytes of `v` at `at`; all else stays.
+    fn put(s: &mut [u8], at: usize, v: Self)
+        requires { at + width ≤ length s.old }
+        ensures { s.new ≡ sets s.old at (digits width (value v)) };
 }
 
-// A byte as 32 bits. The bound is in the contract, so that a caller need not show it.
-fn wide32(x: u8) -> u32
-    ensures { (result ≡ x) × (result < 256) }
-{
-    x as u32
+impl BigEndian for u8 {
+    ghost width = { 1 };
+
+    ghost value = { λ x. x };
+
+    fn get(s: &[u8], at: usize) -> u8 {
+        s[at]
+    }
+
+    fn put(s: &mut [u8], at: usize, v: u8) {
+        s[at] = v;
+    }
 }
 
-// The byte at `at`.
-pub fn get8(s: &[u8], at: usize) -> u8
-    requires { at + 1 ≤ length s.now }
-    ensures { result ≡ num_at 1 s.now at }
-{
-    s[at]
+impl BigEndian for u16 {
+    ghost width = { 2 };
+
+    ghost value = { λ x. x };
+
+    fn get(s: &[u8], at: usize) -> u16 {
+        u16::from_be_bytes([s[at], s[at + 1]])
+    }
+
+    fn put(s: &mut [u8], at: usize, v: u16) {
+        s[at..at + 2].copy_from_slice(&v.to_be_bytes());
+    }
 }
 
-// The 16 bits at `at`.
-pub fn get16(s: &[u8], at: usize) -> u16
-    requires { at + 2 ≤ length s.now }
-    ensures { result ≡ num_at 2 s.now at }
-{
-    wide(s[at]) * 256 + wide(s[at + 1])
+impl BigEndian for u32 {
+    ghost width = { 4 };
+
+    ghost value = { λ x. x };
+
+    fn get(s: &[u8], at: usize) -> u32 {
+        u32::from_be_bytes([s[at], s[at + 1], s[at + 2], s[at + 3]])
+    }
+
+    fn put(s: &mut [u8], at: usize, v: u32) {
+        s[at..at + 4].copy_from_slice(&v.to_be_bytes());
+    }
 }
 
-// The 32 bits at `at`.
-pub fn get32(s: &[u8], at: usize) -> u32
-    requires { at + 4 ≤ length s.now }
-    ensures { result ≡ num_at 4 s.now at }
-{
-    (get16(s, at) as u32) * 65536 + (get16(s, at + 2) as u32)
-}
+impl BigEndian for u64 {
+    ghost width = { 8 };
 
-// The four bytes at `at` as a number, the lowest first.
-fn low32(s: &[u8], at: usize) -> u32
-    requires { at + 4 ≤ length s.now }
-    ensures { result ≡ low_at 4 s.now at }
-{
-    wide32(s[at])
-        + wide32(s[at + 1]) * 256
-        + wide32(s[at + 2]) * 65536
-        + wide32(s[at + 3]) * 16777216
-}
+    ghost value = { λ x. x };
 
-// The eight bytes at `at`, the lowest first.
-fn low64(s: &[u8], at: usize) -> u64
-    requires { at + 8 ≤ length s.now }
-    ensures { result ≡ low_at 4 s.now at + low_at 4 s.now (at + 4) * 2 ^ 32 }
-{
-    (low32(s, at) as u64) + (low32(s, at + 4) as u64) * 4294967296
-}
+    fn get(s: &[u8], at: usize) -> u64 {
+        u64::from_be_bytes([
+            s[at],
+            s[at + 1],
+            s[at + 2],
+            s[at + 3],
+            s[at + 4],
+            s[at + 5],
+            s[at + 6],
+            s[at + 7],
+        ])
+    }
 
-// The four bytes of a number in the other order.
-fn turned32(x: u32) -> u32
-    ensures { result ≡ turned 4 x }
-{
-    x % 256 * 16777216 + x / 256 % 256 * 65536 + x / 65536 % 256 * 256 + x / 16777216
-}
-
-// The eight bytes of a number in the other order: the bytes of each half are turned, and the halves are exchanged.
-fn turned64(x: u64) -> u64
-    ensures { result ≡ turned 4 (x % 2 ^ 32) * 2 ^ 32 + turned 4 (x / 2 ^ 32) }
-{
-    (turned32((x % 4294967296) as u32) as u64) * 4294967296
-        + (turned32((x / 4294967296) as u32) as u64)
-}
-
-// The 64 bits at `at`. The bytes are read the lowest first and then turned: the compiler makes one load of that.
-pub fn get64(s: &[u8], at: usize) -> u64
-    requires { at + 8 ≤ length s.now }
-    ensures { result ≡ num_at 8 s.now at }
-{
-    turned64(low64(s, at))
-}
-
-// Writes the byte `v` at `at`; all else stays.
-pub fn put8(s: &mut [u8], at: usize, v: u8)
-    requires { at + 1 ≤ length s.old }
-    ensures { s.new ≡ sets s.old at (digits 1 v) }
-{
-    s[at] = v;
-}
-
-// Writes the two bytes of `v` at `at`; all else stays.
-pub fn put16(s: &mut [u8], at: usize, v: u16)
-    requires { at + 2 ≤ length s.old }
-    ensures { s.new ≡ sets s.old at (digits 2 v) }
-{
-    s[at] = (v / 256) as u8;
-    s[at + 1] = (v % 256) as u8;
-}
-
-// Writes the four bytes of `v` at `at`, the lowest first; all else stays.
-fn put_low32(s: &mut [u8], at: usize, v: u32)
-    requires { at + 4 ≤ length s.old }
-    ensures { s.new ≡ sets s.old at (lows 4 v) }
-{
-    s[at] = (v % 256) as u8;
-    s[at + 1] = (v / 256 % 256) as u8;
-    s[at + 2] = (v / 65536 % 256) as u8;
-    s[at + 3] = (v / 16777216) as u8;
-}
-
-// Writes the four bytes of `v` at `at`; all else stays. The number is turned and then written the lowest byte first: the compiler makes one
-// store of that, also where `v` is put together from several fields.
-pub fn put32(s: &mut [u8], at: usize, v: u32)
-    requires { at + 4 ≤ length s.old }
-    ensures { s.new ≡ sets s.old at (digits 4 v) }
-{
-    put_low32(s, at, turned32(v));
-}
-
-// Writes the eight bytes of `v` at `at`, the lowest first; all else stays.
-fn put_low64(s: &mut [u8], at: usize, v: u64)
-    requires { at + 8 ≤ length s.old }
-    ensures { s.new ≡ sets s.old at (lows 4 (v % 2 ^ 32) ++ lows 4 (v / 2 ^ 32)) }
-{
-    put_low32(s, at, (v % 4294967296) as u32);
-    put_low32(s, at + 4, (v / 4294967296) as u32);
-}
-
-// Writes the eight bytes of `v` at `at`, in one store as `put32` does; all else stays.
-pub fn put64(s: &mut [u8], at: usize, v: u64)
-    requires { at + 8 ≤ length s.old }
-    ensures { s.new ≡ sets s.old at (digits 8 v) }
-{
-    put_low64(s, at, turned64(v));
+    fn put(s: &mut [u8], at: usize, v: u64) {
+        s[at..at + 8].copy_from_slice(&v.to_be_bytes());
+    }
 }
 
 // Copies the first n bytes of `src` to the front of `out`; what stands past them stays.

@@ -14,6 +14,7 @@ ghost use Rattle.rules.specs.Rules.{most_code};
 ghost use Rattle.cases.specs.Given.{settings_at, code_at, SlotAt, SlotsAt, StateAt, fill_at};
 ghost use Rattle.cases.specs.Answers.{slot_bytes, state_bytes, answer_bytes, hex_digit, hex_byte, pair_bytes, line_bytes};
 
+use bits::BigEndian;
 use block::{Scanned, State};
 use rules::{EffectState, Slot};
 use settings::Settings;
@@ -28,10 +29,10 @@ pub fn settings_at(s: &[u8], at: usize) -> Settings
 {
     let effects = layout::effects_at(s, at + 5, 16);
     Settings {
-        causes: bits::get8(s, at),
-        options: bits::get8(s, at + 1),
-        period: bits::get16(s, at + 2),
-        count: bits::get8(s, at + 4),
+        causes: u8::get(s, at),
+        options: u8::get(s, at + 1),
+        period: u16::get(s, at + 2),
+        count: u8::get(s, at + 4),
         effects: effects,
     }
 }
@@ -46,7 +47,7 @@ fn code_at(s: &[u8], at: usize) -> u8
     requires { at + 1 ≤ length s.now }
     ensures { (result ≡ code_at s.now at) × (result ≤ most_code) }
 {
-    let code = bits::get8(s, at);
+    let code = u8::get(s, at);
     if code < MOST_CODE { code } else { MOST_CODE }
 }
 
@@ -56,9 +57,9 @@ fn slot_at(s: &[u8], at: usize, i: usize) -> Slot
     ensures { SlotAt s.now at i result }
 {
     Slot {
-        state: rules::state_of(code_at(s, at + 7 * i)),
-        timer: bits::get32(s, at + 7 * i + 1),
-        first_out: bits::get16(s, at + 7 * i + 5),
+        state: EffectState::of_code(code_at(s, at + 7 * i)),
+        timer: u32::get(s, at + 7 * i + 1),
+        first_out: u16::get(s, at + 7 * i + 5),
     }
 }
 
@@ -87,8 +88,8 @@ pub fn state_at(s: &[u8], at: usize) -> State
 {
     let slots = slots_at(s, at + 6);
     State {
-        scans_done: bits::get32(s, at),
-        next: bits::get16(s, at + 4),
+        scans_done: u32::get(s, at),
+        next: u16::get(s, at + 4),
         slots: slots,
     }
 }
@@ -100,7 +101,7 @@ pub fn room_at(s: &[u8], at: usize, most: usize) -> usize
     requires { at + 2 ≤ length s.now }
     ensures { (result ≡ min (num_at 2 s.now at) most) × (result ≤ most) }
 {
-    let room = bits::get16(s, at) as usize;
+    let room = u16::get(s, at) as usize;
     if room < most { room } else { most }
 }
 
@@ -128,9 +129,9 @@ fn put_slot(out: &mut [u8], at: usize, x: Slot)
     ensures { out.new ≡ sets out.old at (slot_bytes x) }
 {
     let p = x.state;
-    bits::put8(out, at, rules::code(p));
-    bits::put32(out, at + 1, x.timer);
-    bits::put16(out, at + 5, x.first_out);
+    u8::put(out, at, u8::from(p));
+    u32::put(out, at + 1, x.timer);
+    u16::put(out, at + 5, x.first_out);
 }
 
 // Puts the slots. The contract also gives the number of their bytes, as that of put_state does, so that a caller need not show it.
@@ -153,8 +154,8 @@ fn put_state(out: &mut [u8], at: usize, x: State)
     ensures x_len { length (state_bytes x) ≡ 118 }
 {
     let slots = x.slots;
-    bits::put32(out, at, x.scans_done);
-    bits::put16(out, at + 4, x.next);
+    u32::put(out, at, x.scans_done);
+    u16::put(out, at + 4, x.next);
     put_slots(out, at + 6, slots);
 }
 
@@ -163,17 +164,17 @@ pub fn put_refusal(out: &mut [u8], number: u8, place: usize)
     requires { 5 ≤ length out.old }
     ensures { out.new ≡ sets out.old 0 (pack (1 ∷ 4 ∷ []) (number ∷ place % 4294967296 ∷ [])) }
 {
-    bits::put8(out, 0, number);
-    bits::put32(out, 1, (place % 4294967296) as u32);
+    u8::put(out, 0, number);
+    u32::put(out, 1, (place % 4294967296) as u32);
 }
 
 fn put_words(out: &mut [u8], effect: u16, latent: u16, records: usize)
     requires { 129 ≤ length out.old }
     ensures { out.new ≡ sets out.old 123 (pack (2 ∷ 2 ∷ 2 ∷ []) (effect ∷ latent ∷ records % 65536 ∷ [])) }
 {
-    bits::put16(out, 123, effect);
-    bits::put16(out, 125, latent);
-    bits::put16(out, 127, (records % 65536) as u16);
+    u16::put(out, 123, effect);
+    u16::put(out, 125, latent);
+    u16::put(out, 127, (records % 65536) as u16);
 }
 
 // Puts the 129 bytes that answer a scan at the front of `out`.
@@ -225,7 +226,7 @@ fn put_pair(a: &[u8], b: &[u8], out: &mut [u8], at: usize) -> usize
 {
     let gap = at + 2 * a.len();
     put_hex(a, out, at);
-    bits::put8(out, gap, b' ');
+    u8::put(out, gap, b' ');
     put_hex(b, out, gap + 1);
     gap + 1 + 2 * b.len()
 }
@@ -237,7 +238,7 @@ fn put_line(a: &[u8], b: &[u8], last: u8, out: &mut [u8]) -> usize
     ensures out_after { out.new ≡ sets out.old 0 (line_bytes a.now b.now last) }
 {
     let n = put_pair(a, b, out, 0);
-    bits::put8(out, n, last);
+    u8::put(out, n, last);
     n + 1
 }
 

@@ -14,10 +14,14 @@ ghost use Rattle.boards.specs.Table.{watches, due_in, Still, low_to};
 ghost use Rattle.cells.specs.Array.{associations_in, timers_in};
 ghost use Rattle.cells.specs.Changed.{fallen, settled_at};
 
-pub use slots::{load, slots_of};
+use bits::Ones;
+pub use slots::{fill, load, slots_of};
 
 // What stays the same from row to row: the number of effects, the scan period, the options, and words of effects and causes: all
 // effects, those with a delay, and the causes that any effect watches.
+// That there are at most sixteen effects is asked by each function and is no fact of this type, since `plan_of` (plans/specs) makes a plan of any
+// settings, also of those with more. The lent array stands beside the plan and not in one struct with it: a plan stays while the array changes, so
+// that a contract which says what the array becomes need not say that the plan stays.
 #[derive(Clone, Copy)]
 pub struct Plan {
     pub count: usize,
@@ -28,20 +32,14 @@ pub struct Plan {
     pub watched: u16,
 }
 
-// Where the parts of the lent array begin; the associations stand first.
+// Where the parts of the lent array begin. They share one array of fixed length, since two parts cannot be lent at once and no heap is used.
+pub const ASSOCIATIONS: usize = 0;
+
 pub const DELAYS: usize = 16;
 
 pub const TIMERS: usize = 32;
 
 pub const FIRST_OUTS: usize = 48;
-
-// The lowest set bit of a word that is not 0.
-pub fn lowest(w: u16) -> usize
-    requires { 0 < w }
-    ensures { (result ≡ count_trailing_zeros 16 w) × (result < 16) }
-{
-    u16::trailing_zeros(w) as usize
-}
 
 // ---- words of effects
 
@@ -54,13 +52,7 @@ pub fn watching(count: usize, board: &[u32; 64], causes: u16) -> u16
     if causes == 0 {
         return 0;
     }
-    let mut word: u16 = 0;
-    let mut i: usize = 0;
-    while i < count {
-        word = bits::put_bit(word, i, 0 < board[i] & causes as u32);
-        i += 1;
-    }
-    word
+    bits::word_where(count, |i| 0 < board[i] & causes as u32)
 }
 
 // The effects in Delayed whose timer is at most the period. Nothing asks this of the other effects.
@@ -69,11 +61,8 @@ fn due_of(board: &[u32; 64], plan: Plan, delayed: u16) -> u16
     ensures { result ≡ word_of (due_in (timers_in board.now) plan.period delayed) plan.count }
 {
     let mut word: u16 = 0;
-    let mut rest = delayed;
-    while 0 < rest {
-        let i = lowest(rest);
+    for i in Ones(delayed) {
         word = bits::put_bit(word, i, board[TIMERS + i] <= plan.period);
-        rest &= rest - 1;
     }
     word
 }
@@ -99,13 +88,10 @@ pub fn tick(board: &mut [u32; 64], plan: Plan, delayed: u16) -> u16
     ensures board_after { board.new ≡ fallen plan.count plan.period board.old }
 {
     let mut word: u16 = 0;
-    let mut rest = delayed;
-    while 0 < rest {
-        let i = lowest(rest);
+    for i in Ones(delayed) {
         let t = board[TIMERS + i];
         word = bits::put_bit(word, i, t <= plan.period);
-        board[TIMERS + i] = bits::minus(t, plan.period);
-        rest &= rest - 1;
+        board[TIMERS + i] = t.saturating_sub(plan.period);
     }
     word
 }
@@ -119,33 +105,26 @@ pub fn settle(board: &mut [u32; 64], i: usize, causes: u16, was: u16, is: u16, d
     let c = board[i];
     let d = board[DELAYS + i];
     let f = board[FIRST_OUTS + i];
-    board[TIMERS + i] = bits::pick32(bits::bit(delayed, i), d, 0);
-    board[FIRST_OUTS + i] = bits::pick32(
-        bits::bit(is, i),
-        0,
-        bits::pick32(bits::bit(was, i), c & causes as u32, f),
-    );
+    board[TIMERS + i] = if bits::bit(delayed, i) { d } else { 0 };
+    board[FIRST_OUTS + i] = if bits::bit(is, i) {
+        0
+    } else if bits::bit(was, i) {
+        c & causes as u32
+    } else {
+        f
+    };
 }
 
 // ---- timers later
-
-pub fn least(a: u32, b: u32) -> u32
-    ensures { result ≡ min a b }
-{
-    if a < b { a } else { b }
-}
 
 // The least timer of the effects in Delayed.
 pub fn low_timer(board: &[u32; 64], count: usize, delayed: u16) -> u32
     requires { (count ≤ 16) × (delayed < 2 ^ count) }
     ensures { result ≡ low_to (bit_of delayed) (λ i. get_or (timers_in board.now) i 0) count }
 {
-    let mut low: u32 = 4294967295;
-    let mut rest = delayed;
-    while 0 < rest {
-        let i = lowest(rest);
-        low = least(low, board[TIMERS + i]);
-        rest &= rest - 1;
+    let mut low = u32::MAX;
+    for i in Ones(delayed) {
+        low = low.min(board[TIMERS + i]);
     }
     low
 }
@@ -159,11 +138,8 @@ pub fn timers_later(k: u32, board: &mut [u32; 64], plan: Plan, delayed: u16)
         return;
     }
     let by = k * plan.period;
-    let mut rest = delayed;
-    while 0 < rest {
-        let i = lowest(rest);
+    for i in Ones(delayed) {
         let t = board[TIMERS + i];
-        board[TIMERS + i] = bits::minus(t, by);
-        rest &= rest - 1;
+        board[TIMERS + i] = t.saturating_sub(by);
     }
 }

@@ -6,18 +6,18 @@ use Prim.Native.Nat.{ℕ}
 use contract.Lifetimes.{Lfts}
 use Rattle.bits.proofs.bit.Reads as bits·bit
 use Rattle.bits.proofs.put_bit.Reads as bits·put-bit
-use Rattle.bits.proofs.get8.Reads as bits·get8
-use Rattle.bits.proofs.get16.Reads as bits·get16
-use Rattle.bits.proofs.get32.Reads as bits·get32
-use Rattle.bits.proofs.get64.Reads as bits·get64
-use Rattle.bits.proofs.put8.Reads as bits·put8
-use Rattle.bits.proofs.put16.Reads as bits·put16
-use Rattle.bits.proofs.put32.Reads as bits·put32
-use Rattle.bits.proofs.put64.Reads as bits·put64
+use Rattle.bits.proofs.U8BigEndian.get.Reads as bits·get8
+use Rattle.bits.proofs.U16BigEndian.get.Reads as bits·get16
+use Rattle.bits.proofs.U32BigEndian.get.Reads as bits·get32
+use Rattle.bits.proofs.U64BigEndian.get.Reads as bits·get64
+use Rattle.bits.proofs.U8BigEndian.put.Reads as bits·put8
+use Rattle.bits.proofs.U16BigEndian.put.Reads as bits·put16
+use Rattle.bits.proofs.U32BigEndian.put.Reads as bits·put32
+use Rattle.bits.proofs.U64BigEndian.put.Reads as bits·put64
 use Rattle.bits.proofs.copy_front.Reads as bits·copy-front
 use Rattle.bits.proofs.put_text.Reads as bits·put-text
 use Rattle.bits.proofs.put_decimal.Reads as bits·put-decimal
-use Rattle.rules.proofs.state_of.Reads as rules·state-of
+use Rattle.rules.proofs.EffectState.of_code.Reads as rules·of-code
 use Rattle.rules.proofs.States.{code_injective}
 use Rattle.effects.proofs.Records.{one_event}
 use Rattle.effects.proofs.event_at.Reads as effects·event-at
@@ -40,8 +40,6 @@ use Rattle.planes.proofs.changed.Reads as planes·changed
 use Rattle.planes.proofs.code_at.Reads as planes·code-at
 use Rattle.planes.proofs.planes_of.Reads as planes·planes-of
 use Rattle.planes.proofs.slot_of.Reads as planes·slot-of
-use Rattle.cells.proofs.lowest.Reads as cells·lowest
-use Rattle.cells.proofs.least.Reads as cells·least
 use Rattle.cells.proofs.due_by.Reads as cells·due-by
 use Rattle.cells.proofs.low_timer.Reads as cells·low-timer
 use Rattle.cells.proofs.tick.Reads as cells·tick
@@ -168,8 +166,8 @@ bits_put_decimal κs = by_equations (bits·put-decimal.Learnt κs) (λ e. e.0.no
 
 -- ## Event records (`effects`)
 
-pub rules_state_of : (κs : Lfts 0) → Unique (rules·state-of.Learnt κs) none
-rules_state_of κs = λ a r q e f h k. (code_injective r q (h ∙ sym k), refl)
+pub rules_of_code : (κs : Lfts 0) → Unique (rules·of-code.Learnt κs) none
+rules_of_code κs = λ a r q e f h k. (code_injective r q (h ∙ sym k), refl)
 
 pub effects_event_at : (κs : Lfts 1) → Unique (effects·event-at.Learnt κs) none
 effects_event_at κs = λ a r q e f h k. (one_event a.0.now a.1.0 r q h k, refl)
@@ -240,12 +238,6 @@ pub planes_slot_of : (κs : Lfts 0) → Unique (planes·slot-of.Learnt κs) none
 planes_slot_of κs = by_equation (planes·slot-of.Learnt κs) _ (λ a r e h. h)
 
 -- ## A stroke, and its array (`engine`)
-
-pub cells_lowest : (κs : Lfts 0) → Unique (cells·lowest.Learnt κs) none
-cells_lowest κs = by_equation (cells·lowest.Learnt κs) _ (λ a r e h. h.0)
-
-pub cells_least : (κs : Lfts 0) → Unique (cells·least.Learnt κs) none
-cells_least κs = by_equation (cells·least.Learnt κs) _ (λ a r e h. h)
 
 pub cells_due_by : (κs : Lfts 1) → Unique (cells·due-by.Learnt κs) none
 cells_due_by κs = by_equation (cells·due-by.Learnt κs) _ (λ a r e h. h)

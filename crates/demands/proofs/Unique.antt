@@ -6,6 +6,7 @@ use Prim.Native.Nat.{ℕ}
 use contract.Lifetimes.{Lfts}
 use denote.Triple.Clauses.{AtExit}
 use denote.Triple.Entry.{Args, Res}
+use Rattle.rules.proofs.States.{equal_same}
 use Rattle.walk.specs.Walks.{start_of, next_of, moved_on}
 use Rattle.walk.specs.contracts.start as start_contract
 use Rattle.walk.specs.contracts.Walk.next as next_contract
@@ -69,12 +70,8 @@ entry_points κ0 κ1 κ2 κ3 =
       most-hold = record { nothing_asked = λ a. tt; says = λ a r e h. (h, refl) };
       most-delay = record { nothing_asked = λ a. tt; says = λ a r e h. (h, refl) };
       code = record { nothing_asked = λ a. tt; says = λ a r e h. (h, refl) };
-      same = record { nothing_asked = λ a. tt; says = λ a r e h. (h, refl) };
+      same = record { nothing_asked = λ a. tt; says = λ a r e h. (h ∙ equal_same a.0.now a.1.0.now, refl) };
       within = record { nothing_asked = λ a. tt; says = λ a r e h. (h, refl) };
-      count_bits = record { nothing_asked = λ a. tt; says = λ a r e h. (h.0, refl) };
-      minus = record { nothing_asked = λ a. tt; says = λ a r e h. (h, refl) };
-      pick16 = record { nothing_asked = λ a. tt; says = λ a r e h. (h, refl) };
-      pick32 = record { nothing_asked = λ a. tt; says = λ a r e h. (h, refl) };
     }
 
 pub answers : Answers

@@ -12,7 +12,6 @@ use contract.Lifetimes.{Lfts}
 use contract.Monad.{Fun, fact}
 use denote.Triple.Clauses.{AtExit}
 use denote.Triple.Entry.{Args, Res}
-use Rattle.std.specs.Int.Count.{ones}
 use Rattle.bits.proofs as bits
 use Rattle.rules.proofs as rules
 use Rattle.settings.proofs as settings
@@ -110,14 +109,10 @@ pub record EntryPoints (κ0 : Lfts 0) (κ1 : Lfts 1) (κ2 : Lfts 2) (κ3 : Lfts 
   pub most-hold : Returns (settings.Row.most_hold.Reads.Asked κ0) (settings.Row.most_hold.Reads.Learnt κ0) (λ _. most_hold)
   pub most-delay : Returns (settings.Effect.most_delay.Reads.Asked κ0) (settings.Effect.most_delay.Reads.Learnt κ0) (λ _. most_delay)
   -- one effect (`rules`)
-  pub code : Returns (rules.code.Reads.Asked κ0) (rules.code.Reads.Learnt κ0) (λ (p, _). code p)
-  pub same : Returns (rules.same.Reads.Asked κ0) (rules.same.Reads.Learnt κ0) (λ (p, (q, _)). same p q)
-  -- words and numbers (`bits`)
+  pub code : Returns (rules.U8FromEffectState.from.Reads.Asked κ0) (rules.U8FromEffectState.from.Reads.Learnt κ0) (λ (p, _). code p)
+  pub same : Returns (rules.EffectStatePartialEq.eq.Reads.Asked κ2) (rules.EffectStatePartialEq.eq.Reads.Learnt κ2) (λ (p, (q, _)). same p.now q.now)
+  -- words (`bits`)
   pub within : Returns (bits.within.Reads.Asked κ0) (bits.within.Reads.Learnt κ0) (λ (word, (n, _)). ltb word (2 ^ n))
-  pub count_bits : Returns (bits.count_bits.Reads.Asked κ0) (bits.count_bits.Reads.Learnt κ0) (λ (word, _). ones word)
-  pub minus : Returns (bits.minus.Reads.Asked κ0) (bits.minus.Reads.Learnt κ0) (λ (a, (b, _)). a - b)
-  pub pick16 : Returns (bits.pick16.Reads.Asked κ0) (bits.pick16.Reads.Learnt κ0) (λ (b, (x, (y, _))). cond b x y)
-  pub pick32 : Returns (bits.pick32.Reads.Asked κ0) (bits.pick32.Reads.Learnt κ0) (λ (b, (x, (y, _))). cond b x y)
 
 -- `start` and `next` have no `Asked` and `Learnt`, because a walk holds a reference. In every model of the logic their clauses ask
 -- nothing and are the plain facts that follow

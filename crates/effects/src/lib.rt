@@ -11,6 +11,7 @@ ghost use Rattle.bits.specs.Numbers.{digits};
 ghost use Rattle.effects.specs.Records.{record_length, bytes_of, StandsAt};
 ghost use Rattle.effects.specs.declared.Event.{Event};
 
+use bits::BigEndian;
 use rules::EffectState;
 
 // An event: what a record holds.
@@ -24,7 +25,8 @@ pub struct Event {
     pub first_out: u16,
 }
 
-// What a record holds, as its bytes give it: the states are codes.
+// What a record holds, as its bytes give it: the states are codes, which three words of effects give in fewer steps than a state
+// (`planes::code_at`).
 #[derive(Clone, Copy)]
 pub struct Record {
     pub seq: u16,
@@ -62,8 +64,8 @@ pub fn put_record(buf: &mut [u8], at: usize, r: Record)
     requires { at + record_length ≤ length buf.old }
     ensures { buf.new ≡ sets buf.old at (bytes_of r) }
 {
-    bits::put64(buf, at, head_of(r));
-    bits::put32(buf, at + 8, tail_of(r));
+    u64::put(buf, at, head_of(r));
+    u32::put(buf, at + 8, tail_of(r));
 }
 
 // The event whose record stands at a place.
@@ -72,11 +74,11 @@ pub fn event_at(s: &[u8], at: usize) -> Event
     ensures { StandsAt s.now at result }
 {
     Event {
-        seq: bits::get16(s, at),
-        scan: bits::get32(s, at + 2),
-        effect: bits::get8(s, at + 6),
-        from: rules::state_of(bits::get8(s, at + 7)),
-        to: rules::state_of(bits::get8(s, at + 8)),
-        first_out: bits::get16(s, at + 10),
+        seq: u16::get(s, at),
+        scan: u32::get(s, at + 2),
+        effect: u8::get(s, at + 6),
+        from: EffectState::of_code(u8::get(s, at + 7)),
+        to: EffectState::of_code(u8::get(s, at + 8)),
+        first_out: u16::get(s, at + 10),
     }
 }

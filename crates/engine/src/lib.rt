@@ -14,10 +14,10 @@ ghost use Rattle.cells.specs.Array.{timers_in, firsts_in};
 ghost use Rattle.cells.specs.Changed.{settled_in};
 ghost use Rattle.planes.specs.Planes.{planes_after, changed_of};
 ghost use Rattle.boards.specs.Table.{due_at, low_to, quiets_by, joined};
-ghost use Rattle.boards.specs.Board.{unset as unset_of};
 ghost use Rattle.engine.specs.Marks.{record_by, scan_entries, Changeable, begun};
 ghost use Rattle.engine.specs.Stroke.{Calm, ScanReady, ScanDone, StrokeReady, StrokeDone};
 
+use bits::Ones;
 use cells::Plan;
 use effects::Record;
 use planes::{Asked, Planes};
@@ -74,7 +74,7 @@ fn quiets(n: u32, board: &[u32; 64], plan: Plan, w: Asked, p: Planes, still: boo
     if p.delayed == 0 {
         return n;
     }
-    cells::least(n, bits::minus(low, 1) / plan.period)
+    n.min(low.saturating_sub(1) / plan.period)
 }
 
 // ---- the records
@@ -113,14 +113,11 @@ fn put_changed(
     let was = x.planes;
     let mut at = x.at;
     let mut q = x.next;
-    let mut rest = ch;
-    while 0 < rest {
-        let i = cells::lowest(rest);
+    for i in Ones(ch) {
         cells::settle(board, i, causes, was.normal, is.normal, is.delayed);
         effects::put_record(buf, at, record_at(board, x, is, q, i));
         at += effects::RECORD_LENGTH;
-        q = std::num::wrapping_add_u16(q, 1);
-        rest &= rest - 1;
+        q = q.wrapping_add(1);
     }
     at
 }
@@ -132,14 +129,7 @@ fn seq_after(q: u16, from: usize, to: usize) -> u16
     requires { (from ≤ to) × (to ≤ from + 192) }
     ensures { result ≡ (q + (to - from) / record_length) % 2 ^ 16 }
 {
-    std::num::wrapping_add_u16(q, ((to - from) / effects::RECORD_LENGTH) as u16)
-}
-
-fn count_live(n: u32, b: bool) -> u32
-    requires { n + 1 < 2 ^ 32 }
-    ensures { result ≡ n + one b }
-{
-    if b { n + 1 } else { n }
+    q.wrapping_add(((to - from) / effects::RECORD_LENGTH) as u16)
 }
 
 // One scan more. Its records go to the buffer at the run's place.
@@ -156,58 +146,25 @@ fn scan(buf: &mut [u8], board: &mut [u32; 64], plan: Plan, seen: Seen, w: Asked,
         scans_done: x.scans_done + 1,
         next: seq_after(x.next, x.at, at),
         at,
-        live: count_live(x.live, ch != 0),
+        live: x.live + u32::from(ch != 0),
         planes: is,
     }
-}
-
-// The run after k scans that leave every state as it is.
-fn later(k: u32, x: Mark) -> Mark
-    requires { x.scans_done + k ≤ most_scans }
-    ensures { result ≡ (record { scans_done = x.scans_done + k; next = x.next; at = x.at; live = x.live; planes = x.planes }) }
-{
-    let planes = x.planes;
-    Mark {
-        scans_done: x.scans_done + k,
-        next: x.next,
-        at: x.at,
-        live: x.live,
-        planes,
-    }
-}
-
-// Whether the scan from x to y was not live.
-fn unmoved(x: Mark, y: Mark) -> bool
-    ensures { result ≡ (y.live == x.live) }
-{
-    y.live == x.live
-}
-
-// What is asked in the scans after the first: the reset counts in the first scan and is zero afterwards.
-fn unset(w: Asked) -> Asked
-    ensures { result ≡ unset_of w }
-{
-    let mut v = w;
-    v.reset = 0;
-    v
 }
 
 // The run that starts where another run has ended.
 pub fn begin(x: Mark) -> Mark
     ensures { result ≡ begun x }
 {
-    let planes = x.planes;
     Mark {
-        scans_done: x.scans_done,
-        next: x.next,
         at: 0,
         live: 0,
-        planes,
+        ..x
     }
 }
 
 // A held run by rounds: one scan by the rules, and then all scans before the next live one or the hold's end. Its records go
-// to the front of the buffer, and the timers and first-outs are those after it. The falling number of the loop is `fuel`.
+// to the front of the buffer, and the timers and first-outs are those after it. The reset counts in the first scan and is 0 afterwards. The
+// falling number of the loop is `fuel`.
 pub fn stroke(buf: &mut [u8], board: &mut [u32; 64], plan: Plan, task: Task, from: Mark) -> Mark
     requires { StrokeReady plan task from board.old (length buf.old) }
     ensures { StrokeDone plan task from board.old buf.old result board.new buf.new }
@@ -219,14 +176,15 @@ pub fn stroke(buf: &mut [u8], board: &mut [u32; 64], plan: Plan, task: Task, fro
     while 0 < left {
         fuel -= 1;
         let y = scan(buf, board, plan, task.seen, w, x);
-        let v = unset(w);
-        let rest = left - 1;
-        let p = y.planes;
-        let k = quiets(rest, board, plan, v, p, unmoved(x, y));
-        cells::timers_later(k, board, plan, p.delayed);
-        w = v;
-        x = later(k, y);
-        left = rest - k;
+        w = Asked { reset: 0, ..w };
+        left -= 1;
+        let k = quiets(left, board, plan, w, y.planes, y.live == x.live);
+        cells::timers_later(k, board, plan, y.planes.delayed);
+        x = Mark {
+            scans_done: y.scans_done + k,
+            ..y
+        };
+        left -= k;
     }
     x
 }

@@ -14,6 +14,7 @@ ghost use Rattle.findings.specs.Spots.{farthest, most_count, count_at, after_sec
 ghost use Rattle.findings.specs.Faults.{block_fault, effect_fault, permitted, together_fault, forces_fault, resets_fault, inputs_fault, row_fault, fault_at};
 ghost use Rattle.findings.specs.Findings.{finding_in, finding_of, explanation, explained};
 
+use bits::BigEndian;
 use layout::Kind;
 use recording::Answer;
 use settings::{Effect, Row, Words};
@@ -102,7 +103,7 @@ fn count_at(s: &[u8], at: usize) -> u16
     ensures { result ≡ count_at s.now at }
 {
     if at + COUNT_BYTES <= s.len() {
-        bits::get16(s, at)
+        u16::get(s, at)
     } else {
         0
     }
@@ -297,16 +298,12 @@ fn fault_at(kind: Kind, s: &[u8], at: usize) -> Fault
     ensures { result ≡ fault_at kind s.now at }
 {
     match kind {
-        Kind::Block => block_fault(
-            bits::get8(s, at),
-            bits::get8(s, at + 1),
-            bits::get16(s, at + 2),
-        ),
-        Kind::Effects => effect_fault(bits::get8(s, CAUSES_AT), layout::effect_at(s, at)),
+        Kind::Block => block_fault(u8::get(s, at), u8::get(s, at + 1), u16::get(s, at + 2)),
+        Kind::Effects => effect_fault(u8::get(s, CAUSES_AT), layout::effect_at(s, at)),
         Kind::Rows => row_fault(
-            bits::get8(s, CAUSES_AT),
-            bits::get16(s, EFFECTS_AT),
-            bits::get8(s, OPTIONS_AT),
+            u8::get(s, CAUSES_AT),
+            u16::get(s, EFFECTS_AT),
+            u8::get(s, OPTIONS_AT),
             row_in(s, at),
         ),
     }

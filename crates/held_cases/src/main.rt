@@ -4,6 +4,7 @@
 
 ghost use Rattle.std.specs.Prelude.{◌≡◌, ◌≤◌, length};
 
+use bits::BigEndian;
 use block::{Held, Scanned};
 use settings::Row;
 use std::io::Write;
@@ -11,7 +12,7 @@ use std::io::Write;
 fn run(case: &[u8; 245], buf: &mut [u8]) -> Held {
     let st = cases::settings_at(case, 0);
     let x = cases::state_at(case, 101);
-    let hold = bits::get32(case, 219);
+    let hold = u32::get(case, 219);
     let words = layout::words_at(case, 223);
     cases::fill(buf);
     x.held(st, Row { hold, words }, buf)
@@ -34,8 +35,8 @@ fn put_head(r: Held, head: &mut [u8])
     requires { length head.old ≡ 137 }
 {
     cases::put_answer(head, shared(r));
-    bits::put32(head, 129, r.live);
-    bits::put32(head, 133, r.exercised);
+    u32::put(head, 129, r.live);
+    u32::put(head, 133, r.exercised);
 }
 
 // Answers a case in a buffer of exactly its room.

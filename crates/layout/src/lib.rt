@@ -14,6 +14,7 @@ ghost use Rattle.bits.specs.Lists.{list_of};
 ghost use Rattle.layout.specs.Sections.{width_of, least_of, most_of, number_of, count_ok, test_of};
 ghost use Rattle.layout.specs.Barred.{Skipped};
 
+use bits::BigEndian;
 use settings::{Effect, Known, Row, Words};
 
 // The kinds of section, in the order of the file.
@@ -44,8 +45,8 @@ pub fn effect_at(s: &[u8], at: usize) -> Effect
     ensures { result ≡ effect_at s.now at }
 {
     Effect {
-        association: bits::get16(s, at),
-        delay: bits::get32(s, at + 2),
+        association: u16::get(s, at),
+        delay: u32::get(s, at + 2),
     }
 }
 
@@ -55,16 +56,16 @@ pub fn words_at(s: &[u8], at: usize) -> Words
     ensures { result ≡ words_at s.now at }
 {
     Words {
-        values: bits::get16(s, at),
-        bad: bits::get16(s, at + 2),
-        mask: bits::get16(s, at + 4),
-        require_reset: bits::get16(s, at + 6),
-        reset_permit: bits::get16(s, at + 8),
-        start_permit: bits::get16(s, at + 10),
-        reset: bits::get16(s, at + 12),
-        force_permit: bits::get16(s, at + 14),
-        force_trip: bits::get16(s, at + 16),
-        force_normal: bits::get16(s, at + 18),
+        values: u16::get(s, at),
+        bad: u16::get(s, at + 2),
+        mask: u16::get(s, at + 4),
+        require_reset: u16::get(s, at + 6),
+        reset_permit: u16::get(s, at + 8),
+        start_permit: u16::get(s, at + 10),
+        reset: u16::get(s, at + 12),
+        force_permit: u16::get(s, at + 14),
+        force_trip: u16::get(s, at + 16),
+        force_normal: u16::get(s, at + 18),
     }
 }
 
@@ -75,7 +76,7 @@ pub fn row_at(s: &[u8], at: usize, width: usize) -> Row
 {
     let bytes = &s[at..at + width];
     Row {
-        hold: bits::get32(bytes, 0),
+        hold: u32::get(bytes, 0),
         words: words_at(bytes, 4),
     }
 }
@@ -166,9 +167,9 @@ pub fn entry_number(kind: Kind, known: Known, s: &[u8], at: usize) -> u8
 {
     match kind {
         Kind::Block => settings::block_number(
-            bits::get8(s, at),
-            bits::get8(s, at + 1),
-            bits::get16(s, at + 2),
+            u8::get(s, at),
+            u8::get(s, at + 1),
+            u16::get(s, at + 2),
         ),
         Kind::Effects => settings::effect_number(known.causes, effect_at(s, at)),
         Kind::Rows => settings::row_number(known, row_at(s, at, ROW_BYTES)),

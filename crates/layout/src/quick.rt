@@ -12,6 +12,7 @@ ghost use Rattle.layout.specs.Sections.{width_of, test_of};
 ghost use Rattle.layout.specs.Barred.{absent_of, four_of, bars_of, Skipped};
 
 use super::ROW_BYTES;
+use bits::BigEndian;
 use settings::{Known, Row};
 
 // The bits that no valid row has, in each of its three numbers of eight bytes, and whether several effects may be forced.
@@ -84,9 +85,9 @@ fn row_right(b: Bars, s: &[u8], at: usize) -> bool
     requires { at + width_of Rows ≤ length s.now }
     ensures { (k : Known) → b ≡ bars_of k → result ≡ eqb (row_number k (row_at (width_of Rows) s.now at)) 0 }
 {
-    let first = bits::get64(s, at);
-    let second = bits::get64(s, at + 8);
-    let third = bits::get64(s, at + 16);
+    let first = u64::get(s, at);
+    let second = u64::get(s, at + 8);
+    let third = u64::get(s, at + 16);
     hold_right(first) & words_right(b, first, second, third) & forces_right(b.several, third)
 }
 

@@ -8,6 +8,7 @@ ghost use Rattle.settings.specs.Refusals.{or_else, room_number};
 ghost use Rattle.rerun.specs.Replay.{refusal};
 ghost use Rattle.numbers.specs.Numbers.{number_bytes, check_bytes, totals_bytes, numbers, fitted, crossing};
 
+use bits::BigEndian;
 use rerun::Replayed;
 
 // The bytes of a number, of the answer to a check (three numbers), and of totals (seven).
@@ -22,8 +23,8 @@ fn put_two(out: &mut [u8], at: usize, a: u64, b: u64)
     requires { at + number_bytes * 2 ≤ length out.old }
     ensures { out.new ≡ sets out.old at (numbers (a ∷ b ∷ [])) }
 {
-    bits::put64(out, at, a);
-    bits::put64(out, at + NUMBER_BYTES, b);
+    u64::put(out, at, a);
+    u64::put(out, at + NUMBER_BYTES, b);
 }
 
 // Writes three numbers at `at`; all else stays.
@@ -32,7 +33,7 @@ fn put_three(out: &mut [u8], at: usize, a: u64, b: u64, c: u64)
     ensures { out.new ≡ sets out.old at (numbers (a ∷ b ∷ c ∷ [])) }
 {
     put_two(out, at, a, b);
-    bits::put64(out, at + NUMBER_BYTES * 2, c);
+    u64::put(out, at + NUMBER_BYTES * 2, c);
 }
 
 // ---- the answer to a check

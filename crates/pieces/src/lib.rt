@@ -12,6 +12,7 @@ ghost use Rattle.layout.specs.declared.Kind.TheVariants.{Rows};
 ghost use Rattle.layout.specs.Sections.{width_of};
 ghost use Rattle.recording.specs.Encode.{opening, opening_length};
 
+use bits::BigEndian;
 use layout::Kind;
 use settings::{Effect, Row, Settings, Words};
 
@@ -47,11 +48,11 @@ fn put_first_words(s: &mut [u8], at: usize, w: Words)
     requires { at + 10 ≤ length s.old }
     ensures { s.new ≡ sets s.old at (pack (2 ∷ 2 ∷ 2 ∷ 2 ∷ 2 ∷ []) (w.values ∷ w.bad ∷ w.mask ∷ w.require_reset ∷ w.reset_permit ∷ [])) }
 {
-    bits::put16(s, at, w.values);
-    bits::put16(s, at + 2, w.bad);
-    bits::put16(s, at + 4, w.mask);
-    bits::put16(s, at + 6, w.require_reset);
-    bits::put16(s, at + 8, w.reset_permit);
+    u16::put(s, at, w.values);
+    u16::put(s, at + 2, w.bad);
+    u16::put(s, at + 4, w.mask);
+    u16::put(s, at + 6, w.require_reset);
+    u16::put(s, at + 8, w.reset_permit);
 }
 
 // Puts the last five words of a row at `at`.
@@ -59,11 +60,11 @@ fn put_last_words(s: &mut [u8], at: usize, w: Words)
     requires { at + 10 ≤ length s.old }
     ensures { s.new ≡ sets s.old at (pack (2 ∷ 2 ∷ 2 ∷ 2 ∷ 2 ∷ []) (w.start_permit ∷ w.reset ∷ w.force_permit ∷ w.force_trip ∷ w.force_normal ∷ [])) }
 {
-    bits::put16(s, at, w.start_permit);
-    bits::put16(s, at + 2, w.reset);
-    bits::put16(s, at + 4, w.force_permit);
-    bits::put16(s, at + 6, w.force_trip);
-    bits::put16(s, at + 8, w.force_normal);
+    u16::put(s, at, w.start_permit);
+    u16::put(s, at + 2, w.reset);
+    u16::put(s, at + 4, w.force_permit);
+    u16::put(s, at + 6, w.force_trip);
+    u16::put(s, at + 8, w.force_normal);
 }
 
 pub fn put_row(s: &mut [u8], at: usize, row: Row)
@@ -71,7 +72,7 @@ pub fn put_row(s: &mut [u8], at: usize, row: Row)
     ensures { s.new ≡ sets s.old at (put_row row) }
 {
     let w = row.words;
-    bits::put32(s, at, row.hold);
+    u32::put(s, at, row.hold);
     put_first_words(s, at + 4, w);
     put_last_words(s, at + 14, w);
 }
@@ -80,8 +81,8 @@ fn put_effect(s: &mut [u8], at: usize, e: Effect)
     requires { at + 6 ≤ length s.old }
     ensures { s.new ≡ sets s.old at (put_effect e) }
 {
-    bits::put16(s, at, e.association);
-    bits::put32(s, at + 2, e.delay);
+    u16::put(s, at, e.association);
+    u32::put(s, at + 2, e.delay);
 }
 
 // Puts the first n effects at `at`. The contract also says that there are n of them, so that a caller need not show it.
@@ -105,11 +106,11 @@ fn put_block(s: &mut [u8], causes: u8, options: u8, period: u16, count: u16)
 {
     let b = layout::entries_of(0);
     let e = effects_section();
-    bits::put16(s, 0, 1);
-    bits::put8(s, b, causes);
-    bits::put8(s, b + 1, options);
-    bits::put16(s, b + 2, period);
-    bits::put16(s, e, count);
+    u16::put(s, 0, 1);
+    u8::put(s, b, causes);
+    u8::put(s, b + 1, options);
+    u16::put(s, b + 2, period);
+    u16::put(s, e, count);
 }
 
 // Puts the opening piece at the start of `s`. The contract also gives its length, so that a caller need not show it.
@@ -122,5 +123,5 @@ pub fn put_opening(s: &mut [u8], st: Settings, rows: u16)
     let effects = st.effects;
     put_block(s, st.causes, st.options, st.period, st.count as u16);
     put_effects(s, layout::entries_of(effects_section()), effects, n);
-    bits::put16(s, rows_section(n), rows);
+    u16::put(s, rows_section(n), rows);
 }

@@ -12,15 +12,7 @@ fn plane(count: usize, xs: [Slot; 16], q: EffectState) -> u16
     requires { count ≤ 16 }
     ensures { result ≡ word_of (λ i. same (get_or xs i no_slot).state q) count }
 {
-    let mut word: u16 = 0;
-    let mut i: usize = 0;
-    while i < count {
-        let x = xs[i];
-        let p = x.state;
-        word = bits::put_bit(word, i, rules::same(p, q));
-        i += 1;
-    }
-    word
+    bits::word_where(count, |i| xs[i].state == q)
 }
 
 // The states of the slots, by words.

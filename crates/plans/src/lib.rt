@@ -13,65 +13,17 @@ ghost use Rattle.plans.specs.Plans.{association_at, delay_at, union_to, wired_in
 use cells::Plan;
 use settings::Settings;
 
-// Puts the association words of all slots into their part of the array.
-fn put_associations(board: &mut [u32; 64], st: Settings)
-    ensures { board.new ≡ sets board.old associations_at (tabulate (association_at st) 16) }
-{
-    let mut i: usize = 0;
-    while i < 16 {
-        let e = st.effects[i];
-        board[i] = e.association as u32;
-        i += 1;
-    }
-}
-
-// Puts the delays of all slots into their part of the array.
-fn put_delays(board: &mut [u32; 64], st: Settings)
-    ensures { board.new ≡ sets board.old delays_at (tabulate (delay_at st) 16) }
-{
-    let mut i: usize = 0;
-    while i < 16 {
-        let e = st.effects[i];
-        board[cells::DELAYS + i] = e.delay;
-        i += 1;
-    }
-}
-
 // Puts what the settings give into the array: associations and delays.
 pub fn wire(board: &mut [u32; 64], st: Settings)
     ensures { board.new ≡ wired_into st board.old }
 {
-    put_associations(board, st);
-    put_delays(board, st);
-}
-
-// The word of all effects.
-fn all_word(count: usize) -> u16
-    requires { count ≤ 16 }
-    ensures { result ≡ word_of (λ i. true) count }
-{
-    let mut word: u16 = 0;
-    let mut i: usize = 0;
-    while i < count {
-        word = bits::put_bit(word, i, true);
-        i += 1;
-    }
-    word
-}
-
-// The effects with a delay.
-fn delay_word(count: usize, st: Settings) -> u16
-    requires { count ≤ 16 }
-    ensures { result ≡ word_of (λ i. ltb 0 (delay_at st i)) count }
-{
-    let mut word: u16 = 0;
-    let mut i: usize = 0;
-    while i < count {
-        let e = st.effects[i];
-        word = bits::put_bit(word, i, 0 < e.delay);
-        i += 1;
-    }
-    word
+    cells::fill(
+        board,
+        cells::ASSOCIATIONS,
+        16,
+        |i| st.effects[i].association as u32,
+    );
+    cells::fill(board, cells::DELAYS, 16, |i| st.effects[i].delay);
 }
 
 // The causes that any effect watches.
@@ -80,11 +32,8 @@ fn watched_word(count: usize, st: Settings) -> u16
     ensures { result ≡ union_to (association_at st) count }
 {
     let mut word: u16 = 0;
-    let mut i: usize = 0;
-    while i < count {
-        let e = st.effects[i];
-        word |= e.association;
-        i += 1;
+    for i in 0..count {
+        word |= st.effects[i].association;
     }
     word
 }
@@ -99,8 +48,8 @@ pub fn plan_of(st: Settings) -> Plan
         count,
         period: st.period as u32,
         options: st.options,
-        all: all_word(count),
-        with_delay: delay_word(count, st),
+        all: bits::word_where(count, |_| true),
+        with_delay: bits::word_where(count, |i| 0 < st.effects[i].delay),
         watched: watched_word(count, st),
     }
 }

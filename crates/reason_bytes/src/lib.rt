@@ -8,6 +8,7 @@ ghost use Rattle.bits.specs.Layout.{pack};
 ghost use Rattle.reasons.specs.Reasons.{kind, mask, millis, thing, missing};
 ghost use Rattle.reason_bytes.specs.Bytes.{numbers_of};
 
+use bits::BigEndian;
 use reasons::{Missing, Reason};
 
 // The kind, in document 02's order.
@@ -94,10 +95,10 @@ fn put_parts(out: &mut [u8], at: usize, kind: u8, missing: u8, mask: u16, millis
     requires { at + 8 ≤ length out.old }
     ensures { out.new ≡ sets out.old at (pack (1 ∷ 1 ∷ 2 ∷ 4 ∷ []) (kind ∷ missing ∷ mask ∷ millis ∷ [])) }
 {
-    bits::put8(out, at, kind);
-    bits::put8(out, at + 1, missing);
-    bits::put16(out, at + 2, mask);
-    bits::put32(out, at + 4, millis);
+    u8::put(out, at, kind);
+    u8::put(out, at + 1, missing);
+    u16::put(out, at + 2, mask);
+    u32::put(out, at + 4, millis);
 }
 
 // The 8 bytes of a reason at `at`; all else stays.

@@ -6,6 +6,7 @@
 
 ghost use Rattle.std.specs.Prelude.{◌≤◌, length};
 
+use bits::BigEndian;
 use queries::Reply;
 use std::io::Write;
 
@@ -30,7 +31,7 @@ fn ask(case: &[u8; CASE_BYTES]) -> Reply {
     let st = cases::settings_at(case, 0);
     let x = cases::state_at(case, STATE);
     let w = layout::words_at(case, WORDS);
-    let effect = bits::get8(case, EFFECT);
+    let effect = u8::get(case, EFFECT);
     queries::why(st, x, w, effect)
 }
 

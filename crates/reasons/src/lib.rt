@@ -59,8 +59,8 @@ pub fn sight_of(options: u8, w: Words) -> Sight
 {
     let counts = settings::forces_count(options, w);
     Sight {
-        trip: bits::pick16(counts, w.force_trip, 0),
-        normal: bits::pick16(counts, w.force_normal, 0),
+        trip: if counts { w.force_trip } else { 0 },
+        normal: if counts { w.force_normal } else { 0 },
         seen: settings::seen_of(options, w),
     }
 }
@@ -85,7 +85,7 @@ pub fn signs_of(sight: Sight, association: u32, i: usize) -> Signs
 fn delay_by(to: EffectState, timer: u32) -> Reason
     ensures { result ≡ delay_by to timer }
 {
-    if rules::same(to, EffectState::Delayed) {
+    if to == EffectState::Delayed {
         Reason::DelayRunning(timer)
     } else {
         Reason::DelayEnded
@@ -102,7 +102,7 @@ fn quiet_by(from: EffectState, to: EffectState) -> Reason
         EffectState::Ready => Reason::Waiting(Missing::Reset),
         EffectState::WaitStart => Reason::Waiting(Missing::StartPermit),
         EffectState::Normal => {
-            if rules::same(from, EffectState::Normal) {
+            if from == EffectState::Normal {
                 Reason::AtRest
             } else {
                 Reason::Cleared
@@ -115,7 +115,7 @@ fn quiet_by(from: EffectState, to: EffectState) -> Reason
 fn unforced_by(active: u16, from: EffectState, to: EffectState, timer: u32) -> Reason
     ensures { result ≡ unforced_by active from to timer }
 {
-    if rules::same(from, EffectState::Delayed) {
+    if from == EffectState::Delayed {
         delay_by(to, timer)
     } else if 0 < active {
         Reason::Active(active)

@@ -10,6 +10,7 @@ ghost use Rattle.layout.specs.Sections.{section_of};
 ghost use Rattle.recording.specs.Reader.{nothing_known, known_of_block, settings_at, refusal, from_section, reading};
 ghost use Rattle.recording.specs.Steps.{is_place, step_at};
 
+use bits::BigEndian;
 use layout::{Kind, Section};
 use settings::{Effect, Known, Row, Settings};
 
@@ -54,7 +55,7 @@ fn read_section(kind: Kind, known: Known, s: &[u8], at: usize) -> Section
             place: s.len(),
         };
     }
-    let n = bits::get16(s, at);
+    let n = u16::get(s, at);
     if !layout::count_ok(kind, n) {
         return Section::Refused {
             number: layout::number_of(kind),
@@ -95,12 +96,12 @@ fn settings_at(s: &[u8], e: usize) -> Settings
     ensures { result ≡ settings_at s.now e }
 {
     let b = layout::entries_of(0);
-    let count = bits::get16(s, e);
+    let count = u16::get(s, e);
     let effects = layout::effects_at(s, e + 2, count as usize);
     Settings {
-        causes: bits::get8(s, b),
-        options: bits::get8(s, b + 1),
-        period: bits::get16(s, b + 2),
+        causes: u8::get(s, b),
+        options: u8::get(s, b + 1),
+        period: u16::get(s, b + 2),
         count: count as u8,
         effects: effects,
     }
@@ -113,9 +114,9 @@ fn known_of_block(s: &[u8]) -> Known
 {
     let b = layout::entries_of(0);
     Known {
-        causes: bits::get8(s, b),
+        causes: u8::get(s, b),
         count: 0,
-        options: bits::get8(s, b + 1),
+        options: u8::get(s, b + 1),
     }
 }
 
@@ -182,7 +183,7 @@ pub fn read(s: &[u8]) -> Reading
     }
     Reading {
         answer: Answer::Accepted {
-            rows: bits::get16(s, r),
+            rows: u16::get(s, r),
             first: r + 2,
             width: layout::width_of(Kind::Rows),
         },

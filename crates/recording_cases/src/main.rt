@@ -5,6 +5,7 @@
 
 ghost use Rattle.std.specs.Prelude.{◌≡◌, ◌+◌, ◌≤◌, length};
 
+use bits::BigEndian;
 use recording::{Answer, Step};
 use settings::{Row, Settings, Words};
 use std::io::Write;
@@ -33,8 +34,8 @@ fn put_effects(out: &mut [u8], st: Settings)
     let mut i: usize = 0;
     while i < 16 {
         let e = st.effects[i];
-        bits::put16(out, 10 + 6 * i, e.association);
-        bits::put32(out, 12 + 6 * i, e.delay);
+        u16::put(out, 10 + 6 * i, e.association);
+        u32::put(out, 12 + 6 * i, e.delay);
         i += 1;
     }
 }
@@ -43,10 +44,10 @@ fn put_settings(out: &mut [u8], st: Settings)
     requires { length out.old ≡ 116 }
     ensures { length out.new ≡ 116 }
 {
-    bits::put8(out, 5, st.causes);
-    bits::put8(out, 6, st.options);
-    bits::put16(out, 7, st.period);
-    bits::put8(out, 9, st.count);
+    u8::put(out, 5, st.causes);
+    u8::put(out, 6, st.options);
+    u16::put(out, 7, st.period);
+    u8::put(out, 9, st.count);
     put_effects(out, st);
 }
 
@@ -54,11 +55,11 @@ fn put_numbers(out: &mut [u8], number: u8, place: usize, rows: u16, first: usize
     requires { length out.old ≡ 116 }
     ensures { length out.new ≡ 116 }
 {
-    bits::put8(out, 0, number);
-    bits::put32(out, 1, (place % 4294967296) as u32);
-    bits::put16(out, 106, rows);
-    bits::put32(out, 108, (first % 4294967296) as u32);
-    bits::put32(out, 112, (width % 4294967296) as u32);
+    u8::put(out, 0, number);
+    u32::put(out, 1, (place % 4294967296) as u32);
+    u16::put(out, 106, rows);
+    u32::put(out, 108, (first % 4294967296) as u32);
+    u32::put(out, 112, (width % 4294967296) as u32);
 }
 
 fn print_head<W: Write>(
@@ -86,7 +87,7 @@ fn put_words(out: &mut [u8], at: usize, words: [u16; 10])
 {
     let mut i: usize = 0;
     while i < 10 {
-        bits::put16(out, at + 2 * i, words[i]);
+        u16::put(out, at + 2 * i, words[i]);
         i += 1;
     }
 }
@@ -110,8 +111,8 @@ fn put_row(out: &mut [u8], at: usize, row: Row)
     requires { length out.old ≡ 28 }
     ensures { length out.new ≡ 28 }
 {
-    bits::put32(out, 0, (at % 4294967296) as u32);
-    bits::put32(out, 4, row.hold);
+    u32::put(out, 0, (at % 4294967296) as u32);
+    u32::put(out, 4, row.hold);
     put_words(out, 8, listed(row.words));
 }
 
@@ -210,7 +211,7 @@ fn put_replayed(out: &mut [u8], numbers: [u32; 7])
 {
     let mut i: usize = 0;
     while i < 7 {
-        bits::put32(out, 4 * i, numbers[i]);
+        u32::put(out, 4 * i, numbers[i]);
         i += 1;
     }
 }

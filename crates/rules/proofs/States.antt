@@ -2,8 +2,11 @@
 use mathlib.Core.Path.{◌≡◌, refl, ap, sym, ◌∙◌}
 use mathlib.Core.Bool.{true, cond}
 use Prim.Native.Nat.{ℕ, ◌≤◌}
+use denote.Enum.Bare.{sameb}
 use lib.Dec.{eqb, lit≤}
+use borrow.Author.Rules.{rules}
 use borrow.Author.Tests.{eqb-true, eq-eqb}
+use Rattle.rules.specs.contracts.EffectState.{the_type}
 use Rattle.rules.specs.declared.EffectState.{EffectState}
 use Rattle.rules.specs.declared.EffectState.TheVariants.{Tripped, WaitReset, Ready, WaitStart, Normal, Delayed}
 use Rattle.rules.specs.Rules.{code, most_code, same}
@@ -42,3 +45,7 @@ same_eq p q e = code_injective p q (eqb-true (code p) (code q) e)
 -- a state is the same as itself
 pub same_refl : (p : EffectState) → same p p ≡ true
 same_refl p = eq-eqb (code p) (code p) refl
+
+-- `==` of two states is whether they are the same
+pub equal_same : (p q : EffectState) → sameb the_type p q ≡ same p q
+equal_same p q = search rules

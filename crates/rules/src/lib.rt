@@ -6,10 +6,10 @@
 #![tactic(auto)]
 
 ghost use Rattle.std.specs.Prelude.{◌≡◌, ◌≤◌};
-ghost use Rattle.rules.specs.Rules.{code as code_of, most_code, same as same_as};
+ghost use Rattle.rules.specs.Rules.{code, most_code};
 
-// The state of one effect.
-#[derive(Clone, Copy)]
+// The state of one effect. Two states are equal if their codes are (`same`).
+#[derive(Clone, Copy, PartialEq, Eq)]
 pub enum EffectState {
     Tripped,
     WaitReset,
@@ -36,41 +36,35 @@ pub struct Seen {
 }
 
 // The code of a state.
-pub fn code(p: EffectState) -> u8
-    ensures { result ≡ code_of p }
-{
-    match p {
-        EffectState::Tripped => 0,
-        EffectState::WaitReset => 1,
-        EffectState::Ready => 2,
-        EffectState::WaitStart => 3,
-        EffectState::Normal => 4,
-        EffectState::Delayed => 5,
+impl From<EffectState> for u8 {
+    ghost from_gives = { λ p r. r ≡ code p };
+
+    fn from(p: EffectState) -> u8 {
+        match p {
+            EffectState::Tripped => 0,
+            EffectState::WaitReset => 1,
+            EffectState::Ready => 2,
+            EffectState::WaitStart => 3,
+            EffectState::Normal => 4,
+            EffectState::Delayed => 5,
+        }
     }
 }
 
-// The state whose code this is.
-pub fn state_of(code: u8) -> EffectState
-    requires { code ≤ most_code }
-    ensures { code_of result ≡ code }
-{
-    if code == 0 {
-        EffectState::Tripped
-    } else if code == 1 {
-        EffectState::WaitReset
-    } else if code == 2 {
-        EffectState::Ready
-    } else if code == 3 {
-        EffectState::WaitStart
-    } else if code == 4 {
-        EffectState::Normal
-    } else {
-        EffectState::Delayed
+impl EffectState {
+    // The state whose code this is.
+    pub fn of_code(n: u8) -> EffectState
+        requires { n ≤ most_code }
+        ensures { code result ≡ n }
+    {
+        match n {
+            0 => EffectState::Tripped,
+            1 => EffectState::WaitReset,
+            2 => EffectState::Ready,
+            3 => EffectState::WaitStart,
+            4 => EffectState::Normal,
+            5 => EffectState::Delayed,
+            _ => unreachable!(),
+        }
     }
-}
-
-pub fn same(p: EffectState, q: EffectState) -> bool
-    ensures { result ≡ same_as p q }
-{
-    code(p) == code(q)
 }

@@ -8,6 +8,7 @@ ghost use Rattle.settings.specs.Refusals.{or_else};
 ghost use Rattle.rerun.specs.Replay.{replay};
 ghost use Rattle.season_bytes.specs.Bytes.{report_length, report_of, report_bytes, into_number, season_into};
 
+use bits::BigEndian;
 use season::Report;
 
 // The bytes of a number, the sums of a report, and its bytes.
@@ -25,7 +26,7 @@ pub fn report_at(bytes: &[u8]) -> Report
     let mut sums = [0u64; SUM_COUNT];
     let mut k: usize = 0;
     while k < SUM_COUNT {
-        sums[k] = bits::get64(bytes, NUMBER_BYTES * k);
+        sums[k] = u64::get(bytes, NUMBER_BYTES * k);
         k += 1;
     }
     Report { sums: sums }
@@ -39,7 +40,7 @@ pub fn put_report(bytes: &mut [u8], r: Report)
     let sums = r.sums;
     let mut k: usize = 0;
     while k < SUM_COUNT {
-        bits::put64(bytes, NUMBER_BYTES * k, sums[k]);
+        u64::put(bytes, NUMBER_BYTES * k, sums[k]);
         k += 1;
     }
 }

@@ -6,6 +6,7 @@
 ghost use Rattle.std.specs.Prelude.{◌≤◌, length};
 ghost use Rattle.season_bytes.specs.Bytes.{report_length};
 
+use bits::BigEndian;
 use season::Added;
 use std::io::Write;
 
@@ -26,9 +27,9 @@ const DIGITS: usize = 2 * ANSWER_BYTES;
 
 fn answer_bytes(a: Added) -> [u8; ANSWER_BYTES] {
     let mut out = [0u8; ANSWER_BYTES];
-    bits::put8(&mut out, 0, a.number);
-    bits::put64(&mut out, PLACE, a.place as u64);
-    bits::put8(&mut out, EFFECTS, a.effects);
+    u8::put(&mut out, 0, a.number);
+    u64::put(&mut out, PLACE, a.place as u64);
+    u8::put(&mut out, EFFECTS, a.effects);
     let report = a.report;
     season_bytes::put_report(&mut out[REPORT..], report);
     out

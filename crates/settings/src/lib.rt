@@ -215,7 +215,7 @@ fn apart_number(w: Words) -> u8
 pub fn is_several(w: Words) -> bool
     ensures { result ≡ several w }
 {
-    1 < bits::count_bits(w.force_trip) + bits::count_bits(w.force_normal)
+    1 < w.force_trip.count_ones() + w.force_normal.count_ones()
 }
 
 fn several_number(known: Known, w: Words) -> u8
@@ -279,6 +279,10 @@ pub fn seen_of(options: u8, w: Words) -> Seen
 {
     Seen {
         tripped: !w.values & !w.mask,
-        bad: bits::pick16(bits::bit(options as u16, 0), w.bad & !w.mask, 0),
+        bad: if bits::bit(options as u16, 0) {
+            w.bad & !w.mask
+        } else {
+            0
+        },
     }
 }

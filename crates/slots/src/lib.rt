@@ -14,7 +14,7 @@ fn timer_right(delay: u32, x: Slot) -> bool
     ensures { result ≡ timer_right delay x }
 {
     let p = x.state;
-    if rules::same(p, EffectState::Delayed) {
+    if p == EffectState::Delayed {
         (1 <= x.timer) & (x.timer <= delay)
     } else {
         x.timer == 0
@@ -25,7 +25,7 @@ fn first_right(association: u16, x: Slot) -> bool
     ensures { result ≡ first_right association x }
 {
     let p = x.state;
-    if rules::same(p, EffectState::Normal) {
+    if p == EffectState::Normal {
         x.first_out == 0
     } else {
         x.first_out & association == x.first_out
@@ -44,7 +44,7 @@ fn slot_unused(x: Slot) -> bool
     ensures { result ≡ slot_unused x }
 {
     let p = x.state;
-    rules::same(p, EffectState::Tripped) & (x.timer == 0) & (x.first_out == 0)
+    (p == EffectState::Tripped) & (x.timer == 0) & (x.first_out == 0)
 }
 
 // Slot i is valid, or unused past the count.

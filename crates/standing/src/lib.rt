@@ -89,7 +89,7 @@ fn after_last(s: &[u8], last: Run, board: &mut [u32; 64]) -> Standing
         slots,
         &records,
         (end.records - last.records) as usize,
-        bits::minus(reached.scans_done, 1),
+        reached.scans_done.saturating_sub(1),
     );
     let to = cells::slots_of(board, plan.count, reached_planes);
     Standing { from, to, sight }

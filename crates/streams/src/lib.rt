@@ -5,6 +5,7 @@
 
 ghost use Rattle.std.specs.Prelude.{◌≡◌, ◌≤◌, length};
 
+use bits::BigEndian;
 use std::io::{Read, Write};
 
 // Whether there is a case, and how many bytes it has.
@@ -72,7 +73,7 @@ pub fn next_sized<R: Read, W: Write>(input: &mut R, output: &mut W, file: &mut [
             size: 0,
         };
     }
-    let n = bits::get32(&head, 0) as usize;
+    let n = u32::get(&head, 0) as usize;
     if file.len() < n {
         return Next {
             more: truncated(output),

@@ -26,7 +26,7 @@ pub const EXERCISED_SUM: usize = SUMS_OF_EFFECT * SLOTS;
 fn is_tripped(p: EffectState) -> u64
     ensures { (result ≡ one (same_as p Tripped)) × (result ≤ 1) }
 {
-    if rules::same(p, EffectState::Tripped) {
+    if p == EffectState::Tripped {
         return 1;
     }
     0
@@ -38,7 +38,7 @@ fn close(i: usize, scan: u32, sums: &mut [u64; 113], stretches: &[u32; 32])
     ensures { sums.new ≡ closed_at i scan (count_of sums.old stretches.now) }
 {
     let stood = SUMS_OF_EFFECT * i + stretches[SLOTS + i] as usize;
-    sums[stood] += bits::minus(scan, stretches[i]) as u64;
+    sums[stood] += scan.saturating_sub(stretches[i]) as u64;
 }
 
 // The stretches of the first n slots end with this scan.
@@ -60,12 +60,12 @@ fn count_event(e: Event, sums: &mut [u64; 113], stretches: &mut [u32; 32])
 {
     let to = e.to;
     let i = (e.effect - 1) as usize;
-    let before = bits::minus(e.scan, 1);
+    let before = e.scan.saturating_sub(1);
     close(i, before, sums, stretches);
     let trips = SUMS_OF_EFFECT * i + TRIP_PLACE;
     sums[trips] += is_tripped(to);
     stretches[i] = before;
-    stretches[SLOTS + i] = rules::code(to) as u32;
+    stretches[SLOTS + i] = u8::from(to) as u32;
 }
 
 // The events of the n records at the front of `records`.

@@ -44,8 +44,8 @@ fn asked_by(plan: Plan, board: &[u32; 64], seen: Seen, w: Words) -> Asked
 {
     let counts = settings::forces_count(plan.options, w);
     Asked {
-        force_trip: bits::pick16(counts, w.force_trip, 0),
-        force_normal: bits::pick16(counts, w.force_normal, 0),
+        force_trip: if counts { w.force_trip } else { 0 },
+        force_normal: if counts { w.force_normal } else { 0 },
         bad_trip: cells::watching(plan.count, board, seen.bad),
         active: cells::watching(plan.count, board, seen.tripped),
         require_reset: w.require_reset,

@@ -5,6 +5,7 @@
 
 ghost use Rattle.std.specs.Prelude.{◌≤◌, length};
 
+use bits::BigEndian;
 use settings::Row;
 use std::io::Write;
 use writing::Written;
@@ -29,7 +30,7 @@ fn print_opening<W: Write>(output: &mut W, case: &[u8; 129], buf: &mut [u8]) -> 
     requires { length buf.old ≤ 160 }
 {
     let st = cases::settings_at(case, 0);
-    let rows = bits::get16(case, 101);
+    let rows = u16::get(case, 101);
     cases::fill(buf);
     let w = writing::write_opening(st, rows, buf);
     print(output, w, buf, b' ')
@@ -39,7 +40,7 @@ fn print_row<W: Write>(output: &mut W, case: &[u8; 129], buf: &mut [u8]) -> bool
     requires { length buf.old ≤ 160 }
 {
     let st = cases::settings_at(case, 0);
-    let hold = bits::get32(case, 103);
+    let hold = u32::get(case, 103);
     let words = layout::words_at(case, 107);
     cases::fill(buf);
     let w = writing::write_row(st, Row { hold, words }, buf);

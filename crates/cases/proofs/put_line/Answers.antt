@@ -8,5 +8,5 @@ returns c =
     let s = c.args in
     let p = c.put_pair-n.ensures in record {
       value = omega arith;
-      out_after = line-is s.out.now _ _ _ s.a.now s.b.now _ p.out_after p.value c.put8.ensures;
+      out_after = line-is s.out.now _ _ _ s.a.now s.b.now _ p.out_after p.value c.put.ensures;
     }

@@ -7,5 +7,5 @@ pub returns : goal.returns
 returns c =
     let s = c.args in record {
       value = refl;
-      out_after = pair_is s.out.now _ _ _ s.at s.a.now s.b.now c.put_hex.ensures c.put8.ensures c.put_hex-2.ensures;
+      out_after = pair_is s.out.now _ _ _ s.at s.a.now s.b.now c.put_hex.ensures c.put.ensures c.put_hex-2.ensures;
     }

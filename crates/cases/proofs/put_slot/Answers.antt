@@ -12,6 +12,6 @@ unfolding slot_bytes
 returns c =
     let a = c.args in
     let l = a.out.now in
-    let k = c.code.ensures in
-    let two = sets_then l _ _ a.at 1 (digits 1 (code a.x.state)) (digits 4 a.x.timer) (rw k at c.put8.ensures) c.put32.ensures refl in
-    sets_then l _ _ a.at 5 (digits 1 (code a.x.state) ++ digits 4 a.x.timer) (digits 2 a.x.first_out) two c.put16.ensures refl
+    let k = c.from.ensures in
+    let two = sets_then l _ _ a.at 1 (digits 1 (code a.x.state)) (digits 4 a.x.timer) (rw k at c.put.ensures) c.put-2.ensures refl in
+    sets_then l _ _ a.at 5 (digits 1 (code a.x.state) ++ digits 4 a.x.timer) (digits 2 a.x.first_out) two c.put-3.ensures refl

@@ -4,27 +4,28 @@ use native.Mathlib.Omega.{arith}
 use Rattle.bits.specs.Words.{word_of}
 use Rattle.cells.specs.Array.{timers_at, timers_in}
 use Rattle.boards.specs.Table.{due_at}
-use Rattle.boards.proofs.Bits.{falls, started, ended}
+use Rattle.boards.proofs.Bits.{started, ended}
 use Rattle.boards.proofs.Due.{word_rest, no_higher, put}
 use Rattle.cells.proofs.Filled.{get_d_part}
 use Rattle.cells.proofs.due_of.Goals as goal
 
-pub loop-rest-init : goal.loop-rest-init
+pub loop-i-init : goal.loop-i-init
 unfolding word_of
-loop-rest-init c = started (word_rest _ _ (due_at (timers_in c.args.board.now) c.args.plan.period) c.requires.0 c.requires.1) refl
+loop-i-init c =
+    rw c.into_iter-i-iterator.ensures.into_iter_gives
+    (started (word_rest _ _ (due_at (timers_in c.args.board.now) c.args.plan.period) c.requires.0 c.requires.1) refl)
 
 pub put_bit-word-requires : goal.put_bit-word-requires
 put_bit-word-requires c =
-    (c.lowest-i.ensures.1, rw c.lowest-i.ensures.0 (no_higher _ _ _ c.loop-rest.invariant (omega arith)))
+    let s = c.in-Some.ensures.steps in
+    (s.2, rw s.1 (no_higher _ _ _ c.loop-i.invariant s.0))
 
-pub loop-rest-smaller : goal.loop-rest-smaller
-loop-rest-smaller c = falls _ (omega arith)
-
-pub loop-rest-preserved : goal.loop-rest-preserved
-loop-rest-preserved c =
+pub loop-i-preserved : goal.loop-i-preserved
+loop-i-preserved c =
     let a = c.args in
-    rw (c.put_bit-word.ensures, ← get_d_part timers_at a.board.now c.lowest-i.result c.lowest-i.ensures.1, c.lowest-i.ensures.0)
-    (put _ _ (due_at (timers_in a.board.now) a.plan.period) c.loop-rest.invariant (omega arith))
+    let s = c.in-Some.ensures.steps in
+    rw (c.put_bit-word.ensures, ← get_d_part timers_at a.board.now c.in-Some.i s.2, s.1, s.3)
+    (put _ _ (due_at (timers_in a.board.now) a.plan.period) c.loop-i.invariant s.0)
 
 pub returns : goal.returns
-returns c = ended c.loop-rest.invariant (omega arith)
+returns c = ended c.loop-i.invariant c.in-None.ensures.steps.0

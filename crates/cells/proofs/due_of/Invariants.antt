@@ -5,8 +5,5 @@ use Rattle.boards.specs.Table.{due_in}
 use Rattle.boards.proofs.Bits.{Done}
 use Rattle.cells.proofs.due_of.Given as goal
 
-abbrev pub invariant-loop-rest : goal.invariant-loop-rest
-invariant-loop-rest l = Done l.plan.count l.delayed (word_of (due_in (timers_in l.board) l.plan.period l.delayed)) l.word l.rest
-
-abbrev pub decreases-loop-rest : goal.decreases-loop-rest
-decreases-loop-rest l = l.rest
+abbrev pub invariant-loop-i : goal.invariant-loop-i
+invariant-loop-i l = Done l.plan.count l.delayed (word_of (due_in (timers_in l.board) l.plan.period l.delayed)) l.word l.i-iterator.0

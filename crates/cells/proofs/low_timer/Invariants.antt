@@ -7,8 +7,5 @@ use Rattle.boards.specs.Table.{low_to}
 use Rattle.boards.proofs.Bits.{Done}
 use Rattle.cells.proofs.low_timer.Given as goal
 
-abbrev pub invariant-loop-rest : goal.invariant-loop-rest
-invariant-loop-rest l = Done l.count l.delayed (low_to (bit_of l.delayed) (λ k. get_or (timers_in l.board) k 0)) l.low l.rest
-
-abbrev pub decreases-loop-rest : goal.decreases-loop-rest
-decreases-loop-rest l = l.rest
+abbrev pub invariant-loop-i : goal.invariant-loop-i
+invariant-loop-i l = Done l.count l.delayed (low_to (bit_of l.delayed) (λ k. get_or (timers_in l.board) k 0)) l.low l.i-iterator.0

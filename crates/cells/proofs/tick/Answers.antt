@@ -6,34 +6,35 @@ use Rattle.bits.specs.Lists.{tabulate}
 use Rattle.bits.specs.Words.{word_of}
 use Rattle.cells.specs.Array.{timers_in}
 use Rattle.boards.specs.Table.{due_at}
-use Rattle.boards.proofs.Bits.{falls, started, ended}
+use Rattle.boards.proofs.Bits.{started, ended}
 use Rattle.boards.proofs.Due.{word_rest, no_higher, put}
 use Rattle.cells.proofs.Filled.{there, stored, fallen_rest}
 use Rattle.cells.proofs.tick.Goals as goal
 
-pub loop-rest-init : goal.loop-rest-init
+pub loop-i-init : goal.loop-i-init
 unfolding tabulate word_of
-loop-rest-init c =
-    let a = c.args in (
+loop-i-init c =
+    let a = c.args in
+    rw c.into_iter-i-iterator.ensures.into_iter_gives (
       started (word_rest _ _ (due_at (timers_in a.board.now) a.plan.period) c.requires.0 c.requires.1) refl,
       started (fallen_rest a.board.now a.plan.count a.plan.period c.requires.0 a.delayed c.requires.1 c.requires.2) refl,
     )
 
 pub put_bit-word-requires : goal.put_bit-word-requires
 put_bit-word-requires c =
-    (c.lowest-i.ensures.1, rw c.lowest-i.ensures.0 (no_higher _ _ _ c.loop-rest.invariant.0 (omega arith)))
+    let s = c.in-Some.ensures.steps in
+    (s.2, rw s.1 (no_higher _ _ _ c.loop-i.invariant.0 s.0))
 
-pub loop-rest-smaller : goal.loop-rest-smaller
-loop-rest-smaller c = falls _ (omega arith)
-
-pub loop-rest-preserved : goal.loop-rest-preserved
-loop-rest-preserved c =
-    let v = c.loop-rest.invariant in
+pub loop-i-preserved : goal.loop-i-preserved
+loop-i-preserved c =
+    let v = c.loop-i.invariant in
     let a = c.args in
-    let low = c.lowest-i.ensures.0 in (
-      rw (c.put_bit-word.ensures, low, there _ _ _ _ _ v.1 (omega arith)) (put _ _ (due_at (timers_in a.board.now) a.plan.period) v.0 (omega arith)),
-      rw low (stored _ _ _ _ _ v.1 (omega arith) _ (λ e. rw (c.minus.ensures, low, e))),
+    let s = c.in-Some.ensures.steps in (
+      rw (c.put_bit-word.ensures, s.1, s.3, there _ _ _ _ _ v.1 s.0) (put _ _ (due_at (timers_in a.board.now) a.plan.period) v.0 s.0),
+      rw (s.1, s.3) (stored _ _ _ _ _ v.1 s.0 _ (λ e. rw (c.saturating_sub.ensures, s.1, e))),
     )
 
 pub returns : goal.returns
-returns c = record { value = ended c.loop-rest.invariant.0 (omega arith); board_after = ended c.loop-rest.invariant.1 (omega arith) }
+returns c =
+    let s = c.in-None.ensures.steps in
+    record { value = ended c.loop-i.invariant.0 s.0; board_after = ended c.loop-i.invariant.1 s.0 }

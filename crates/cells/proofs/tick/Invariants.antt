@@ -9,10 +9,7 @@ use Rattle.boards.proofs.Bits.{Done}
 use Rattle.cells.proofs.Filled.{up_to}
 use Rattle.cells.proofs.tick.Given as goal
 
-abbrev pub invariant-loop-rest : goal.invariant-loop-rest
-invariant-loop-rest l =
-    Done l.plan.count l.delayed (word_of (due_in (timers_in l.fn.board) l.plan.period l.delayed)) l.word l.rest
-    × Done l.plan.count l.delayed (up_to timers_at (λ i. get_or (timers_in l.fn.board) i 0 - l.plan.period) l.fn.board) l.board l.rest
-
-abbrev pub decreases-loop-rest : goal.decreases-loop-rest
-decreases-loop-rest l = l.rest
+abbrev pub invariant-loop-i : goal.invariant-loop-i
+invariant-loop-i l =
+    Done l.plan.count l.delayed (word_of (due_in (timers_in l.fn.board) l.plan.period l.delayed)) l.word l.i-iterator.0
+    × Done l.plan.count l.delayed (up_to timers_at (λ i. get_or (timers_in l.fn.board) i 0 - l.plan.period) l.fn.board) l.board l.i-iterator.0

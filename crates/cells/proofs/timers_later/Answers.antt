@@ -5,7 +5,7 @@ use Prim.Native.Nat.{ℕ, ◌*◌}
 use native.Mathlib.Nat.{mul-le-mul, zero-mul}
 use native.Mathlib.Omega.{arith}
 use Rattle.bits.specs.Lists.{tabulate}
-use Rattle.boards.proofs.Bits.{falls, started, ended}
+use Rattle.boards.proofs.Bits.{started, ended}
 use Rattle.cells.proofs.Filled.{stored, fallen_none, fallen_rest}
 use Rattle.cells.proofs.timers_later.Goals as goal
 
@@ -18,19 +18,16 @@ returns-then-k-eq0 c =
 pub overflow_mul-by : goal.overflow_mul-by
 overflow_mul-by c = omega (arith, mul-le-mul c.requires.1 c.requires.2)
 
-pub loop-rest-init : goal.loop-rest-init
+pub loop-i-init : goal.loop-i-init
 unfolding tabulate
-loop-rest-init c = λ n r. started r refl
+loop-i-init c = rw c.into_iter-i-iterator.ensures.into_iter_gives (λ n r. started r refl)
 
-pub loop-rest-smaller : goal.loop-rest-smaller
-loop-rest-smaller c = falls _ (omega arith)
-
-pub loop-rest-preserved : goal.loop-rest-preserved
-loop-rest-preserved c =
-    let low = c.lowest-i.ensures.0 in
-    rw low (λ n r. stored _ _ _ _ _ (c.loop-rest.invariant n r) (omega arith) _ (λ e. rw (c.minus.ensures, low, e)))
+pub loop-i-preserved : goal.loop-i-preserved
+loop-i-preserved c =
+    let s = c.in-Some.ensures.steps in
+    rw (s.1, s.3) (λ n r. stored _ _ _ _ _ (c.loop-i.invariant n r) s.0 _ (λ e. rw (c.saturating_sub.ensures, s.1, e)))
 
 pub returns : goal.returns
 returns c =
     let a = c.args in
-    ended (c.loop-rest.invariant a.plan.count (fallen_rest a.board.now a.plan.count (a.k * a.plan.period) c.requires.0 a.delayed c.requires.3 c.requires.4)) (omega arith)
+    ended (c.loop-i.invariant a.plan.count (fallen_rest a.board.now a.plan.count (a.k * a.plan.period) c.requires.0 a.delayed c.requires.3 c.requires.4)) c.in-None.ensures.steps.0

@@ -7,10 +7,7 @@ use Rattle.boards.proofs.Bits.{Rests, Done}
 use Rattle.cells.proofs.Filled.{up_to}
 use Rattle.cells.proofs.timers_later.Given as goal
 
-abbrev pub invariant-loop-rest : goal.invariant-loop-rest
-invariant-loop-rest l =
+abbrev pub invariant-loop-i : goal.invariant-loop-i
+invariant-loop-i l =
     let filled = up_to timers_at (λ i. get_or (timers_in l.fn.board) i 0 - l.by) l.fn.board in
-    (n : ℕ) → Rests n l.delayed filled → Done n l.delayed filled l.board l.rest
-
-abbrev pub decreases-loop-rest : goal.decreases-loop-rest
-decreases-loop-rest l = l.rest
+    (n : ℕ) → Rests n l.delayed filled → Done n l.delayed filled l.board l.i-iterator.0

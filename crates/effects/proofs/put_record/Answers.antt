@@ -11,5 +11,5 @@ pub returns : goal.returns
 returns c =
     let a = c.args in
     let l = a.buf.now in
-    sets_then l _ _ a.at 8 (digits 8 c.head_of.result) (digits 4 c.tail_of.result) c.put64.ensures c.put32.ensures refl
+    sets_then l _ _ a.at 8 (digits 8 c.head_of.result) (digits 4 c.tail_of.result) c.put.ensures c.put-2.ensures refl
     ∙ ap₂ (λ (x y : List ℕ). sets l a.at (x ++ y)) c.head_of.ensures c.tail_of.ensures

@@ -5,44 +5,44 @@ use lib.Count.{count_trailing_zeros}
 use Rattle.cells.specs.Array.{firsts_in}
 use Rattle.cells.specs.Changed.{settled_at}
 use Rattle.cells.proofs.Settled.{settled_rests, settled_turn, first_stays, settled-none}
-use Rattle.boards.proofs.Bits.{falls, started, ended}
+use Rattle.boards.proofs.Bits.{started, ended}
 use Rattle.engine.proofs.Records.{begun, finished, roomy, as_long, put_same}
 use Rattle.engine.proofs.put_changed.Goals as goal
 
-pub loop-rest-init : goal.loop-rest-init
-loop-rest-init c =
-    let a = c.args in (
+pub loop-i-init : goal.loop-i-init
+loop-i-init c =
+    let a = c.args in
+    rw c.into_iter-i-iterator.ensures.into_iter_gives (
       begun _ _ _ _ _ (omega (arith, c.well_formed)) (omega (arith, c.ranges.ch)),
       started (settled_rests a.causes a.x.planes a.is a.ch a.board.now 16 (omega arith) (omega (arith, c.ranges.ch))) (settled-none _ _ _ _ _),
     )
 
 pub put_record-requires : goal.put_record-requires
 put_record-requires c =
-    roomy c.loop-rest.invariant.0 (omega arith) c.requires.fits
+    roomy c.loop-i.invariant.0 c.in-Some.ensures.steps.0 c.requires.fits
 
 pub overflow_add-at : goal.overflow_add-at
 overflow_add-at c =
-    let v = c.loop-rest.invariant.0 in
-    omega (arith, roomy v (omega arith) c.requires.fits, as_long v, c.well_formed)
+    let v = c.loop-i.invariant.0 in
+    omega (arith, roomy v c.in-Some.ensures.steps.0 c.requires.fits, as_long v, c.well_formed)
 
-pub loop-rest-smaller : goal.loop-rest-smaller
-loop-rest-smaller c = falls _ (omega arith)
-
-pub loop-rest-preserved : goal.loop-rest-preserved
-loop-rest-preserved c =
+pub loop-i-preserved : goal.loop-i-preserved
+loop-i-preserved c =
     let a = c.args in
-    let v = c.loop-rest.invariant in (
-      rw (c.wrapping_add_u16-q.ensures.value, c.put_record.ensures, c.record_at.ensures, c.settle.ensures, c.lowest-i.ensures.0)
-          (put_same v.0 (omega arith) (firsts_in (settled_at a.causes a.x.planes.normal a.is.normal a.is.delayed (count_trailing_zeros 16 c.loop-rest.rest) c.loop-rest.board)) (first_stays a.causes a.x.planes a.is a.ch a.board.now v.1 (omega arith) c.requires.long) c.requires.narrow),
-      rw (c.settle.ensures, c.lowest-i.ensures.0) (settled_turn a.causes a.x.planes a.is a.ch a.board.now v.1 (omega arith)),
+    let v = c.loop-i.invariant in
+    let s = c.in-Some.ensures.steps in (
+      rw (c.put_record.ensures, c.record_at.ensures, c.settle.ensures, s.1, s.3)
+          (put_same v.0 s.0 (firsts_in (settled_at a.causes a.x.planes.normal a.is.normal a.is.delayed (count_trailing_zeros 16 c.loop-i.i-iterator.0) c.loop-i.board)) (first_stays a.causes a.x.planes a.is a.ch a.board.now v.1 s.0 c.requires.long) c.requires.narrow),
+      rw (c.settle.ensures, s.1, s.3) (settled_turn a.causes a.x.planes a.is a.ch a.board.now v.1 s.0),
     )
 
 pub shape_of-buf : goal.shape_of-buf
-shape_of-buf c = as_long c.loop-rest.invariant.0
+shape_of-buf c = as_long c.loop-i.invariant.0
 
 pub returns : goal.returns
 returns c =
-    let v = c.loop-rest.invariant in
-    let e = finished v.0 (omega arith) in
-    let f = ended v.1 (omega arith) in
+    let v = c.loop-i.invariant in
+    let s = c.in-None.ensures.steps in
+    let e = finished v.0 s.0 in
+    let f = ended v.1 s.0 in
     record { value = rw f (rw (← e) v.0.place); board_after = f; buf_after = rw f (rw (← e) v.0.wrote) }

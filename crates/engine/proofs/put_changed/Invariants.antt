@@ -6,10 +6,7 @@ use Rattle.boards.proofs.Bits.{Done}
 use Rattle.engine.proofs.Records.{Put}
 use Rattle.engine.proofs.put_changed.Given as goal
 
-abbrev pub invariant-loop-rest : goal.invariant-loop-rest
-invariant-loop-rest l =
-    Put l.fn.buf (firsts_in (settled_in l.causes l.x.planes l.is l.ch l.fn.board 16)) l.x l.is l.ch l.buf l.at l.q l.rest
-    × Done 16 l.ch (settled_in l.causes l.x.planes l.is l.ch l.fn.board) l.board l.rest
-
-abbrev pub decreases-loop-rest : goal.decreases-loop-rest
-decreases-loop-rest l = l.rest
+abbrev pub invariant-loop-i : goal.invariant-loop-i
+invariant-loop-i l =
+    Put l.fn.buf (firsts_in (settled_in l.causes l.x.planes l.is l.ch l.fn.board 16)) l.x l.is l.ch l.buf l.at l.q l.i-iterator.0
+    × Done 16 l.ch (settled_in l.causes l.x.planes l.is l.ch l.fn.board) l.board l.i-iterator.0

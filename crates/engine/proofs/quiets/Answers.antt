@@ -38,4 +38,4 @@ returns-then-p-eq0 c =
 pub returns : goal.returns
 unfolding quiets_by
 returns c =
-    rw (c.least.ensures, c.minus.ensures, c.low_timer-low.ensures, turned_round _ _ c.changes_next.ensures, c.if-changes_next.false)
+    rw (c.min.ensures, c.saturating_sub.ensures, c.low_timer-low.ensures, turned_round _ _ c.changes_next.ensures, c.if-changes_next.false)

@@ -1,5 +1,7 @@
 -- `engine::scan` meets its contract, from what its callees ensure.
-use Rattle.std.proofs.Common.{refl, arith}
+use Rattle.std.proofs.Common.{◌≡◌, ℕ, ◌+◌, Bool, true, false, refl, ap, ◌∙◌, arith}
+use Rattle.std.specs.Int.{from_bool}
+use Rattle.bits.specs.Words.{one}
 use lib.Bits.{or_lt}
 use Rattle.boards.proofs.Picked.{picked_le}
 use Rattle.engine.proofs.Marks.{between, settles, same_ticks, narrow_then, fits_then, scanned_is}
@@ -25,12 +27,12 @@ put_changed-at-requires c =
 pub seq_after-requires : goal.seq_after-requires
 seq_after-requires c = between _ _ _ c.put_changed-at.ensures.value (picked_le _ _ 16)
 
-pub count_live-requires : goal.count_live-requires
-count_live-requires c =
-    omega (arith, c.requires.short)
+counted : (b : Bool) → from_bool b ≡ one b
+counted true = refl
+counted false = refl
 
 pub returns : goal.returns
 returns c =
     let t = c.tick-due.ensures in
     let e = c.put_changed-at.ensures in
-    scanned_is c.requires (settles c.requires t.value c.planes_after-is.ensures c.changed-ch.ensures t.board_after e.board_after) c.changed-ch.ensures e.value c.seq_after.ensures c.count_live.ensures e.buf_after
+    scanned_is c.requires (settles c.requires t.value c.planes_after-is.ensures c.changed-ch.ensures t.board_after e.board_after) c.changed-ch.ensures e.value c.seq_after.ensures (ap (λ (n : ℕ). c.args.x.live + n) (c.from.ensures ∙ counted _)) e.buf_after

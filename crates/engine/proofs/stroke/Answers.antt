@@ -1,5 +1,5 @@
 -- `engine::stroke` meets its contract: a turn of the loop is a round, and the rest of the run gives what the whole gives.
-use Rattle.std.proofs.Common.{arith}
+use Rattle.std.proofs.Common.{refl, arith}
 use lib.Bits.{or_lt}
 use Rattle.boards.proofs.Quiet.{quiets_few}
 use Rattle.boards.proofs.Turn.{as_long}
@@ -21,7 +21,7 @@ pub quiets-k-requires : goal.quiets-k-requires
 quiets-k-requires c =
     let h = c.loop-left.invariant in
     let more = c.loop-left-test.true in
-    (h.kept.few, left-fits h more c.scan-y.ensures, h.kept.pos, h.kept.short, (within_scanned h more c.scan-y.ensures).0, calm_then h more c.scan-y.ensures c.unset-v.ensures c.unmoved.ensures)
+    (h.kept.few, left-fits h more c.scan-y.ensures, h.kept.pos, h.kept.short, (within_scanned h more c.scan-y.ensures).0, calm_then h more c.scan-y.ensures refl refl)
 
 pub timers_later-requires : goal.timers_later-requires
 timers_later-requires c =
@@ -29,12 +29,12 @@ timers_later-requires c =
     let more = c.loop-left-test.true in
     (h.kept.few, omega (arith, quiets_few _ _ _ _ _ _ _ c.quiets-k.ensures, left-fits h more c.scan-y.ensures), h.kept.short, (within_scanned h more c.scan-y.ensures).0, still_scanned h more c.scan-y.ensures)
 
-pub later-x-requires : goal.later-x-requires
-later-x-requires c =
+pub overflow_add-x : goal.overflow_add-x
+overflow_add-x c =
     omega (arith, quiets_few _ _ _ _ _ _ _ c.quiets-k.ensures, scanned_fits c.loop-left.invariant c.loop-left-test.true c.scan-y.ensures)
 
-pub overflow_sub-left : goal.overflow_sub-left
-overflow_sub-left c = omega (arith, quiets_few _ _ _ _ _ _ _ c.quiets-k.ensures)
+pub overflow_sub-left-in-loop-left : goal.overflow_sub-left-in-loop-left
+overflow_sub-left-in-loop-left c = omega (arith, quiets_few _ _ _ _ _ _ _ c.quiets-k.ensures)
 
 pub loop-left-smaller : goal.loop-left-smaller
 loop-left-smaller c =
@@ -42,7 +42,7 @@ loop-left-smaller c =
 
 pub loop-left-preserved : goal.loop-left-preserved
 loop-left-preserved c =
-    goes_on c.loop-left.invariant c.loop-left-test.true c.scan-y.ensures c.unset-v.ensures c.quiets-k.ensures c.timers_later.ensures c.later-x.ensures
+    goes_on c.loop-left.invariant c.loop-left-test.true c.scan-y.ensures refl c.quiets-k.ensures c.timers_later.ensures refl
 
 pub shape_of-buf : goal.shape_of-buf
 shape_of-buf c = as_long c.loop-left.invariant.kept

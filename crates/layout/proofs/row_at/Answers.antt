@@ -5,4 +5,4 @@ use Rattle.layout.proofs.row_at.Goals as goal
 pub returns : goal.returns
 returns c =
     let a = c.args in
-    row_of_part a.width a.s.now a.at c.get32.result c.words_at.result c.get32.ensures c.words_at.ensures
+    row_of_part a.width a.s.now a.at c.get.result c.words_at.result c.get.ensures c.words_at.ensures

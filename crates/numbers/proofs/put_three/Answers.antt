@@ -8,4 +8,4 @@ use Rattle.numbers.proofs.put_three.Goals as goal
 pub returns : goal.returns
 returns c =
     let g = c.args in
-    numbers_then g.out.now _ _ g.at _ (g.a ∷ g.b ∷ []) (g.c ∷ []) c.put_two.ensures (c.put64.ensures ∙ ap (sets _ _) (one_number g.c)) refl
+    numbers_then g.out.now _ _ g.at _ (g.a ∷ g.b ∷ []) (g.c ∷ []) c.put_two.ensures (c.put.ensures ∙ ap (sets _ _) (one_number g.c)) refl

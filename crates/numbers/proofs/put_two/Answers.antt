@@ -8,4 +8,4 @@ use Rattle.numbers.proofs.put_two.Goals as goal
 pub returns : goal.returns
 returns c =
     let g = c.args in
-    numbers_then g.out.now _ _ g.at _ (g.a ∷ []) (g.b ∷ []) (c.put64.ensures ∙ ap (sets _ _) (one_number g.a)) (c.put64-2.ensures ∙ ap (sets _ _) (one_number g.b)) refl
+    numbers_then g.out.now _ _ g.at _ (g.a ∷ []) (g.b ∷ []) (c.put.ensures ∙ ap (sets _ _) (one_number g.a)) (c.put-2.ensures ∙ ap (sets _ _) (one_number g.b)) refl

@@ -14,11 +14,11 @@ returns c =
     let y = digits 1 a.options in
     let z = digits 2 a.period in
     let place = c.entries_of-b.ensures in
-    let causes = rw place at c.put8.ensures in
-    let options = rw place at c.put8-2.ensures in
-    let period = rw place at c.put16-2.ensures in
-    let count = rw c.effects_section-e.ensures at c.put16-3.ensures in
-    let t₂ = sets_then l _ _ 0 2 n x c.put16.ensures causes refl in
+    let causes = rw place at c.put-2.ensures in
+    let options = rw place at c.put-3.ensures in
+    let period = rw place at c.put-4.ensures in
+    let count = rw c.effects_section-e.ensures at c.put-5.ensures in
+    let t₂ = sets_then l _ _ 0 2 n x c.put.ensures causes refl in
     let t₃ = sets_then l _ _ 0 3 (n ++ x) y t₂ options refl in
     let t₄ = sets_then l _ _ 0 4 (n ++ x ++ y) z t₃ period refl in
     sets_then l _ _ 0 6 (n ++ x ++ y ++ z) (digits 2 a.count) t₄ count refl

@@ -9,4 +9,4 @@ pub returns : goal.returns
 unfolding put_effect
 returns c =
     let a = c.args in
-    sets_then a.s.now _ _ a.at 2 (digits 2 a.e.association) (digits 4 a.e.delay) c.put16.ensures c.put32.ensures refl
+    sets_then a.s.now _ _ a.at 2 (digits 2 a.e.association) (digits 4 a.e.delay) c.put.ensures c.put-2.ensures refl

@@ -6,8 +6,8 @@ pub returns : goal.returns
 returns c =
     let a = c.args in
     sets_5 a.s.now _ _ _ _ _ a.at a.w.start_permit a.w.reset a.w.force_permit a.w.force_trip a.w.force_normal
-    c.put16.ensures
-    c.put16-2.ensures
-    c.put16-3.ensures
-    c.put16-4.ensures
-    c.put16-5.ensures
+    c.put.ensures
+    c.put-2.ensures
+    c.put-3.ensures
+    c.put-4.ensures
+    c.put-5.ensures

@@ -10,7 +10,7 @@ returns c =
     let first = c.entries_of.ensures ∙ ap (λ (k : ℕ). k + 2) c.effects_section.ensures in
     let e = c.put_effects.ensures in
     let effects = rw first at e.s_after in
-    let rows = rw c.rows_section.ensures at c.put16.ensures in
+    let rows = rw c.rows_section.ensures at c.put.ensures in
     record {
       s_after = opening_stored a.st a.rows e.effects_len a.s.now _ _ _ c.put_block.ensures effects rows;
       rows_len = opening-length a.st a.rows e.effects_len;

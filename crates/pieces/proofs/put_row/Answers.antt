@@ -17,5 +17,5 @@ returns c =
     let h = digits 4 a.row.hold in
     let x = pack five (w.values ∷ w.bad ∷ w.mask ∷ w.require_reset ∷ w.reset_permit ∷ []) in
     let y = pack five (w.start_permit ∷ w.reset ∷ w.force_permit ∷ w.force_trip ∷ w.force_normal ∷ []) in
-    let t = sets_then a.s.now _ _ a.at 4 h x c.put32.ensures c.put_first_words.ensures refl in
+    let t = sets_then a.s.now _ _ a.at 4 h x c.put.ensures c.put_first_words.ensures refl in
     sets_then a.s.now _ _ a.at 14 (h ++ x) y t c.put_last_words.ensures refl

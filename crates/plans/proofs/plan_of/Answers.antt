@@ -1,7 +1,11 @@
 -- `plans::plan_of` meets its contract, from what its callees ensure.
-use Rattle.plans.specs.Plans.{plan_of}
+use Rattle.std.proofs.Common.{true, ltb, rules}
+use Rattle.plans.specs.Plans.{delay_at, plan_of}
 use Rattle.plans.proofs.plan_of.Goals as goal
 
 pub returns : goal.returns
 unfolding plan_of
-returns c = rw (c.watched_word.ensures, c.delay_word.ensures, c.all_word.ensures)
+returns c =
+    let all = c.word_where.ensures (λ i. true) (λ i b k e. search rules) in
+    let with_delay = c.word_where-2.ensures (λ i. ltb 0 (delay_at c.args.st i)) (λ i b k e. search rules) in
+    rw (c.watched_word.ensures, with_delay, all)

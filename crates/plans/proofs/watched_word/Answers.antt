@@ -1,21 +1,17 @@
 -- `plans::watched_word` meets its contract. The loop's invariant: the word is the union of the first i association words.
-use mathlib.Core.Path.{◌≡◌, refl}
-use native.Mathlib.Numerals.{add-one}
-use native.Mathlib.Omega.{arith}
-use borrow.Author.Rules.{rules}
+use Rattle.std.proofs.Common.{◌≡◌, refl, add-one, arith}
 use Rattle.plans.specs.Plans.{union_to}
 use Rattle.plans.proofs.watched_word.Goals as goal
 
 pub loop-i-init : goal.loop-i-init
 unfolding union_to
-loop-i-init c = (search rules, refl)
+loop-i-init c = refl
 
 pub loop-i-preserved : goal.loop-i-preserved
 unfolding union_to
-loop-i-preserved c =
-    (omega arith, rw (c.loop-i.invariant.1, add-one))
+loop-i-preserved c = rw (c.loop-i.invariant, add-one)
 
 pub returns : goal.returns
 returns c =
     let e : c.loop-i.i ≡ c.args.count = omega arith in
-    rw (c.loop-i.invariant.1, e)
+    rw (c.loop-i.invariant, e)

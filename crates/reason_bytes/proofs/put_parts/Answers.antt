@@ -12,6 +12,6 @@ returns c =
     let k = digits 1 a.kind in
     let n = digits 1 a.missing in
     let w = digits 2 a.mask in
-    let two = sets_then l _ _ a.at 1 k n c.put8.ensures c.put8-2.ensures refl in
-    let three = sets_then l _ _ a.at 2 (k ++ n) w two c.put16.ensures refl in
-    sets_then l _ _ a.at 4 (k ++ n ++ w) (digits 4 a.millis) three c.put32.ensures refl
+    let two = sets_then l _ _ a.at 1 k n c.put.ensures c.put-2.ensures refl in
+    let three = sets_then l _ _ a.at 2 (k ++ n) w two c.put-3.ensures refl in
+    sets_then l _ _ a.at 4 (k ++ n ++ w) (digits 4 a.millis) three c.put-4.ensures refl

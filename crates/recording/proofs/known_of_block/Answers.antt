@@ -2,4 +2,4 @@
 use Rattle.recording.proofs.known_of_block.Goals as goal
 
 pub returns : goal.returns
-returns c = rw (c.get8-2.ensures, c.get8.ensures, c.entries_of-b.ensures)
+returns c = rw (c.get-2.ensures, c.get.ensures, c.entries_of-b.ensures)

@@ -87,8 +87,8 @@ returns-then-end-s c =
     ∙ left_over s c.in-Next.e c.in-Next-effects.r c.in-Next-rows.end (λ q. omega (arith, q, c.if-end-s.true))
     ∙ sym (read-rows _ _ b _ (sym f ∙ c.in-Next-effects.is) _ (sym g ∙ c.in-Next-rows.is))
 
-pub get16-requires : goal.get16-requires
-get16-requires c =
+pub get-requires : goal.get-requires
+get-requires c =
     let s = c.args.s.now in
     let g = rows_are s _ _ c.in-Next.e c.in-Next-effects.r _ c.settings_at-settings.ensures c.known_of.ensures c.read_section-rows.ensures in
     (section_next Rows _ s _ _ (sym g ∙ c.in-Next-rows.is)).room
@@ -106,5 +106,5 @@ returns c =
     let b = block_next s _ _ c.in-Next.e c.nothing_known.ensures c.read_section-block.ensures c.in-Next.is in
     let f = effects_are s _ _ c.in-Next.e c.known_of_block.ensures c.read_section-effects.ensures in
     let g = rows_are s _ _ c.in-Next.e c.in-Next-effects.r _ c.settings_at-settings.ensures c.known_of.ensures c.read_section-rows.ensures in
-    accepted s c.in-Next.e c.in-Next-effects.r c.in-Next-rows.end _ _ _ _ (omega (arith, c.if-end-s.false)) c.get16.ensures refl c.width_of.ensures c.settings_at-settings.ensures
+    accepted s c.in-Next.e c.in-Next-effects.r c.in-Next-rows.end _ _ _ _ (omega (arith, c.if-end-s.false)) c.get.ensures refl c.width_of.ensures c.settings_at-settings.ensures
     ∙ sym (read-rows _ _ b _ (sym f ∙ c.in-Next-effects.is) _ (sym g ∙ c.in-Next-rows.is))

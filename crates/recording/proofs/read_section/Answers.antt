@@ -10,7 +10,7 @@ returns-then-s-at-lt2 c = sym (section_short _ _ _ _ _ _ _ (omega arith))
 
 pub returns-then-not-count_ok : goal.returns-then-not-count_ok
 returns-then-not-count_ok c =
-    let n = c.get16-n in
+    let n = c.get-n in
     let k = c.count_ok in
     rw c.number_of.ensures (sym (section_count _ _ _ _ _ _ _ n.result (omega arith) n.ensures (sym k.ensures ∙ c.if-not-count_ok.true)))
 
@@ -26,7 +26,7 @@ loop-left-init c =
     let p = c.passed_quickly-passed in
     let w = c.width_of-w in
     let k = c.count_ok in
-    let n = c.get16-n in
+    let n = c.get-n in
     (rw w.ensures p.ensures.inside, w.ensures, rw w.ensures (p.ensures.same ∙ sym (section_entries _ _ _ _ _ _ _ n.result (omega arith) n.ensures (sym k.ensures ∙ c.if-not-count_ok.false))))
 
 pub returns-then-s-place : goal.returns-then-s-place

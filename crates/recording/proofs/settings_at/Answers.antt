@@ -3,4 +3,4 @@ use Rattle.recording.proofs.settings_at.Goals as goal
 
 pub returns : goal.returns
 returns c =
-    rw (c.get16.ensures, c.get8-2.ensures, c.get8.ensures, c.effects_at-effects.ensures, c.get16-count.ensures, c.entries_of-b.ensures)
+    rw (c.get-3.ensures, c.get-2.ensures, c.get.ensures, c.effects_at-effects.ensures, c.get-count.ensures, c.entries_of-b.ensures)

@@ -16,15 +16,15 @@ use Rattle.season_bytes.proofs.put_report.Goals as goal
 pub loop-k-init : goal.loop-k-init
 loop-k-init c = (omega arith, refl, rw zero-add)
 
-pub put64-requires : goal.put64-requires
-put64-requires c = search rules
+pub put-requires : goal.put-requires
+put-requires c = search rules
 
 pub loop-k-preserved : goal.loop-k-preserved
 loop-k-preserved c =
     let sums = c.args.r.sums in
     -- an array is as long as its type says
     let long : length sums ≡ sum_count = search (rules, length_mapped) in
-    let e = c.put64.ensures in
+    let e = c.put.ensures in
     let h : c.loop-k.k < length sums = omega (arith, long) in (
       omega arith,
       rw (e, length-sets) c.loop-k.invariant.1,

@@ -17,7 +17,7 @@ loop-k-init c = (search rules, refl)
 pub loop-k-preserved : goal.loop-k-preserved
 loop-k-preserved c =
     let l = c.loop-k in
-    (omega arith, rw (l.invariant.1, c.get64.ensures) (fill _ (replicate sum_count 0) l.k 0 (omega arith)))
+    (omega arith, rw (l.invariant.1, c.get.ensures) (fill _ (replicate sum_count 0) l.k 0 (omega arith)))
 
 pub returns : goal.returns
 unfolding report_of

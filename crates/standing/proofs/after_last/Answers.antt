@@ -33,5 +33,5 @@ slots_of-to-requires c =
 pub returns : goal.returns
 returns c =
     let p = c.requires in
-    stands p.0 p.1 p.2 c.go-turn.ensures (omega arith) _ _ _ _ _ c.sight_at-sight.ensures c.slots_of-slots.ensures c.minus.ensures
+    stands p.0 p.1 p.2 c.go-turn.ensures (omega arith) _ _ _ _ _ c.sight_at-sight.ensures c.slots_of-slots.ensures c.saturating_sub.ensures
     c.tell_all-from.ensures c.slots_of-to.ensures

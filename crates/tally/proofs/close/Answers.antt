@@ -2,4 +2,4 @@
 use Rattle.tally.proofs.close.Goals as goal
 
 pub returns : goal.returns
-returns c = rw c.minus.ensures
+returns c = rw c.saturating_sub.ensures

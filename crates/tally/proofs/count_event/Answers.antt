@@ -14,7 +14,7 @@ overflow_add-sums c =
     let t = count_of a.sums.now a.stretches.now in
     let i = slot_of a.e in
     let k = state_sum i (code_in t i) in
-    let apart = get_or-set_other t.sums k (trip_sum i) (get_or t.sums k 0 + (c.minus-before.result - since_of t i)) 0 (λ z. omega (arith, z, c.requires.closable.code_fits)) in
+    let apart = get_or-set_other t.sums k (trip_sum i) (get_or t.sums k 0 + (c.saturating_sub-before.result - since_of t i)) 0 (λ z. omega (arith, z, c.requires.closable.code_fits)) in
     omega (
       arith,
       ap (λ (l : List ℕ). get_or l (trip_sum i) 0) c.close.ensures ∙ apart,
@@ -24,4 +24,4 @@ overflow_add-sums c =
 
 pub returns : goal.returns
 returns c =
-    rw (c.close.ensures, c.minus-before.ensures, c.is_tripped.ensures.0, c.code.ensures)
+    rw (c.close.ensures, c.saturating_sub-before.ensures, c.is_tripped.ensures.0, c.from.ensures)

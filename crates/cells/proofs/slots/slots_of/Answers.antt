@@ -14,19 +14,17 @@ use Rattle.cells.proofs.slots.slots_of.Goals as goal
 
 pub loop-i-init : goal.loop-i-init
 unfolding tabulate
-loop-i-init c = (search rules, refl)
+loop-i-init c = refl
 
 pub loop-i-preserved : goal.loop-i-preserved
 loop-i-preserved c =
     let i = c.loop-i.i in
-    let b = c.args.board.now in (
-      omega arith,
-      rw (c.slot_of.ensures, ← get_d_part timers_at b i (omega arith), ← get_d_part firsts_at b i (omega arith), mod-eq_of_lt (c.requires.1 i), c.loop-i.invariant.1)
-          (fill _ (replicate 16 no_slot) i no_slot (omega arith)),
-    )
+    let b = c.args.board.now in
+    rw (c.slot_of.ensures, ← get_d_part timers_at b i (omega arith), ← get_d_part firsts_at b i (omega arith), mod-eq_of_lt (c.requires.1 i), c.loop-i.invariant)
+    (fill _ (replicate 16 no_slot) i no_slot (omega arith))
 
 pub returns : goal.returns
 unfolding slots_of
 returns c =
     let e : c.loop-i.i ≡ c.args.count = omega arith in
-    rw (c.loop-i.invariant.1, e)
+    rw (c.loop-i.invariant, e)

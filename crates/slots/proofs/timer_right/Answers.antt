@@ -1,8 +1,0 @@
--- `slots::timer_right` meets its contract, from what its callees ensure and the tests on the way.
-use Rattle.slots.proofs.timer_right.Goals as goal
-
-pub returns-then-same : goal.returns-then-same
-returns-then-same c = rw (← c.same.ensures, c.if-same.true)
-
-pub returns-else-same : goal.returns-else-same
-returns-else-same c = rw (← c.same.ensures, c.if-same.false)
