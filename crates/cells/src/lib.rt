@@ -19,6 +19,9 @@ pub use slots::{fill, load, slots_of};
 
 // What stays the same from row to row: the number of effects, the scan period, the options, and words of effects and causes: all
 // effects, those with a delay, and the causes that any effect watches.
+// That there are at most sixteen effects is asked by each function and is no fact of this type, since `plan_of` (plans/specs) makes a plan of any
+// settings, also of those with more. The lent array stands beside the plan and not in one struct with it: a plan stays while the array changes, so
+// that a contract which says what the array becomes need not say that the plan stays.
 #[derive(Clone, Copy)]
 pub struct Plan {
     pub count: usize,

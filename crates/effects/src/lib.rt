@@ -25,7 +25,8 @@ pub struct Event {
     pub first_out: u16,
 }
 
-// What a record holds, as its bytes give it: the states are codes.
+// What a record holds, as its bytes give it: the states are codes, which three words of effects give in fewer steps than a state
+// (`planes::code_at`).
 #[derive(Clone, Copy)]
 pub struct Record {
     pub seq: u16,
