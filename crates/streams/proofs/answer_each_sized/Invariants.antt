@@ -1,6 +1,5 @@
 -- The buffer keeps its length, and the step may be taken again.
 use Rattle.std.proofs.Common.{◌≡◌, length}
-use denote.Param.Always.{always_mut}
 use Rattle.streams.proofs.answer_each_sized.Given as goal
 
 abbrev pub invariant-loop : goal.invariant-loop
