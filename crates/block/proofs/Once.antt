@@ -29,3 +29,12 @@ held_once (Ok a) (Err q) e = absurd (number_some q.refusal (sym (ap (λ (x : Hel
 held_once (Err r) (Ok b) e = absurd (number_some r.refusal (ap (λ (x : Held). x.number) e))
 held_once (Err r) (Err q) e =
     λ j. Err (record { refusal = refusal_once r.refusal q.refusal (ap (λ (x : Held). x.number) e) j; state = (e j).state })
+
+-- two runs that are granted alike are one
+run_in : RunDone → Result RunDone RunRefused → RunDone
+run_in default (Ok a) = a
+run_in default (Err e) = default
+
+pub run_once : (r q : RunDone) → ◌≡◌ {A = Result RunDone RunRefused} (Ok r) (Ok q) → r ≡ q
+unfolding run_in
+run_once r q e = ap (run_in r) e

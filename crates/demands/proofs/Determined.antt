@@ -19,7 +19,7 @@ use Rattle.plans.specs.Plans.{Wired}
 use Rattle.wiring.specs.Wiring.{Stroked}
 use Rattle.rerun.specs.declared.Run.{Run}
 use Rattle.rerun.specs.Answer.{Turn}
-use Rattle.listing.specs.declared.Printed.{Printed}
+use Rattle.listing.specs.Printed.{PrintedPiece}
 use Rattle.rerun.specs.Replay.{first_rows}
 use Rattle.rerun.specs.Turn.{Totals, totals_in, totals_of, Going}
 
@@ -133,10 +133,10 @@ turn_by number records run = record { number = number; records = records; run = 
 pub same_turn : {x y : Turn} → x.number ≡ y.number → x.records ≡ y.records → x.run ≡ y.run → x ≡ y
 same_turn n k r = ap₃ turn_by n k r
 
-abbrev printed_by : Bool → ℕ → Turn → Printed
+abbrev printed_by : Bool → ℕ → Turn → PrintedPiece
 printed_by full at turn = record { full = full; at = at; turn = turn }
 
-pub same_printed : {x y : Printed} → x.full ≡ y.full → x.at ≡ y.at → x.turn ≡ y.turn → x ≡ y
+pub same_printed : {x y : PrintedPiece} → x.full ≡ y.full → x.at ≡ y.at → x.turn ≡ y.turn → x ≡ y
 same_printed f p t = ap₃ printed_by f p t
 
 -- the exercised scans of a hold tell whether it exercises an effect

@@ -28,9 +28,9 @@ use Rattle.layout.proofs.effect_at.Reads as layout·effect-at
 use Rattle.layout.proofs.effects_at.Reads as layout·effects-at
 use Rattle.layout.proofs.entries_of.Reads as layout·entries-of
 use Rattle.layout.proofs.width_of.Reads as layout·width-of
-use Rattle.layout.proofs.number_of.Reads as layout·number-of
+use Rattle.layout.proofs.refusal_of.Reads as layout·refusal-of
 use Rattle.layout.proofs.count_ok.Reads as layout·count-ok
-use Rattle.layout.proofs.entry_number.Reads as layout·entry-number
+use Rattle.layout.proofs.check_entry.Reads as layout·check-entry
 use Rattle.pieces.proofs.rows_section.Reads as pieces·rows-section
 use Rattle.pieces.proofs.put_opening.Reads as pieces·put-opening
 use Rattle.pieces.proofs.put_row.Reads as pieces·put-row
@@ -64,8 +64,8 @@ use Rattle.block.proofs.load_fresh.Reads as block·load-fresh
 use Rattle.block.proofs.exercised_scans.Reads as block·exercised-scans
 use Rattle.block.proofs.run_right.Reads as block·run-right
 use Rattle.block.proofs.run_kept.Reads as block·run-kept
-use Rattle.rerun.proofs.stop_of.Reads as rerun·stop-of
-use Rattle.rerun.proofs.refused.Reads as rerun·refused
+use Rattle.rerun.proofs.check_holds.Reads as rerun·check-holds
+use Rattle.rerun.proofs.run_of.Reads as rerun·run-of
 use Rattle.rerun.proofs.answer_of.Reads as rerun·answer-of
 use Rattle.rerun.proofs.begin.Reads as rerun·begin
 use Rattle.rerun.proofs.row.Reads as rerun·row
@@ -73,14 +73,14 @@ use Rattle.rerun.proofs.go.Reads as rerun·go
 use Rattle.listing.proofs.row.Reads as listing·row
 use Rattle.numbers.proofs.put_check.Reads as numbers·put-check
 use Rattle.numbers.proofs.or_ten.Reads as numbers·or-ten
-use Rattle.numbers.proofs.put_totals.Reads as numbers·put-totals
+use Rattle.numbers.proofs.put_numbers.Reads as numbers·put-numbers
 use Rattle.numbers.proofs.put_counted.Reads as numbers·put-counted
-use Rattle.numbers.proofs.refuse.Reads as numbers·refuse
 use Rattle.sums.proofs.in_range.Reads as sums·in-range
 use Rattle.sums.proofs.add_all.Reads as sums·add-all
-use Rattle.tally.specs.Tally.{Count}
-use Rattle.tally.proofs.close_all.Reads as tally·close-all
-use Rattle.tally.proofs.count_events.Reads as tally·count-events
+use Rattle.tally.proofs.Shown.{shown_injective}
+use Rattle.tally.proofs.Count.close_all.Reads as tally·close-all
+use Rattle.tally.proofs.Count.count_events.Reads as tally·count-events
+use Rattle.tally.proofs.Count.empty.Reads as tally·empty
 use Rattle.season_table.proofs.Table.empty.Reads as season-table·empty
 use Rattle.season_table.proofs.Table.with_file.Reads as season-table·with-file
 use Rattle.season_table.proofs.put_table.Reads as season-table·put-table
@@ -91,8 +91,12 @@ use Rattle.text.proofs.put_header.Reads as text·put-header
 use Rattle.text.proofs.put_lines.Reads as text·put-lines
 use Rattle.text.proofs.put_last.Reads as text·put-last
 use Rattle.text.proofs.put_refusal.Reads as text·put-refusal
-use Rattle.text.proofs.put_number.Reads as text·put-number
-use Rattle.text.proofs.put_state.Reads as text·put-state
+use denote.RattleType.{RattleType}
+use denote.Param.Laws.{Laws}
+use mir.Syntax.{Dict}
+use Rattle.text.specs.declared.Field.{Ghosts}
+use Rattle.text.proofs.put_field.Reads as text·put-field
+use Rattle.wording.proofs.put_named.Reads as wording·put-named
 use Rattle.text.proofs.put_end.Reads as text·put-end
 use Rattle.reasons.proofs.sight_of.Reads as reasons·sight-of
 use Rattle.reasons.proofs.reason_by.Reads as reasons·reason-by
@@ -103,10 +107,10 @@ use Rattle.reason_bytes.proofs.put_numbers.Reads as reason-bytes·put-numbers
 use Rattle.reasoned.proofs.sight_at.Reads as reasoned·sight-at
 use Rattle.standing.proofs.reason_now.Reads as standing·reason-now
 use Rattle.now_table.proofs.show.Reads as now-table·show
-use Rattle.now_table.specs.Answer.{Shown}
+use Rattle.now_table.proofs.Once.{shown_once}
 use Rattle.why_bytes.proofs.put_reasons.Reads as why-bytes·put-reasons
 use Rattle.why_bytes.proofs.put_now.Reads as why-bytes·put-now
-use Rattle.room.proofs.records_number.Reads as room·records-number
+use Rattle.room.proofs.check_records.Reads as room·check-records
 use Rattle.text.proofs.put_total.Reads as text·put-total
 use Rattle.findings.proofs.explain.Reads as findings·explain
 use Rattle.sentences.proofs.put_finding.Reads as sentences·put-finding
@@ -117,10 +121,21 @@ use Rattle.summaries.proofs.put_summary.Reads as summaries·put-summary
 use Rattle.summaries.proofs.put_summary_header.Reads as summaries·put-summary-header
 use Rattle.wiring.specs.Wiring.{Stroked}
 use Rattle.rerun.specs.Turn.{Totals}
+use Rattle.std.proofs.Common.{Ok}
+use Rattle.settings.specs.Refusals.{number_of, number_in}
+use Rattle.settings.proofs.Once.{refusal_once, check_once}
+use Rattle.block.specs.Answer.{as_held}
+use Rattle.block.proofs.Once.{run_once, held_once}
+use Rattle.rerun.specs.Answer.{as_stop, as_replayed}
+use Rattle.rerun.proofs.Once.{turn_once, end_once, stop_once, replayed_once}
+use Rattle.listing.specs.Printed.{printed_of}
+use Rattle.listing.proofs.Placing.{printed_once}
+use Rattle.findings.specs.Answer.{as_explained}
+use Rattle.findings.proofs.Once.{explained_once}
 use Rattle.settings.proofs.Right.{hold_some}
 use Rattle.block.proofs.Answers.{row_right}
 use Rattle.demands.specs.OneAnswer.{Unique, UniqueWhereAsked, none, both}
-use Rattle.demands.proofs.Unique.{by_equations, by_equation}
+use Rattle.demands.proofs.Unique.{by_equations, by_equation, by_equations_as, by_equation_as}
 use Rattle.demands.proofs.Determined.{same_array, same_mark, same_end, same-plan, same_wired, same-run, going_run, going_array, lent, struck_by, same_turn, same_printed, same_exercised}
 
 -- ## Bits, numbers and text (`bits`)
@@ -195,14 +210,14 @@ layout_entries_of κs = by_equation (layout·entries-of.Learnt κs) _ (λ a r e 
 pub layout_width_of : (κs : Lfts 0) → Unique (layout·width-of.Learnt κs) none
 layout_width_of κs = by_equation (layout·width-of.Learnt κs) _ (λ a r e h. h)
 
-pub layout_number_of : (κs : Lfts 0) → Unique (layout·number-of.Learnt κs) none
-layout_number_of κs = by_equation (layout·number-of.Learnt κs) _ (λ a r e h. h)
+pub layout_refusal_of : (κs : Lfts 0) → Unique (layout·refusal-of.Learnt κs) none
+layout_refusal_of κs = by_equation_as (layout·refusal-of.Learnt κs) number_of _ refusal_once (λ a r e h. h)
 
 pub layout_count_ok : (κs : Lfts 0) → Unique (layout·count-ok.Learnt κs) none
 layout_count_ok κs = by_equation (layout·count-ok.Learnt κs) _ (λ a r e h. h)
 
-pub layout_entry_number : (κs : Lfts 1) → Unique (layout·entry-number.Learnt κs) none
-layout_entry_number κs = by_equation (layout·entry-number.Learnt κs) _ (λ a r e h. h)
+pub layout_check_entry : (κs : Lfts 1) → Unique (layout·check-entry.Learnt κs) none
+layout_check_entry κs = by_equation_as (layout·check-entry.Learnt κs) number_in _ check_once (λ a r e h. h)
 
 -- ## The pieces of a recording (`pieces`)
 
@@ -319,7 +334,7 @@ pub block_exercised_scans : (κs : Lfts 0) → Unique (block·exercised-scans.Le
 block_exercised_scans κs = by_equation (block·exercised-scans.Learnt κs) _ (λ a r e h. h)
 
 pub block_run_right : (κs : Lfts 1) → Unique (block·run-right.Learnt κs) (λ e. e.0.now)
-block_run_right κs = by_equations (block·run-right.Learnt κs) (λ e. e.0.now) _ _ (λ a r e h. h)
+block_run_right κs = by_equations_as (block·run-right.Learnt κs) (λ r. as_held (Ok r)) (λ e. e.0.now) _ _ (λ r q e. run_once r q (held_once (Ok r) (Ok q) e)) (λ a r e h. h)
 
 pub block_run_kept : (κs : Lfts 2) → UniqueWhereAsked (block·run-kept.Asked κs) (block·run-kept.Learnt κs) (both (λ e. e.1.0.now) (λ e. e.0.now))
 block_run_kept κs a r q e f asked h k =
@@ -346,33 +361,35 @@ rerun_begin κs a r q e f h k =
 pub rerun_row : (κs : Lfts 3) → Unique (rerun·row.Learnt κs) (both (λ e. e.1.1.0.now) (λ e. e.1.1.1.0.now))
 rerun_row κs a r q e f h k =
     let rows = h.rows_are ∙ sym k.rows_are in (
-      same_turn (h.number_is ∙ sym k.number_is) (h.records_are ∙ sym k.records_are) (going_run h.going k.going rows),
+      turn_once r q (same_turn (h.number_is ∙ sym k.number_is) (h.records_are ∙ sym k.records_are) (going_run h.going k.going rows)),
       lent (going_array h.going k.going rows) (h.laid ∙ sym k.laid),
     )
 
 pub rerun_go : (κs : Lfts 3) → Unique (rerun·go.Learnt κs) (both (λ e. e.1.1.1.0.now) (λ e. e.1.1.1.1.0.now))
 rerun_go κs a r q e f h k =
     let rows = h.rows_are ∙ sym k.rows_are in (
-      same_turn (h.number_is ∙ sym k.number_is) (h.records_are ∙ sym k.records_are) (going_run h.going k.going rows),
+      end_once r q (same_turn (h.number_is ∙ sym k.number_is) (h.records_are ∙ sym k.records_are) (going_run h.going k.going rows)),
       lent (going_array h.going k.going rows) (h.laid ∙ sym k.laid),
     )
 
-pub rerun_stop_of : (κs : Lfts 1) → Unique (rerun·stop-of.Learnt κs) none
-rerun_stop_of κs = by_equation (rerun·stop-of.Learnt κs) _ (λ a r e h. h)
-
-pub rerun_refused : (κs : Lfts 0) → Unique (rerun·refused.Learnt κs) none
-rerun_refused κs = by_equation (rerun·refused.Learnt κs) _ (λ a r e h. h)
+pub rerun_check_holds : (κs : Lfts 1) → Unique (rerun·check-holds.Learnt κs) none
+rerun_check_holds κs = by_equation_as (rerun·check-holds.Learnt κs) as_stop _ stop_once (λ a r e h. h)
 
 pub rerun_answer_of : (κs : Lfts 0) → Unique (rerun·answer-of.Learnt κs) none
-rerun_answer_of κs = by_equation (rerun·answer-of.Learnt κs) _ (λ a r e h. h)
+rerun_answer_of κs = by_equation_as (rerun·answer-of.Learnt κs) as_replayed _ replayed_once (λ a r e h. h)
+
+pub rerun_run_of : (κs : Lfts 0) → Unique (rerun·run-of.Learnt κs) none
+rerun_run_of κs = by_equation (rerun·run-of.Learnt κs) _ (λ a r e h. h)
 
 -- ## The lines of a row (`listing`)
 
 pub listing_row : (κs : Lfts 3) → Unique (listing·row.Learnt κs) (both (λ e. e.1.1.0.now) (λ e. e.1.1.1.0.now))
 listing_row κs a r q e f h k =
     let rows = h.rows_are ∙ sym k.rows_are in
-    let turn : r.turn ≡ q.turn = same_turn (h.number_is ∙ sym k.number_is) (h.records_are ∙ sym k.records_are) (going_run h.going k.going rows) in (
-      same_printed (h.full_is ∙ sym k.full_is) (h.at-is ∙ sym k.at-is) turn,
+    let run = a.1.0 in
+    let at = a.1.1.1.1.0 in
+    let turn : (printed_of run at r).turn ≡ (printed_of run at q).turn = same_turn (h.number_is ∙ sym k.number_is) (h.records_are ∙ sym k.records_are) (going_run h.going k.going rows) in (
+      printed_once run at r q (same_printed (h.full_is ∙ sym k.full_is) (h.at-is ∙ sym k.at-is) turn),
       lent (going_array h.going k.going rows) (h.text ∙ sym k.text),
     )
 
@@ -384,14 +401,11 @@ numbers_put_check κs = by_equations (numbers·put-check.Learnt κs) (λ e. e.0.
 pub numbers_or_ten : (κs : Lfts 0) → Unique (numbers·or-ten.Learnt κs) none
 numbers_or_ten κs = by_equation (numbers·or-ten.Learnt κs) _ (λ a r e h. h)
 
-pub numbers_put_totals : (κs : Lfts 1) → Unique (numbers·put-totals.Learnt κs) (λ e. e.0.now)
-numbers_put_totals κs = by_equations (numbers·put-totals.Learnt κs) (λ e. e.0.now) (λ a. tt) _ (λ a r e h. (refl, h))
+pub numbers_put_numbers : (κs : Lfts 2) → Unique (numbers·put-numbers.Learnt κs) (λ e. e.0.now)
+numbers_put_numbers κs = by_equations (numbers·put-numbers.Learnt κs) (λ e. e.0.now) (λ a. tt) _ (λ a r e h. (refl, h))
 
 pub numbers_put_counted : (κs : Lfts 1) → Unique (numbers·put-counted.Learnt κs) (λ e. e.0.now)
 numbers_put_counted κs = by_equations (numbers·put-counted.Learnt κs) (λ e. e.0.now) _ _ (λ a r e h. h)
-
-pub numbers_refuse : (κs : Lfts 1) → Unique (numbers·refuse.Learnt κs) (λ e. e.0.now)
-numbers_refuse κs = by_equations (numbers·refuse.Learnt κs) (λ e. e.0.now) _ _ (λ a r e h. h)
 
 -- ## Season totals (`sums`, `tally`, `season_bytes`)
 
@@ -401,13 +415,15 @@ sums_in_range κs = by_equation (sums·in-range.Learnt κs) _ (λ a r e h. h)
 pub sums_add_all : (κs : Lfts 2) → Unique (sums·add-all.Learnt κs) (λ e. e.0.now)
 sums_add_all κs = by_equations (sums·add-all.Learnt κs) (λ e. e.0.now) (λ a. tt) _ (λ a r e h. (refl, h))
 
-pub tally_close_all : (κs : Lfts 2) → Unique (tally·close-all.Learnt κs) (λ e. e.1.1.0.now)
-tally_close_all κs = by_equations (tally·close-all.Learnt κs) (λ e. e.1.1.0.now) (λ a. tt) _ (λ a r e h. (refl, h))
+pub tally_close_all : (κs : Lfts 1) → Unique (tally·close-all.Learnt κs) (λ e. e.0.now)
+tally_close_all κs = by_equations (tally·close-all.Learnt κs) (λ e. e.0.now) (λ a. tt) _ (λ a r e h. (refl, h))
 
-pub tally_count_events : (κs : Lfts 3) → UniqueWhereAsked (tally·count-events.Asked κs) (tally·count-events.Learnt κs) (both (λ e. e.1.1.0.now) (λ e. e.1.1.1.0.now))
+pub tally_count_events : (κs : Lfts 2) → UniqueWhereAsked (tally·count-events.Asked κs) (tally·count-events.Learnt κs) (λ e. e.0.now)
 tally_count_events κs a r q e f asked h k =
-    let same = h asked.0 asked.1 asked.2 ∙ sym (k asked.0 asked.1 asked.2) in
-    (refl, lent (ap (λ (c : Count). c.sums) same) (ap (λ (c : Count). c.stretches) same))
+    (refl, shown_injective e.0.now f.0.now (h asked.0 asked.1 asked.2 ∙ sym (k asked.0 asked.1 asked.2)))
+
+pub tally_empty : (κs : Lfts 0) → Unique (tally·empty.Learnt κs) none
+tally_empty κs a r q e f h k = (shown_injective r q (h ∙ sym k), refl)
 
 pub season_bytes_report_at : (κs : Lfts 1) → Unique (season-bytes·report-at.Learnt κs) none
 season_bytes_report_at κs = by_equation (season-bytes·report-at.Learnt κs) _ (λ a r e h. h)
@@ -447,8 +463,8 @@ text_put_last κs = by_equations (text·put-last.Learnt κs) (λ e. e.0.now) _ _
 pub text_put_refusal : (κs : Lfts 1) → Unique (text·put-refusal.Learnt κs) (λ e. e.0.now)
 text_put_refusal κs = by_equations (text·put-refusal.Learnt κs) (λ e. e.0.now) _ _ (λ a r e h. h.0)
 
-pub text_put_number : (κs : Lfts 1) → Unique (text·put-number.Learnt κs) (λ e. e.0.now)
-text_put_number κs = by_equations (text·put-number.Learnt κs) (λ e. e.0.now) _ _ (λ a r e h. h)
+pub text_put_field : (F : RattleType) (l : Laws F) (G : Ghosts F.Denot) (d : Dict) (κs : Lfts 2) → Unique (text·put-field.Learnt F l G d κs) (λ e. e.0.now)
+text_put_field F l G d κs a r q e f h k = (h.0 ∙ sym k.0, h.1 ∙ sym k.1)
 
 pub text_put_total : (κs : Lfts 2) → Unique (text·put-total.Learnt κs) (λ e. e.0.now)
 text_put_total κs = by_equations (text·put-total.Learnt κs) (λ e. e.0.now) _ _ (λ a r e h. h)
@@ -456,7 +472,7 @@ text_put_total κs = by_equations (text·put-total.Learnt κs) (λ e. e.0.now) _
 -- ## Why a file is refused (`findings`, `sentences`)
 
 pub findings_explain : (κs : Lfts 1) → Unique (findings·explain.Learnt κs) none
-findings_explain κs = by_equation (findings·explain.Learnt κs) _ (λ a r e h. h)
+findings_explain κs = by_equation_as (findings·explain.Learnt κs) as_explained _ explained_once (λ a r e h. h)
 
 pub sentences_put_finding : (κs : Lfts 1) → Unique (sentences·put-finding.Learnt κs) (λ e. e.0.now)
 sentences_put_finding κs = by_equations (sentences·put-finding.Learnt κs) (λ e. e.0.now) _ _ (λ a r e h. h.0)
@@ -495,6 +511,9 @@ reasons_reason_in κs = by_equation (reasons·reason-in.Learnt κs) _ (λ a r e 
 pub wording_put_reason : (κs : Lfts 1) → Unique (wording·put-reason.Learnt κs) (λ e. e.0.now)
 wording_put_reason κs = by_equations (wording·put-reason.Learnt κs) (λ e. e.0.now) _ _ (λ a r e h. h)
 
+pub wording_put_named : (κs : Lfts 2) → Unique (wording·put-named.Learnt κs) (λ e. e.0.now)
+wording_put_named κs = by_equations (wording·put-named.Learnt κs) (λ e. e.0.now) _ _ (λ a r e h. h)
+
 pub reason_bytes_put_numbers : (κs : Lfts 1) → Unique (reason-bytes·put-numbers.Learnt κs) (λ e. e.0.now)
 reason_bytes_put_numbers κs = by_equations (reason-bytes·put-numbers.Learnt κs) (λ e. e.0.now) (λ a. tt) _ (λ a r e h. (refl, h))
 
@@ -505,9 +524,7 @@ pub standing_reason_now : (κs : Lfts 0) → Unique (standing·reason-now.Learnt
 standing_reason_now κs = by_equation (standing·reason-now.Learnt κs) _ (λ a r e h. h)
 
 pub now_table_show : (κs : Lfts 2) → Unique (now-table·show.Learnt κs) (λ e. e.0.now)
-now_table_show κs a r q e f h k =
-    let same : (m n i j : ℕ) → m ≡ n → i ≡ j → ◌≡◌ {A = Shown} (record { number = m; size = i }) (record { number = n; size = j }) = λ m n i j x y. ap₂ (λ (u v : ℕ). record { number = u; size = v }) x y in
-    (same _ _ _ _ (h.number_is ∙ sym k.number_is) (h.size_is ∙ sym k.size_is), h.text ∙ sym k.text)
+now_table_show κs a r q e f h k = (shown_once r q (h.number_is ∙ sym k.number_is) (h.size_is ∙ sym k.size_is), h.text ∙ sym k.text)
 
 pub why_bytes_put_reasons : (κs : Lfts 2) → Unique (why-bytes·put-reasons.Learnt κs) (λ e. e.1.0.now)
 why_bytes_put_reasons κs = by_equations (why-bytes·put-reasons.Learnt κs) (λ e. e.1.0.now) _ _ (λ a r e h. h)
@@ -515,11 +532,8 @@ why_bytes_put_reasons κs = by_equations (why-bytes·put-reasons.Learnt κs) (λ
 pub why_bytes_put_now : (κs : Lfts 2) → Unique (why-bytes·put-now.Learnt κs) (λ e. e.1.0.now)
 why_bytes_put_now κs = by_equations (why-bytes·put-now.Learnt κs) (λ e. e.1.0.now) _ _ (λ a r e h. h)
 
-pub text_put_state : (κs : Lfts 1) → Unique (text·put-state.Learnt κs) (λ e. e.0.now)
-text_put_state κs = by_equations (text·put-state.Learnt κs) (λ e. e.0.now) _ _ (λ a r e h. h)
-
 pub text_put_end : (κs : Lfts 1) → Unique (text·put-end.Learnt κs) (λ e. e.0.now)
 text_put_end κs = by_equations (text·put-end.Learnt κs) (λ e. e.0.now) _ _ (λ a r e h. h)
 
-pub room_records_number : (κs : Lfts 2) → Unique (room·records-number.Learnt κs) none
-room_records_number κs = by_equation (room·records-number.Learnt κs) _ (λ a r e h. h)
+pub room_check_records : (κs : Lfts 2) → Unique (room·check-records.Learnt κs) none
+room_check_records κs = by_equation_as (room·check-records.Learnt κs) number_in _ check_once (λ a r e h. h)

@@ -16,12 +16,21 @@ pub record Gives {A R E B : Type 0} (asked : A → Type 0) (allows : A → R →
   pub nothing_asked : (a : A) → asked a
   pub says : (a : A) (r : R) (e : E) → allows a r e → (r ≡ result a) × (left e ≡ leaves a)
 
+-- the same where the result is seen through a definition, as a refusal by its number: no two results are seen alike
+pub record GivesAs {A R E B C : Type 0} (asked : A → Type 0) (allows : A → R → E → Type 0) (seen : R → C) (result : A → C) (left : E → B) (leaves : A → B) : Type 0 where
+  pub nothing_asked : (a : A) → asked a
+  pub says : (a : A) (r : R) (e : E) → allows a r e → (seen r ≡ result a) × (left e ≡ leaves a)
+  pub once : (r q : R) → seen r ≡ seen q → r ≡ q
+
 -- nothing was lent to be written
 abbrev pub none : {E : Type 0} → E → Unit {0}
 none e = tt
 
 abbrev pub Returns : {A R E : Type 0} (asked : A → Type 0) (allows : A → R → E → Type 0) (result : A → R) → Type 0
 Returns asked allows result = Gives asked allows result none none
+
+abbrev pub ReturnsAs : {A R E C : Type 0} (asked : A → Type 0) (allows : A → R → E → Type 0) (seen : R → C) (result : A → C) → Type 0
+ReturnsAs asked allows seen result = GivesAs asked allows seen result none none
 
 -- two things were lent to be written
 abbrev pub both : {E B C : Type 0} → (E → B) → (E → C) → E → B × C

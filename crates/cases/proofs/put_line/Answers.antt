@@ -6,4 +6,4 @@ pub returns-clause-out_after : goal.returns-clause-out_after
 returns-clause-out_after c =
     let s = c.args in
     let p = c.put_pair-n.ensures in
-    line-is s.out.now _ _ _ s.a.now s.b.now _ p.out_after p.value c.put8.ensures
+    line-is s.out.now _ _ _ s.a.now s.b.now _ p.out_after p.value c.put.ensures

@@ -5,4 +5,4 @@ use Rattle.cases.proofs.put_pair.Goals as goal
 pub returns-clause-out_after : goal.returns-clause-out_after
 returns-clause-out_after c =
     let s = c.args in
-    pair_is s.out.now _ _ _ s.at s.a.now s.b.now c.put_hex.ensures c.put8.ensures c.put_hex-2.ensures
+    pair_is s.out.now _ _ _ s.at s.a.now s.b.now c.put_hex.ensures c.put.ensures c.put_hex-2.ensures

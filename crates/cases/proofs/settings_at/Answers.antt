@@ -5,4 +5,4 @@ use Rattle.cases.proofs.settings_at.Goals as goal
 
 pub returns : goal.returns
 unfolding settings_at
-returns c = simp (c.get8-3.ensures, c.get16.ensures, c.get8-2.ensures, c.get8.ensures, c.effects_at.ensures, append-nil)
+returns c = simp (c.get-4.ensures, c.get-3.ensures, c.get-2.ensures, c.get.ensures, c.effects_at.ensures, append-nil)

@@ -13,7 +13,7 @@ use Rattle.numbers.proofs.put_numbers.Goals as goal
 pub loop-i-preserved : goal.loop-i-preserved
 loop-i-preserved c =
     let l = c.loop-i in
-    let e = c.put64.ensures in (
+    let e = c.put.ensures in (
       rw (e, length-sets) l.invariant.0,
       rw (e, ← zero-add (number_bytes * l.i))
           (store_turn (digits number_bytes) number_bytes (length_digits number_bytes) l.out 0 l.i c.args.values.now 0 (omega arith) ∙ l.invariant.1),

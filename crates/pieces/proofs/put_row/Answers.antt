@@ -13,6 +13,6 @@ returns c =
     let w = a.row.words in
     sets_then a.s.now _ _ a.at 4 (digits 4 a.row.hold)
     (flat_map (digits 2) (w.values ∷ w.bad ∷ w.mask ∷ w.require_reset ∷ w.reset_permit ∷ w.start_permit ∷ w.reset ∷ w.force_permit ∷ w.force_trip ∷ w.force_normal ∷ []))
-    c.put32.ensures
+    c.put.ensures
     c.put_words.ensures
     refl

@@ -12,8 +12,8 @@ pub loop-i-preserved : goal.loop-i-preserved
 loop-i-preserved c =
     let l = c.loop-i in
     let a = c.args in (
-      rw (c.put16.ensures, length-sets) l.invariant.0,
-      rw c.put16.ensures (store_turn (digits 2) 2 (length_digits 2) l.s a.at l.i a.words.now 0 (omega arith) ∙ l.invariant.1),
+      rw (c.put.ensures, length-sets) l.invariant.0,
+      rw c.put.ensures (store_turn (digits 2) 2 (length_digits 2) l.s a.at l.i a.words.now 0 (omega arith) ∙ l.invariant.1),
     )
 
 pub returns : goal.returns

@@ -18,7 +18,7 @@ returns c =
     let k = digits 1 x.kind in
     let n = digits 1 x.missing in
     let w = digits 2 x.mask in
-    let two = sets_then l _ _ a.at 1 k n c.put8.ensures c.put8-2.ensures refl in
-    let three = sets_then l _ _ a.at 2 (k ++ n) w two c.put16.ensures refl in
-    sets_then l _ _ a.at 4 (k ++ n ++ w) (digits 4 x.millis) three c.put32.ensures refl
+    let two = sets_then l _ _ a.at 1 k n c.put.ensures c.put-2.ensures refl in
+    let three = sets_then l _ _ a.at 2 (k ++ n) w two c.put-3.ensures refl in
+    sets_then l _ _ a.at 4 (k ++ n ++ w) (digits 4 x.millis) three c.put-4.ensures refl
     ∙ ap (λ (y : Numbers). sets l a.at (pack (1 ∷ 1 ∷ 2 ∷ 4 ∷ []) (y.kind ∷ y.missing ∷ y.mask ∷ y.millis ∷ []))) c.numbers_in-kind.ensures

@@ -110,5 +110,5 @@ returns c =
     let b = sym (block_is s _ (S.Next c.in-Ok.e) c.nothing_known.ensures c.in-Ok.ensures) in
     let f = sym (effects_are s _ (S.Next c.in-Ok-effects.r) c.in-Ok.e c.known_of_block.ensures c.in-Ok-effects.ensures) in
     let g = sym (rows_are s _ (S.Next c.in-Ok-rows.end) c.in-Ok.e c.in-Ok-effects.r _ c.settings_at-settings.ensures c.known_of.ensures c.in-Ok-rows.ensures) in
-    accepted s c.in-Ok.e c.in-Ok-effects.r c.in-Ok-rows.end _ _ _ _ (omega (arith, c.if-end-s.false)) c.get16.ensures refl c.width_of.ensures c.settings_at-settings.ensures
+    accepted s c.in-Ok.e c.in-Ok-effects.r c.in-Ok-rows.end _ _ _ _ (omega (arith, c.if-end-s.false)) c.get.ensures refl c.width_of.ensures c.settings_at-settings.ensures
     ∙ sym (read-rows _ _ b _ f _ g)

@@ -16,7 +16,7 @@ loop-k-init c = refl
 pub loop-k-preserved : goal.loop-k-preserved
 loop-k-preserved c =
     let l = c.loop-k in
-    rw (l.invariant, c.get64.ensures) (fill _ (replicate sum_count 0) l.k 0 (omega arith))
+    rw (l.invariant, c.get.ensures) (fill _ (replicate sum_count 0) l.k 0 (omega arith))
 
 pub returns : goal.returns
 unfolding report_of

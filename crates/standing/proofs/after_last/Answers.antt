@@ -34,5 +34,5 @@ slots_of-to-requires c =
 pub returns : goal.returns
 returns c =
     let p = c.requires in
-    stands p.0 p.1 p.2 (ended _ c.go.ensures _ c.run_of-end.ensures) (omega arith) _ _ _ _ _ c.sight_at-sight.ensures c.slots_of-from.ensures c.minus.ensures
+    stands p.0 p.1 p.2 (ended _ c.go.ensures _ c.run_of-end.ensures) (omega arith) _ _ _ _ _ c.sight_at-sight.ensures c.slots_of-from.ensures c.saturating_sub.ensures
     c.tell_all.ensures c.slots_of-to.ensures

@@ -20,6 +20,6 @@ returns c =
     let t = c.args.self.now in
     let i = slot_of e in
     let long : length t.stretches ≡ most_effects = search (rules, length_mapped) in
-    rw (c.close.ensures, c.minus-since.ensures, c.is_tripped.ensures.0)
+    rw (c.close.ensures, c.saturating_sub-since.ensures, c.is_tripped.ensures.0)
     (ap (λ (l : List ℕ). count_of (raised (closed_at i (e.scan - 1) (shown t)) (trip_sum i) (one (same e.to Tripped))) l)
     (put_shown t.stretches long i c.requires.closable.slot_fits (record { since = e.scan - 1; state = e.to })))
