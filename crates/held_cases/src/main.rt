@@ -4,13 +4,13 @@
 
 ghost use Rattle.std.specs.Prelude.{◌≡◌, ◌≤◌, length};
 
-use block::{Held, Scanned};
+use block::{Held, RunRefused, Scanned};
 use settings::Row;
 use std::io;
 use std::io::Write;
 use streams::Answer;
 
-fn run(case: &[u8; 245], buf: &mut [u8]) -> Held {
+fn run(case: &[u8; 245], buf: &mut [u8]) -> Result<Held, RunRefused> {
     let st = cases::settings_at(case, 0);
     let x = cases::state_at(case, 101);
     let hold = bits::get32(case, 219);
@@ -23,8 +23,6 @@ fn run(case: &[u8; 245], buf: &mut [u8]) -> Held {
 fn shared(r: Held) -> Scanned {
     let state = r.state;
     Scanned {
-        number: r.number,
-        place: r.place,
         state,
         effect: r.effect,
         latent: r.latent,
@@ -32,12 +30,15 @@ fn shared(r: Held) -> Scanned {
     }
 }
 
-fn put_head(r: Held, head: &mut [u8])
+// Puts what answers a held run; the counts of a refused one stay 0.
+fn put_head(r: Result<Held, RunRefused>, head: &mut [u8])
     requires { length head.old ≡ 137 }
 {
-    cases::put_answer(head, shared(r));
-    bits::put32(head, 129, r.live);
-    bits::put32(head, 133, r.exercised);
+    cases::put_answer(head, r.map(shared));
+    if let Ok(held) = r {
+        bits::put32(head, 129, held.live);
+        bits::put32(head, 133, held.exercised);
+    }
 }
 
 // Answers a case in a buffer of exactly its room.

@@ -6,7 +6,7 @@
 ghost use Rattle.std.specs.Prelude.{◌≤◌, length};
 ghost use Rattle.season_bytes.specs.Bytes.{report_length};
 
-use season::Added;
+use season::{Added, NotAdded};
 use std::io;
 use std::io::{ErrorKind, Write};
 
@@ -25,17 +25,26 @@ const ANSWER_BYTES: usize = REPORT + REPORT_BYTES;
 // The digits of an answer.
 const DIGITS: usize = 2 * ANSWER_BYTES;
 
-fn answer_bytes(a: Added) -> [u8; ANSWER_BYTES] {
+// What is not answered stays 0: an added recording has no refusal, and one that is not added no effects.
+fn answer_bytes(a: Result<Added, NotAdded>) -> [u8; ANSWER_BYTES] {
     let mut out = [0u8; ANSWER_BYTES];
-    bits::put8(&mut out, 0, a.number);
-    bits::put64(&mut out, PLACE, a.place as u64);
-    bits::put8(&mut out, EFFECTS, a.effects);
-    season_bytes::put_report(&mut out[REPORT..], a.report);
+    match a {
+        Ok(added) => {
+            bits::put8(&mut out, EFFECTS, added.effects);
+            season_bytes::put_report(&mut out[REPORT..], added.report);
+        }
+        Err(kept) => {
+            let refused = kept.refused;
+            bits::put8(&mut out, 0, u8::from(refused.refusal));
+            bits::put64(&mut out, PLACE, refused.place as u64);
+            season_bytes::put_report(&mut out[REPORT..], kept.report);
+        }
+    }
     out
 }
 
 // Writes the line of an answer.
-fn print<W: Write>(output: &mut W, a: Added) -> io::Result<()> {
+fn print<W: Write>(output: &mut W, a: Result<Added, NotAdded>) -> io::Result<()> {
     let mut line = [b'\n'; DIGITS + 1];
     cases::put_hex(&answer_bytes(a), &mut line, 0);
     output.write_all(&line)
