@@ -11,6 +11,7 @@ ghost use Rattle.bits.specs.Layout.{pack};
 ghost use Rattle.bits.specs.Lists.{tabulate};
 ghost use Rattle.bits.specs.Numbers.{num_at};
 ghost use Rattle.rules.specs.Rules.{most_code};
+ghost use Rattle.block.specs.Answer.{as_scanned};
 ghost use Rattle.cases.specs.Given.{settings_at, code_at, SlotAt, SlotsAt, StateAt, fill_at};
 ghost use Rattle.cases.specs.Answers.{slot_bytes, state_bytes, answer_bytes, hex_digit, hex_byte, pair_bytes, line_bytes};
 
@@ -167,14 +168,38 @@ fn put_words(out: &mut [u8], effect: u16, latent: u16, records: usize)
     u16::put(out, 127, (records % 65536) as u16);
 }
 
-// Puts the 129 bytes that answer a scan at the front of `out`.
-pub fn put_answer(out: &mut [u8], r: Scanned)
+// Puts the bytes of a refusal number, 0 for none, a state, two words and a number of records. There is no place outside the reader.
+fn put_parts(out: &mut [u8], number: u8, state: State, effect: u16, latent: u16, records: usize)
     requires { 129 ≤ length out.old }
-    ensures { out.new ≡ sets out.old 0 (answer_bytes r) }
+    ensures { out.new ≡ sets out.old 0 (answer_bytes (record { number = number; place = 0; state = state; effect = effect; latent = latent; records = records })) }
 {
-    put_refusal(out, r.number, r.place);
-    put_state(out, 5, r.state);
-    put_words(out, r.effect, r.latent, r.records);
+    put_refusal(out, number, 0);
+    put_state(out, 5, state);
+    put_words(out, effect, latent, records);
+}
+
+// Puts the 129 bytes that answer a scan at the front of `out`: a refusal has the given state and zeros.
+pub fn put_answer(out: &mut [u8], r: Result<Scanned, RunRefused>)
+    requires { 129 ≤ length out.old }
+    ensures { out.new ≡ sets out.old 0 (answer_bytes (as_scanned r)) }
+{
+    match r {
+        Ok(scanned) => {
+            let state = scanned.state;
+            put_parts(
+                out,
+                0,
+                state,
+                scanned.effect,
+                scanned.latent,
+                scanned.records,
+            );
+        }
+        Err(refused) => {
+            let state = refused.state;
+            put_parts(out, u8::from(refused.refusal), state, 0, 0, 0);
+        }
+    }
 }
 
 // ---- hexadecimal digits

@@ -11,7 +11,7 @@ use std::io;
 use std::io::Write;
 use streams::Answer;
 
-fn run(case: &[u8; 245], buf: &mut [u8]) -> Held {
+fn run(case: &[u8; 245], buf: &mut [u8]) -> Result<Held, RunRefused> {
     let st = cases::settings_at(case, 0);
     let x = cases::state_at(case, 101);
     let hold = u32::get(case, 219);
@@ -24,8 +24,6 @@ fn run(case: &[u8; 245], buf: &mut [u8]) -> Held {
 fn shared(r: Held) -> Scanned {
     let state = r.state;
     Scanned {
-        number: r.number,
-        place: r.place,
         state,
         effect: r.effect,
         latent: r.latent,
@@ -33,7 +31,8 @@ fn shared(r: Held) -> Scanned {
     }
 }
 
-fn put_head(r: Held, head: &mut [u8])
+// Puts what answers a held run; the counts of a refused one stay 0.
+fn put_head(r: Result<Held, RunRefused>, head: &mut [u8])
     requires { length head.old ≡ 137 }
 {
     cases::put_answer(head, shared(r));

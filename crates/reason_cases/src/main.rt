@@ -29,7 +29,7 @@ const REASON_BYTES: usize = 8;
 // The longest line: two digits a byte, the space and the end.
 const LINE_BYTES: usize = 2 * REFUSAL_BYTES + 2 * REASON_BYTES + 2;
 
-fn ask(case: &[u8; CASE_BYTES]) -> Reply {
+fn ask(case: &[u8; CASE_BYTES]) -> Result<Reason, Refusal> {
     let st = cases::settings_at(case, 0);
     let x = cases::state_at(case, STATE);
     let w = layout::words_at(case, WORDS);
@@ -37,12 +37,12 @@ fn ask(case: &[u8; CASE_BYTES]) -> Reply {
     queries::why(st, x, w, effect)
 }
 
-// Writes the line of an answer.
-fn print<W: Write>(output: &mut W, number: u8, place: usize, reason: &[u8]) -> io::Result<()>
+// Writes the line of an answer; a query's refusal has place 0.
+fn print<W: Write>(output: &mut W, number: u8, reason: &[u8]) -> io::Result<()>
     requires { length reason.now ≤ 8 }
 {
     let mut head = [0u8; REFUSAL_BYTES];
-    cases::put_refusal(&mut head, number, place);
+    cases::put_refusal(&mut head, number, 0);
     let mut line = [0u8; LINE_BYTES];
     cases::print_line(output, &head, reason, b'\n', &mut line)
 }
@@ -53,14 +53,13 @@ struct Reasons;
 impl Answer<CASE_BYTES> for Reasons {
     // Writes the line that answers a case.
     fn answer<W: Write>(output: &mut W, case: &[u8; CASE_BYTES]) -> io::Result<()> {
-        let reply = ask(case);
-        match reply {
-            Reply::Because(reason) => {
+        match ask(case) {
+            Ok(reason) => {
                 let mut bytes = [0u8; REASON_BYTES];
                 reason_bytes::put_numbers(&mut bytes, 0, reason);
-                print(output, 0, 0, &bytes)
+                print(output, 0, &bytes)
             }
-            Reply::Refused { number, place } => print(output, number, place, b""),
+            Err(refusal) => print(output, u8::from(refusal), b""),
         }
     }
 }

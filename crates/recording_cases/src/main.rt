@@ -10,7 +10,6 @@ use recording::{Answer, Step};
 use settings::{Row, Settings, Words};
 use std::io;
 use std::io::Write;
-use writing::Written;
 
 // Writes the hexadecimal digits of some bytes. If they can't be written, what comes after them is tried all the same.
 fn print_hex<W: Write>(output: &mut W, s: &[u8])
@@ -48,7 +47,7 @@ fn put_settings(out: &mut [u8], st: Settings)
     put_effects(out, st);
 }
 
-fn put_numbers(out: &mut [u8], number: u8, place: usize, rows: u16, first: usize, width: usize)
+fn put_numbers(out: &mut [u8], file: Recording)
     requires { length out.old ≡ 116 }
     ensures { length out.new ≡ 116 }
 {
@@ -59,18 +58,16 @@ fn put_numbers(out: &mut [u8], number: u8, place: usize, rows: u16, first: usize
     u32::put(out, 112, (width % 4294967296) as u32);
 }
 
-fn print_head<W: Write>(
-    output: &mut W,
-    number: u8,
-    place: usize,
-    st: Settings,
-    rows: u16,
-    first: usize,
-    width: usize,
-) {
+// Prints the reader's answer: a refusal has zeros behind its number and place, and an accepted file has zeros there.
+fn print_head<W: Write>(output: &mut W, reading: Result<Recording, Refused>) {
     let mut out = [0u8; 116];
-    put_numbers(&mut out, number, place, rows, first, width);
-    put_settings(&mut out, st);
+    match reading {
+        Ok(file) => {
+            put_settings(&mut out, file.settings);
+            put_numbers(&mut out, file);
+        }
+        Err(refused) => cases::put_refusal(&mut out, u8::from(refused.refusal), refused.place),
+    }
     print_hex(output, &out);
     let _ = print_end(output);
 }
@@ -113,15 +110,14 @@ fn put_row(out: &mut [u8], at: usize, row: Row)
 
 // Prints the row at a place, and answers the place after it.
 fn print_row<W: Write>(output: &mut W, s: &[u8], at: usize) -> usize {
-    let step = recording::row_step(s, at);
-    let Step::Row(row, next) = step else {
+    let Some(found) = recording::row_step(s, at) else {
         return at;
     };
     let mut out = [0u8; 28];
-    put_row(&mut out, at, row);
+    put_row(&mut out, at, found.row);
     print_hex(output, &out);
     let _ = print_end(output);
-    next
+    found.next
 }
 
 fn print_rows<W: Write>(output: &mut W, s: &[u8], first: usize, rows: u16) {
@@ -133,10 +129,10 @@ fn print_rows<W: Write>(output: &mut W, s: &[u8], first: usize, rows: u16) {
 
 // ---- the bytes written back
 
-fn print_piece<W: Write>(output: &mut W, w: Written, out: &[u8])
+fn print_piece<W: Write>(output: &mut W, w: Result<usize, Refusal>, out: &[u8])
     requires { length out.now ≡ 160 }
 {
-    let Written::Bytes(n) = w else {
+    let Ok(n) = w else {
         return;
     };
     if 160 < n {
@@ -161,7 +157,7 @@ fn print_written_row<W: Write>(output: &mut W, st: Settings, row: Row) {
 const WALKED: u16 = 32;
 
 // Row i, which stands at `at`.
-fn row_of(s: &[u8], i: u16, at: usize) -> Step {
+fn row_of(s: &[u8], i: u16, at: usize) -> Option<RowAt> {
     if i < WALKED {
         walk::nth(s, i)
     } else {
@@ -171,12 +167,11 @@ fn row_of(s: &[u8], i: u16, at: usize) -> Step {
 
 // Prints row i as the writer gives it, and answers the place after it; prints nothing where there is no row i.
 fn print_row_back<W: Write>(output: &mut W, st: Settings, s: &[u8], i: u16, at: usize) -> usize {
-    let step = row_of(s, i, at);
-    let Step::Row(row, next) = step else {
+    let Some(found) = row_of(s, i, at) else {
         return at;
     };
-    print_written_row(output, st, row);
-    next
+    print_written_row(output, st, found.row);
+    found.next
 }
 
 // Prints all rows as the writer gives them, and asks for one row past the last, which must print nothing.
@@ -205,19 +200,29 @@ fn put_replayed(out: &mut [u8], numbers: [u32; 7])
     }
 }
 
+// The refusal number, the place and the five counts of a replay; a refusal has zeros for the counts.
+fn numbers_of(r: Result<Counts, Refused>) -> [u32; 7] {
+    match r {
+        Ok(counts) => [
+            0,
+            0,
+            counts.records,
+            counts.rows,
+            counts.scans,
+            counts.live,
+            counts.exercised,
+        ],
+        Err(refused) => {
+            let number = u8::from(refused.refusal);
+            let place = (refused.place % 4294967296) as u32;
+            [number as u32, place, 0, 0, 0, 0, 0]
+        }
+    }
+}
+
 fn print_replay<W: Write>(output: &mut W, s: &[u8]) -> io::Result<()> {
-    let r = rerun::replay(s);
-    let numbers = [
-        r.number as u32,
-        (r.place % 4294967296) as u32,
-        r.records,
-        r.rows,
-        r.scans,
-        r.live,
-        r.exercised,
-    ];
     let mut out = [0u8; 28];
-    put_replayed(&mut out, numbers);
+    put_replayed(&mut out, numbers_of(rerun::replay(s)));
     print_hex(output, &out);
     print_end(output)
 }
@@ -228,18 +233,14 @@ fn print_replay<W: Write>(output: &mut W, s: &[u8]) -> io::Result<()> {
 fn answer<W: Write>(output: &mut W, s: &[u8]) -> io::Result<()> {
     exactness::each_is_a_byte(s);
     let reading = recording::read(s);
-    let st = reading.settings;
-    let a = reading.answer;
-    match a {
-        Answer::Accepted { rows, first, width } => {
-            print_head(output, 0, 0, st, rows, first, width);
-            print_rows(output, s, first, rows);
-            print_opening(output, st, rows);
-            print_rows_back(output, st, s, first, rows);
-            let _ = print_end(output);
-        }
-        Answer::Refused { number, place } => print_head(output, number, place, st, 0, 0, 0),
-    };
+    print_head(output, reading);
+    if let Ok(file) = reading {
+        let st = file.settings;
+        print_rows(output, s, file.first, file.rows);
+        print_opening(output, st, file.rows);
+        print_rows_back(output, st, s, file.first, file.rows);
+        let _ = print_end(output);
+    }
     print_replay(output, s)
 }
 

@@ -9,7 +9,7 @@ ghost use Rattle.std.specs.Prelude.{◌≤◌, ◌^◌, length};
 ghost use Rattle.reports.specs.Reports.{most_name, InputRoom};
 
 use inputs::{ASKED, Errors, Program, Status, Step};
-use recording::Answer;
+use settings::Refused;
 use std::env::Env;
 use std::rt::Files;
 
@@ -44,15 +44,9 @@ struct Replay<'a, R> {
     out: [u8; 65536],
 }
 
-fn number_of(answer: Answer) -> u8 {
-    match answer {
-        Answer::Accepted {
-            rows: _,
-            first: _,
-            width: _,
-        } => 0,
-        Answer::Refused { number, place: _ } => number,
-    }
+// The refusal number of what refuses a recording; 0 where nothing does.
+fn number_of(refused: Option<Refused>) -> u8 {
+    refused.map_or(0, |refused| u8::from(refused.refusal))
 }
 
 impl<R: Print + Errors> Replay<'_, R> {
@@ -73,10 +67,9 @@ impl<R: Print + Errors> Replay<'_, R> {
     fn check(&mut self, name: &[u8], s: &[u8]) -> Status
         requires { length name.now ≤ most_name }
     {
-        let reading = recording::read(s);
-        let answer = reading.answer;
+        let answer = recording::read(s);
         let size = reports::put_check(&mut self.out, name, answer);
-        listings::write_text(self.program, &self.out[..size], number_of(answer))
+        listings::write_text(self.program, &self.out[..size], number_of(answer.err()))
     }
 
     fn summarize(&mut self, name: &[u8], s: &[u8]) -> Status
@@ -84,7 +77,7 @@ impl<R: Print + Errors> Replay<'_, R> {
     {
         let replayed = rerun::replay(s);
         let size = summaries::put_summary(&mut self.out, name, replayed);
-        listings::write_text(self.program, &self.out[..size], replayed.number)
+        listings::write_text(self.program, &self.out[..size], number_of(replayed.err()))
     }
 
     fn explain(&mut self, name: &[u8], s: &[u8]) -> Status
@@ -92,7 +85,11 @@ impl<R: Print + Errors> Replay<'_, R> {
     {
         let explained = findings::explain(s);
         let size = reports::put_explained(&mut self.out, name, explained);
-        listings::write_text(self.program, &self.out[..size], explained.number)
+        listings::write_text(
+            self.program,
+            &self.out[..size],
+            number_of(explained.refused),
+        )
     }
 
     // The first line of summaries, which names the fields; other answers have none.

@@ -4,12 +4,12 @@
 
 ghost use Rattle.std.specs.Prelude.{◌≤◌, length};
 
-use block::Scanned;
+use block::{RunRefused, Scanned};
 use std::io;
 use std::io::Write;
 use streams::Answer;
 
-fn run(case: &[u8; 241], buf: &mut [u8]) -> Scanned {
+fn run(case: &[u8; 241], buf: &mut [u8]) -> Result<Scanned, RunRefused> {
     let st = cases::settings_at(case, 0);
     let x = cases::state_at(case, 101);
     let w = layout::words_at(case, 219);

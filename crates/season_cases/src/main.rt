@@ -26,7 +26,8 @@ const ANSWER_BYTES: usize = REPORT + REPORT_BYTES;
 // The digits of an answer.
 const DIGITS: usize = 2 * ANSWER_BYTES;
 
-fn answer_bytes(a: Added) -> [u8; ANSWER_BYTES] {
+// What is not answered stays 0: an added recording has no refusal, and one that is not added no effects.
+fn answer_bytes(a: Result<Added, NotAdded>) -> [u8; ANSWER_BYTES] {
     let mut out = [0u8; ANSWER_BYTES];
     u8::put(&mut out, 0, a.number);
     u64::put(&mut out, PLACE, a.place as u64);
@@ -36,7 +37,7 @@ fn answer_bytes(a: Added) -> [u8; ANSWER_BYTES] {
 }
 
 // Writes the line of an answer.
-fn print<W: Write>(output: &mut W, a: Added) -> io::Result<()> {
+fn print<W: Write>(output: &mut W, a: Result<Added, NotAdded>) -> io::Result<()> {
     let mut line = [b'\n'; DIGITS + 1];
     cases::put_hex(&answer_bytes(a), &mut line, 0);
     output.write_all(&line)

@@ -12,7 +12,7 @@ ghost use Rattle.season_table.specs.Files.{Over, files_of};
 ghost use Rattle.season_command.specs.Growth.{Begun, Countable, Grown};
 
 use inputs::{Errors, Program, Status, Step};
-use recording::Answer;
+use season::{Added, NotAdded};
 use season_table::Table;
 use std::env::Env;
 use std::rt::Files;
@@ -40,16 +40,17 @@ impl<'a, R> Adding<'a, R> {
 
 impl<R: Errors> Adding<'_, R> {
     // How adding a recording ended. If it is refused, that is said with its name.
-    fn say_refusal(&mut self, name: &[u8], number: u8, place: usize) -> Status
+    fn say_refusal(&mut self, name: &[u8], added: Result<Added, NotAdded>) -> Status
         requires { length name.now ≤ most_name }
         ensures { self.new.table ≡ self.old.table }
     {
-        if number == 0 {
-            return Status::Done;
+        match added {
+            Ok(_) => Status::Done,
+            Err(kept) => {
+                let size = reports::put_check(&mut self.out, name, Err(kept.refused));
+                self.program.say_refused(&self.out[..size])
+            }
         }
-        let answer = Answer::Refused { number, place };
-        let size = reports::put_check(&mut self.out, name, answer);
-        self.program.say_refused(&self.out[..size])
     }
 
     // Adds a recording.
@@ -59,7 +60,7 @@ impl<R: Errors> Adding<'_, R> {
     {
         let added = self.table.report.add(s);
         self.table = self.table.with_file(added);
-        self.say_refusal(name, added.number, added.place)
+        self.say_refusal(name, added)
     }
 }
 

@@ -43,7 +43,8 @@ impl<R: Print + Errors> Why<'_, R> {
     // Prints how all effects stand after the last scan.
     fn show_now(&mut self, s: &[u8]) -> Status {
         let shown = now_table::show(&mut self.out, s);
-        listings::write_text(self.program, &self.out[..shown.size], shown.number)
+        let number = shown.refusal.map_or(0, |refusal| u8::from(refusal));
+        listings::write_text(self.program, &self.out[..shown.size], number)
     }
 }
 

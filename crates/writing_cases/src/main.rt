@@ -10,18 +10,22 @@ use settings::Row;
 use std::io;
 use std::io::Write;
 use streams::Answer;
-use writing::Written;
 
 // The refusal number, place and length of a written piece: 7 bytes.
-fn head_of(w: Written) -> [u8; 7] {
+fn head_of(w: Result<usize, Refusal>) -> [u8; 7] {
     match w {
-        Written::Bytes(n) => [0, 0, 0, 0, 0, (n / 256 % 256) as u8, (n % 256) as u8],
-        Written::Refused(number) => [number, 0, 0, 0, 0, 0, 0],
+        Ok(n) => [0, 0, 0, 0, 0, (n / 256 % 256) as u8, (n % 256) as u8],
+        Err(refusal) => [u8::from(refusal), 0, 0, 0, 0, 0, 0],
     }
 }
 
 // Writes the digits of a piece's answer and of its buffer, and the character after them.
-fn print<W: Write>(output: &mut W, w: Written, buf: &[u8], last: u8) -> io::Result<()>
+fn print<W: Write>(
+    output: &mut W,
+    w: Result<usize, Refusal>,
+    buf: &[u8],
+    last: u8,
+) -> io::Result<()>
     requires { length buf.now ≤ 160 }
 {
     let mut line = [0u8; 1076];
