@@ -5,7 +5,7 @@
 ghost use Rattle.std.specs.Prelude.{◌≡◌, ◌≤◌, length};
 
 use bits::BigEndian;
-use block::{Held, Scanned};
+use block::{Held, RunRefused, Scanned};
 use settings::Row;
 use std::io;
 use std::io::Write;
@@ -35,9 +35,11 @@ fn shared(r: Held) -> Scanned {
 fn put_head(r: Result<Held, RunRefused>, head: &mut [u8])
     requires { length head.old ≡ 137 }
 {
-    cases::put_answer(head, shared(r));
-    u32::put(head, 129, r.live);
-    u32::put(head, 133, r.exercised);
+    cases::put_answer(head, r.map(shared));
+    if let Ok(held) = r {
+        u32::put(head, 129, held.live);
+        u32::put(head, 133, held.exercised);
+    }
 }
 
 // Answers a case in a buffer of exactly its room.

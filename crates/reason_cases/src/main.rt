@@ -7,7 +7,8 @@
 ghost use Rattle.std.specs.Prelude.{◌≤◌, length};
 
 use bits::BigEndian;
-use queries::Reply;
+use reasons::Reason;
+use settings::Refusal;
 use std::io;
 use std::io::Write;
 use streams::Answer;

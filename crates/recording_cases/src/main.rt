@@ -6,8 +6,9 @@
 ghost use Rattle.std.specs.Prelude.{◌≡◌, ◌+◌, ◌≤◌, length};
 
 use bits::BigEndian;
-use recording::{Answer, Step};
-use settings::{Row, Settings, Words};
+use recording::{Recording, RowAt};
+use rerun::Counts;
+use settings::{Refusal, Refused, Row, Settings, Words};
 use std::io;
 use std::io::Write;
 
@@ -51,11 +52,9 @@ fn put_numbers(out: &mut [u8], file: Recording)
     requires { length out.old ≡ 116 }
     ensures { length out.new ≡ 116 }
 {
-    u8::put(out, 0, number);
-    u32::put(out, 1, (place % 4294967296) as u32);
-    u16::put(out, 106, rows);
-    u32::put(out, 108, (first % 4294967296) as u32);
-    u32::put(out, 112, (width % 4294967296) as u32);
+    u16::put(out, 106, file.rows);
+    u32::put(out, 108, (file.first % 4294967296) as u32);
+    u32::put(out, 112, (file.width % 4294967296) as u32);
 }
 
 // Prints the reader's answer: a refusal has zeros behind its number and place, and an accepted file has zeros there.

@@ -7,7 +7,7 @@ ghost use Rattle.std.specs.Prelude.{◌≤◌, length};
 ghost use Rattle.season_bytes.specs.Bytes.{report_length};
 
 use bits::BigEndian;
-use season::Added;
+use season::{Added, NotAdded};
 use std::io;
 use std::io::{ErrorKind, Write};
 
@@ -29,10 +29,18 @@ const DIGITS: usize = 2 * ANSWER_BYTES;
 // What is not answered stays 0: an added recording has no refusal, and one that is not added no effects.
 fn answer_bytes(a: Result<Added, NotAdded>) -> [u8; ANSWER_BYTES] {
     let mut out = [0u8; ANSWER_BYTES];
-    u8::put(&mut out, 0, a.number);
-    u64::put(&mut out, PLACE, a.place as u64);
-    u8::put(&mut out, EFFECTS, a.effects);
-    season_bytes::put_report(&mut out[REPORT..], a.report);
+    match a {
+        Ok(added) => {
+            u8::put(&mut out, EFFECTS, added.effects);
+            season_bytes::put_report(&mut out[REPORT..], added.report);
+        }
+        Err(kept) => {
+            let refused = kept.refused;
+            u8::put(&mut out, 0, u8::from(refused.refusal));
+            u64::put(&mut out, PLACE, refused.place as u64);
+            season_bytes::put_report(&mut out[REPORT..], kept.report);
+        }
+    }
     out
 }
 

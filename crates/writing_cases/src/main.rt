@@ -6,7 +6,7 @@
 ghost use Rattle.std.specs.Prelude.{◌≤◌, length};
 
 use bits::BigEndian;
-use settings::Row;
+use settings::{Refusal, Row};
 use std::io;
 use std::io::Write;
 use streams::Answer;
