@@ -16,7 +16,7 @@ ghost use Rattle.cases.specs.Given.{settings_at, code_at, SlotAt, SlotsAt, State
 ghost use Rattle.cases.specs.Answers.{slot_bytes, state_bytes, answer_bytes, hex_digit, hex_byte, pair_bytes, line_bytes};
 
 use bits::BigEndian;
-use block::{Scanned, State};
+use block::{RunRefused, Scanned, State};
 use rules::{EffectState, Slot};
 use settings::Settings;
 use std::io;
