@@ -1,4 +1,4 @@
--- What is answered, and what the lent bytes then hold: the first refusal, or the bytes where they fit.
+-- What is answered, and what the lent bytes then hold: the first refusal, 10 where what is due does not fit, or the bytes.
 use mathlib.Core.Path.{◌≡◌, sym, ◌∙◌}
 use mathlib.Core.List.{List}
 use Prim.Native.Nat.{ℕ, ◌≤◌}
@@ -22,6 +22,10 @@ module _ (first due : ℕ) (out bytes : List ℕ) where
   refused-first r e h = refused r (or_else_first first (room_number due (length out)) r e h) h
 
   module _ (z : first ≡ 0) where
+    -- there is too little room
+    pub refused_room : (r : ℕ) → r ≡ room_number due (length out) → (r ≡ 0 → ⊥) → Answered r out
+    refused_room r e h = refused r (or_else_next first (room_number due (length out)) first r (λ j. first) z e) h
+
     pub crosses : due ≤ length out → (out' : List ℕ) → out' ≡ sets out 0 bytes → Answered 0 out'
     crosses h out' e =
         let none : 0 ≡ n = or_else_next first (room_number due (length out)) first 0 (λ j. first) z (sym (room_enough due (length out) h)) in
