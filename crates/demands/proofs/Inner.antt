@@ -351,10 +351,10 @@ block_run_kept κs a r q e f asked h k =
 
 -- ## A replay row by row (`rerun`)
 
-pub rerun_begin : (κs : Lfts 1) → Unique (rerun·begin.Learnt κs) (λ e. e.1.1.1.1.0.now)
+pub rerun_begin : (κs : Lfts 1) → Unique (rerun·begin.Learnt κs) (λ e. e.1.0.now)
 rerun_begin κs a r q e f h k =
     let shown = h.totals ∙ sym k.totals in (
-      same-run e.1.1.1.1.0.now f.1.1.1.1.0.now shown (same-plan h.wired k.wired) (h.wide ∙ sym k.wide) (h.many ∙ sym k.many),
+      same-run e.1.0.now f.1.0.now shown (same-plan h.wired k.wired) (h.wide ∙ sym k.wide) (h.many ∙ sym k.many),
       same_wired h.wired k.wired (ap (λ (t : Totals). t.board) shown),
     )
 

@@ -62,11 +62,8 @@ module _ (records totals : List ℕ) (room : record_length * 5 ≤ length record
   the_session_crosses =
       let few : record_length * length (replay session).replay.events ≤ length records = omega (arith, room, ap length the_session.1) in
       let none = nothing_refused session (length records) (length totals) the_session.0 few totals-room in
-      let all =
-      crosses session records totals (counts (replay session).replay) (sets records 0 session_records) (fitted (numbers (crossing (counts (replay session).replay))) totals) none refl
-      (ap (sets records 0) (sym records_are)) refl
-      in (
+      let all = crosses session records (length totals) (counts (replay session).replay) (sets records 0 session_records) none refl (ap (sets records 0) (sym records_are)) in (
         none,
-        sym all.1.0,
-        sym all.1.1 ∙ ap (λ (l : List ℕ). fitted l totals) totals_are ∙ sym (fits session_totals totals totals-room),
+        sym all.1,
+        ap (λ (r : Replayed). fitted (numbers (crossing r)) totals) (sym all.0) ∙ ap (λ (l : List ℕ). fitted l totals) totals_are ∙ sym (fits session_totals totals totals-room),
       )
