@@ -181,7 +181,7 @@ pub fn put_text(s: &mut [u8], at: usize, text: &[u8]) -> usize
 }
 
 // Writes a number in decimal at `at`, and answers the place after it; all else stays. It calls itself for the digits
-// before the last, as the definition does: at most 19 times.
+// before the last, as the definition does: at most 19 times. Std does not say what stands in a lent slice that `write!` has written to.
 pub fn put_decimal(s: &mut [u8], at: usize, v: u64) -> usize
     requires { at + length (decimal v) ≤ length s.old }
     ensures { (result ≡ at + length (decimal v)) × (s.new ≡ sets s.old at (decimal v)) }

@@ -204,7 +204,7 @@ pub fn put_answer(out: &mut [u8], r: Result<Scanned, RunRefused>)
 
 // ---- hexadecimal digits
 
-// Written by hand: `write!` prints digits, and no contract says which.
+// Written by hand: std does not say what stands in a lent slice that `write!` has written to.
 fn hex_digit(v: u8) -> u8
     requires { v < 16 }
     ensures { result ≡ hex_digit v }

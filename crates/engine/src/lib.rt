@@ -173,6 +173,7 @@ pub fn stroke(buf: &mut [u8], board: &mut [u32; 64], plan: Plan, task: Task, fro
     let mut x = begin(from);
     let mut left = task.hold;
     let mut fuel = 2 * plan.count + 1;
+    // No `for`: each turn takes off the scans that it jumps over, so that no counter gives the number of turns. By the fuel they end.
     while 0 < left {
         fuel -= 1;
         let y = scan(buf, board, plan, task.seen, w, x);

@@ -1,7 +1,7 @@
 // Named inputs of a program: each argument but the first names a file, or standard input by `-`, which is read to the front of a lent buffer.
 // If an input cannot be opened or read, standard error says so with its name; it is not taken for an empty one. Every command that takes
-// names stands on this crate, and says by a `Step` what it does with an input. It rests on `bits` and on std's files, arguments and standard streams; no contract can say what is read or
-// written. All but the messages and the statuses may change.
+// names stands on this crate, and says by a `Step` what it does with an input. It rests on `bits` and on std's files, arguments and standard
+// streams; no contract can say what is read or written. All but the messages and the statuses may change.
 #![tactic(auto)]
 
 ghost use Rattle.std.specs.Prelude.{◌≡◌, ℕ, None, Some, ◌⊎◌, ◌+◌, ◌≤◌, ◌<◌, ◌^◌, max, min, length, IfOk, IfSome, MatchResult};

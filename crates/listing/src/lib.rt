@@ -1,8 +1,9 @@
 // The listing of a replay, piece by piece: the opening, the lines of each row, and the closing. Document 01, "One session,
-// whole"; document 02, L4: `why` asks for a last column with reasons. Each piece goes to a place of a lent buffer. A buffer with fewer than MOST_PIECE bytes left is full: then nothing is
-// written, and the caller goes on with more room. A place within the buffer stays within it, so that a caller need not show it.
-// It rests on `rerun`, `reasoned` and `text`, and on what those rest on. How lines are put, and the records that a row leaves on the way, may change
-// without moving a contract; the text is specs/Text of `text`, and when a buffer is full is part of every contract.
+// whole"; document 02, L4: `why` asks for a last column with reasons. Each piece goes to a place of a lent buffer. A buffer with fewer than
+// MOST_PIECE bytes left is full: then nothing is written, and the caller goes on with more room. A place within the buffer stays within it, so
+// that a caller need not show it. It rests on `rerun`, `reasoned` and `text`, and on what those rest on. How lines are put, and the records that
+// a row leaves on the way, may change without moving a contract; the text is specs/Text of `text`, and when a buffer is full is part of every
+// contract.
 #![tactic(auto)]
 
 ghost use Rattle.std.specs.Prelude.{◌≡◌, ◌+◌, ◌<◌, ◌≤◌, length, IfSome};

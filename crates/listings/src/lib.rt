@@ -24,7 +24,8 @@ fn status_of(number: u8) -> Status
     Status::Done
 }
 
-// Writes the text, and answers how a recording of this refusal number ended.
+// Writes the text, and answers how a recording of this refusal number ended. The number is what callers have in common: the
+// refusals of some have a place, and those of others none.
 pub fn write_text<R: Print + Errors>(program: &Program<R>, text: &[u8], number: u8) -> Status
     ensures { Ended number (status_number result) }
 {

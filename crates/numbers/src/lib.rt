@@ -31,7 +31,7 @@ pub fn put_numbers(out: &mut [u8], values: &[u64])
 
 // ---- the answer to a check
 
-// The refusal number, or 10 if it is 0.
+// The refusal number, or 10 if it is 0. Here and below it is a number, since it crosses by the C interface.
 pub fn or_ten(number: u8) -> u8
     ensures { result ≡ or_else number 10 }
 {

@@ -50,6 +50,7 @@ fn fill(
 {
     let mut t = run;
     let mut at = from;
+    // No `for`: it would count the rows beside the run, which counts them itself.
     while t.rows < t.row_count {
         let Some(p) = listing::row(s, t, board, out, at, why) else {
             return Progress::Full { at, run: t };
@@ -173,6 +174,7 @@ fn print_rows<W: Write>(
 {
     let mut sent = sending::nothing();
     let mut filled = fill(s, run, board, out, from, why);
+    // No `for`: how often the buffer is full is known only when the last row has been put.
     loop {
         match filled {
             Progress::Full { at, run: next } => {

@@ -1,6 +1,6 @@
 // The reason of an effect's state after a scan, in the operator's terms. Document 02, L4. It rests on `settings` for what a row gives, on
-// `effects` for the records, and on `rules` and `bits`. Which reason fits is specs/Fits, and exactly one does (proofs/Exactly). How the reason is found may change
-// without moving a promise.
+// `effects` for the records, and on `rules` and `bits`. Which reason fits is specs/Fits, and exactly one does (proofs/Exactly). How the reason is
+// found may change without moving a promise.
 #![tactic(auto)]
 
 ghost use Rattle.std.specs.Prelude.{◌≡◌, ◌<◌, ◌≤◌};

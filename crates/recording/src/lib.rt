@@ -121,7 +121,8 @@ fn nothing_known() -> Known
     }
 }
 
-// Reads a recording, section by section, and stops at the first refusal.
+// Reads a recording, section by section, and stops at the first refusal. Document 01 has each section's answer taken apart by `let .. else`,
+// so there is no `?`.
 pub fn read(s: &[u8]) -> Result<Recording, Refused>
     ensures { as_reading result ≡ reading s.now }
 {

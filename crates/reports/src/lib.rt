@@ -39,6 +39,8 @@ fn put_accepted(out: &mut [u8], name: &[u8], rows: u16) -> usize
     bits::put_text(out, end, b" rows\n")
 }
 
+// Here and below number and place are parameters: how long their digits can get follows from a parameter's range, and that of a field of a
+// `Refused` is not known to a proof.
 fn put_refused(out: &mut [u8], name: &[u8], number: u8, place: usize) -> usize
     requires { Roomy name.now out.old }
     ensures value { PutsFirst out.old (refused_line name.now number place) result out.new }

@@ -159,6 +159,7 @@ pub fn go(
 {
     let mut t = run;
     let earlier = t.records;
+    // No `for`: it would count the rows beside the run, which counts them itself.
     while t.rows < until {
         let at = place_of(keep, t.records - earlier);
         let turn = row(s, t, board, &mut buf[at..])?;

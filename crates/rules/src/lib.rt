@@ -52,7 +52,8 @@ impl From<EffectState> for u8 {
 }
 
 impl EffectState {
-    // The state whose code this is.
+    // The state whose code this is. No `TryFrom`: each caller has proved that it is a code, and would have to handle an error that cannot
+    // occur.
     pub fn of_code(n: u8) -> EffectState
         requires { n ≤ most_code }
         ensures { code result ≡ n }

@@ -20,7 +20,8 @@ use settings::{Refusal, Refused};
 use tally::Count;
 
 // 113 sums: for each effect, in its slot from 0, seven: the scans after which it stood in each state, by the state's code, and its
-// changes into Tripped; behind those of sixteen effects the exercised scans.
+// changes into Tripped; behind those of sixteen effects the exercised scans. They are one array since they cross in this order, and are added
+// as one.
 #[derive(Clone, Copy)]
 pub struct Report {
     pub sums: [u64; 113],

@@ -62,7 +62,7 @@ fn add_into(s: &[u8], bytes: &mut [u8]) -> Result<(), Refusal>
     Ok(())
 }
 
-// Adds a recording to the report that `bytes` begins with, and answers its refusal number.
+// Adds a recording to the report that `bytes` begins with, and answers its refusal number, which crosses by the C interface.
 pub fn add(s: &[u8], bytes: &mut [u8]) -> u8
     ensures value { result ≡ into_number s.now bytes.old }
     ensures bytes_after { bytes.new ≡ season_into s.now bytes.old }

@@ -205,7 +205,7 @@ pub fn put_last(
     put_total(out, fourth, b"exercised", exercised as u64, b'\n')
 }
 
-// Puts the line of a refusal.
+// Puts the line of a refusal, whatever its number is: what this promises of any number, it promises still.
 pub fn put_refusal(out: &mut [u8], at: usize, number: u8, place: usize) -> usize
     requires { at + most_piece ≤ length out.old }
     ensures value { Puts out.old at (refusal_line number place) result out.new }

@@ -63,6 +63,7 @@ impl<R: Print + Errors> Step for Why<'_, R> {
                 return status;
             }
         }
+        // A match and no closure: it stands once, and a closure for each case would be handed out.
         match self.asked {
             Asked::Listing => listings::list(self.program, input, true, &mut self.out),
             Asked::Now => self.show_now(input),

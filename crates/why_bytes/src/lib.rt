@@ -108,7 +108,7 @@ fn reasons_of(s: &[u8], out: &mut [u8]) -> Result<(), Refusal>
     Ok(())
 }
 
-// Writes the reasons of all events of a recording to the front of `out`, and answers its refusal number.
+// Writes the reasons of all events of a recording to the front of `out`, and answers its refusal number, which crosses by the C interface.
 pub fn put_reasons(s: &[u8], out: &mut [u8]) -> u8
     ensures value { result ≡ reasons_number s.now (length out.old) }
     ensures out_after { out.new ≡ reasons_into s.now out.old }
@@ -146,7 +146,8 @@ fn now_of(s: &[u8], out: &mut [u8]) -> Result<(), Refusal>
     Ok(())
 }
 
-// Writes the reasons of all effects after the last scan of a recording to the front of `out`, and answers its refusal number.
+// Writes the reasons of all effects after the last scan of a recording to the front of `out`, and answers its refusal number, which crosses by
+// the C interface.
 pub fn put_now(s: &[u8], out: &mut [u8]) -> u8
     ensures value { result ≡ now_number s.now (length out.old) }
     ensures out_after { out.new ≡ now_into s.now out.old }

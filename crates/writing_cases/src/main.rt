@@ -13,10 +13,12 @@ use streams::Answer;
 
 // The refusal number, place and length of a written piece: 7 bytes.
 fn head_of(w: Result<usize, Refusal>) -> [u8; 7] {
+    let mut head = [0u8; 7];
     match w {
-        Ok(n) => [0, 0, 0, 0, 0, (n / 256 % 256) as u8, (n % 256) as u8],
-        Err(refusal) => [u8::from(refusal), 0, 0, 0, 0, 0, 0],
+        Ok(n) => u16::put(&mut head, 5, (n % 65536) as u16),
+        Err(refusal) => u8::put(&mut head, 0, u8::from(refusal)),
     }
+    head
 }
 
 // Writes the digits of a piece's answer and of its buffer, and the character after them.
