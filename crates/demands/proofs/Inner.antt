@@ -3,6 +3,7 @@
 use mathlib.Core.Path.{◌≡◌, refl, sym, ap, ap₂, ◌∙◌}
 use mathlib.Core.List.{List}
 use Prim.Native.Nat.{ℕ}
+use native.Mathlib.Omega.{arith}
 use contract.Lifetimes.{Lfts}
 use Rattle.bits.proofs.bit.Reads as bits·bit
 use Rattle.bits.proofs.put_bit.Reads as bits·put-bit
@@ -14,11 +15,17 @@ use Rattle.bits.proofs.U8BigEndian.put.Reads as bits·put8
 use Rattle.bits.proofs.U16BigEndian.put.Reads as bits·put16
 use Rattle.bits.proofs.U32BigEndian.put.Reads as bits·put32
 use Rattle.bits.proofs.U64BigEndian.put.Reads as bits·put64
+use Rattle.bits.proofs.OnesIterator.next.Reads as bits·ones
+use Rattle.bits.specs.Words.{LowestOf}
 use Rattle.bits.proofs.copy_front.Reads as bits·copy-front
 use Rattle.bits.proofs.put_text.Reads as bits·put-text
 use Rattle.bits.proofs.put_decimal.Reads as bits·put-decimal
 use Rattle.rules.proofs.EffectState.of_code.Reads as rules·of-code
 use Rattle.rules.proofs.States.{code_injective}
+use Rattle.settings.proofs.numbers.RefusalFromRefused.from.Reads as settings·from
+use Rattle.block.proofs.RefusalFromRunRefused.from.Reads as block·from
+use Rattle.rerun.proofs.RefusedFromStopped.from.Reads as rerun·from
+use Rattle.season.proofs.RefusalFromNotAdded.from.Reads as season·from
 use Rattle.effects.proofs.Records.{one_event}
 use Rattle.effects.proofs.event_at.Reads as effects·event-at
 use Rattle.effects.proofs.put_record.Reads as effects·put-record
@@ -121,7 +128,7 @@ use Rattle.summaries.proofs.put_summary.Reads as summaries·put-summary
 use Rattle.summaries.proofs.put_summary_header.Reads as summaries·put-summary-header
 use Rattle.wiring.specs.Wiring.{Stroked}
 use Rattle.rerun.specs.Turn.{Totals}
-use Rattle.std.proofs.Common.{Ok}
+use Rattle.std.proofs.Common.{Ok, Option, None, Some}
 use Rattle.settings.specs.Refusals.{number_of, number_in}
 use Rattle.settings.proofs.Once.{refusal_once, check_once}
 use Rattle.block.specs.Answer.{as_held}
@@ -170,6 +177,15 @@ bits_put32 κs = by_equations (bits·put32.Learnt κs) (λ e. e.0.now) (λ a. tt
 pub bits_put64 : (κs : Lfts 1) → Unique (bits·put64.Learnt κs) (λ e. e.0.now)
 bits_put64 κs = by_equations (bits·put64.Learnt κs) (λ e. e.0.now) (λ a. tt) _ (λ a r e h. (refl, h))
 
+lowest_once : (w : ℕ) (r q : Option ℕ) (l m : ℕ) → LowestOf w r l → LowestOf w q m → (r ≡ q) × (l ≡ m)
+lowest_once w None None l m h k = (refl, h.1 ∙ sym k.1)
+lowest_once w None (Some j) l m h k = absurd (omega (arith, h.0, k.0))
+lowest_once w (Some i) None l m h k = absurd (omega (arith, h.0, k.0))
+lowest_once w (Some i) (Some j) l m h k = (ap Some (h.1 ∙ sym k.1), h.3 ∙ sym k.3)
+
+pub bits_ones : (κs : Lfts 1) → Unique (bits·ones.Learnt κs) (λ e. e.0.now.0)
+bits_ones κs a r q e f h k = lowest_once a.0.now.0 r q e.0.now.0 f.0.now.0 h.0 k.0
+
 pub bits_copy_front : (κs : Lfts 2) → Unique (bits·copy-front.Learnt κs) (λ e. e.1.1.0.now)
 bits_copy_front κs = by_equations (bits·copy-front.Learnt κs) (λ e. e.1.1.0.now) (λ a. tt) _ (λ a r e h. (refl, h))
 
@@ -178,6 +194,20 @@ bits_put_text κs = by_equations (bits·put-text.Learnt κs) (λ e. e.0.now) _ _
 
 pub bits_put_decimal : (κs : Lfts 1) → Unique (bits·put-decimal.Learnt κs) (λ e. e.0.now)
 bits_put_decimal κs = by_equations (bits·put-decimal.Learnt κs) (λ e. e.0.now) _ _ (λ a r e h. h)
+
+-- ## What a refusal carries is left out (`settings`, `block`, `rerun`, `season`)
+
+pub settings_from : (κs : Lfts 0) → Unique (settings·from.Learnt κs) none
+settings_from κs = by_equation (settings·from.Learnt κs) _ (λ a r e h. h)
+
+pub block_from : (κs : Lfts 0) → Unique (block·from.Learnt κs) none
+block_from κs = by_equation (block·from.Learnt κs) _ (λ a r e h. h)
+
+pub rerun_from : (κs : Lfts 0) → Unique (rerun·from.Learnt κs) none
+rerun_from κs = by_equation (rerun·from.Learnt κs) _ (λ a r e h. h)
+
+pub season_from : (κs : Lfts 0) → Unique (season·from.Learnt κs) none
+season_from κs = by_equation (season·from.Learnt κs) _ (λ a r e h. h)
 
 -- ## Event records (`effects`)
 

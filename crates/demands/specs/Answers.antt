@@ -3,7 +3,7 @@
 -- clauses in src/ and proves that they are what a call gives (`known` beside them), so this page is about the contracts themselves.
 -- Where a result is an enum, it is seen through the definition that has document 01's number and values of each case (`as_scanned`, ..).
 -- Arguments stand in the order of src/, and `_` is what follows the last. Document 01, "What each contract has to exclude"; document 02, L1 and L4.
-use Rattle.std.specs.Prelude.{◌≡◌, cond, ◌-◌, ◌^◌, ltb, length}
+use Rattle.std.specs.Prelude.{◌≡◌, ◌^◌, ltb, length}
 use seplogic.Ra.Ura.{Ura}
 use base.Logic.{SProp, emp}
 use prog.Memory.{Memory}
