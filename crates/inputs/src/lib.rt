@@ -135,8 +135,10 @@ pub struct Program<'a, R> {
 }
 
 impl<'a, R> Program<'a, R> {
+    // A program that runs by this runtime and under this name.
     pub fn new(rt: &'a R, name: &'a [u8]) -> Program<'a, R>
         requires { length name.now ≤ most_program }
+        ensures { (result.rt ≡ rt.entry) × (result.name ≡ name.entry) }
     {
         Program { rt, name }
     }
