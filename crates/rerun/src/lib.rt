@@ -7,7 +7,8 @@
 
 ghost use Rattle.std.specs.Prelude.{◌≡◌, ◌≤◌, length, replicate};
 ghost use Rattle.cells.specs.Array.{array_length};
-ghost use Rattle.recording.specs.Opened.{IsRead};
+ghost use Rattle.recording.specs.Answer.{Accepted};
+ghost use Rattle.recording.specs.Reader.{reading};
 ghost use Rattle.rerun.specs.Answer.{as_turn, as_end, as_replayed, as_stop};
 ghost use Rattle.rerun.specs.Replay.{replay as whole_replay, answered};
 ghost use Rattle.rerun.specs.Turn.{Begins, RowReady, RowDone, RowsReady, RowsDone, SmallSums, place_of, run_after, counts_in, answer_of, stop_of};
@@ -183,7 +184,7 @@ pub fn run_of(end: Result<Run, Stopped>) -> Run
 // Refuses the first row of an accepted file whose scans cannot be counted. This is known before any row is run: the scans done are the sum of
 // the holds so far.
 pub fn check_holds(s: &[u8], file: Recording) -> Result<(), Refused>
-    requires { IsRead file s.now }
+    requires { (reading s.now).answer ≡ Accepted file.rows file.first file.width }
     ensures { as_stop result ≡ stop_of (whole_replay s.now) }
 {
     let mut done = 0;

@@ -37,3 +37,6 @@ returns-in-Err c =
     let is = refusal_is _ _ c.in-Err.ensures in
     let run = sym (refused_replay s _ _ is) in
     c.explained_at-in-Err.ensures ∙ (λ j. explanation s (run j).number (run j).place (sym (ap row_count_of is) j))
+
+pub check_holds-requires : goal.check_holds-requires
+check_holds-requires c = answer_is _ c.in-Ok.file c.in-Ok.ensures

@@ -46,3 +46,6 @@ returns c =
     let put : (c.put_table.result ≡ length (table a.file.settings)) × (c.put_table.new.out ≡ sets a.out.now 0 (table a.file.settings)) = c.put_table.ensures.value in
     let same = ap table (settings_are _ c.args.file p.0) in
     shows_table accepted runs c.at_end-x.ensures (put.0 ∙ ap length same, put.1 ∙ ap (sets a.out.now 0) same) c.put_table.ensures.upper_bound
+
+pub check_holds-requires : goal.check_holds-requires
+check_holds-requires c = answer_is _ c.args.file c.requires.0

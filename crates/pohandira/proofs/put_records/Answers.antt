@@ -97,3 +97,6 @@ returns c =
     let answer = c.answer_of.ensures ∙ answered_all c.go.ensures going.many ∙ granted_none (counts (replay s).replay) (refusal (replay s).place) (replay s).number whole in
     let all = crosses s a.records.now a.totals_room _ _ none answer (kept-all c.go.ensures going.many refl rows) in
     record { value = all.0; records_after = all.1 }
+
+pub check_holds-requires : goal.check_holds-requires
+check_holds-requires c = answer_is _ c.in_ok-file.file c.in_ok-file.ensures

@@ -75,3 +75,6 @@ returns c =
     ∙ ap (λ (st : Settings). sets out 0 (flat_map numbers_of (tabulate (reason_now st x) st.count))) settings
     ∙ ap (λ (rs : List Reason). sets out 0 (flat_map numbers_of rs)) (sym all)) in
     record { value = both.0; out_after = both.1 }
+
+pub check_holds-requires : goal.check_holds-requires
+check_holds-requires c = answer_is _ c.in_ok-file.file c.in_ok-file.ensures

@@ -68,3 +68,6 @@ returns c =
     let fit = limit_kept (reason_length * length (replay file).replay.events) (length c.args.out.now) 9 (sym c.in_ok-check_records.ensures) in
     let both = answers.crosses (replay file).number (reason_length * length (replay file).replay.events) c.args.out.now (reason_bytes (reasoned file)) whole fit _ c.put_rows.ensures in
     record { value = both.0; out_after = both.1 }
+
+pub check_holds-requires : goal.check_holds-requires
+check_holds-requires c = answer_is _ c.in_ok-file.file c.in_ok-file.ensures

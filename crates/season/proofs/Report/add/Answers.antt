@@ -24,3 +24,6 @@ returns-in-Err c =
 
 pub add_whole-requires : goal.add_whole-requires
 add_whole-requires c = (c.in-Ok.ensures, sym (ap (λ (x : Stop). x.number) c.in_default-check_holds.ensures))
+
+pub check_holds-requires : goal.check_holds-requires
+check_holds-requires c = answer_is _ c.in-Ok.file c.in-Ok.ensures
