@@ -5,12 +5,10 @@
 ghost use Rattle.std.specs.Prelude.{◌≡◌, [], ◌∷◌, ◌*◌, ◌≤◌, length};
 ghost use Rattle.std.proofs.lemmas.List.Edits.{sets};
 ghost use Rattle.settings.specs.Refusals.{or_else, room_number};
-ghost use Rattle.rerun.specs.Answer.{as_replayed};
 ghost use Rattle.numbers.specs.Numbers.{number_bytes, check_bytes, totals_bytes, numbers, fitted, crossing};
 
 use bits::BigEndian;
-use rerun::Counts;
-use settings::Refused;
+use rerun::Replayed;
 
 // The bytes of a number, of the answer to a check (three numbers), and of totals (seven).
 const NUMBER_BYTES: usize = 8;
@@ -55,30 +53,24 @@ pub fn put_check(out: &mut [u8], number: u8, place: usize, rows: u16) -> u8
 
 // ---- what a replay results in
 
-// The seven numbers of what a replay results in: a refusal has zeros beside its number and place.
-fn numbers_of(r: Result<Counts, Refused>) -> [u64; 7]
-    ensures { result ≡ crossing (as_replayed r) }
+// The seven numbers of what a replay results in.
+fn numbers_of(r: Replayed) -> [u64; 7]
+    ensures { result ≡ crossing r }
 {
-    match r {
-        Ok(counts) => [
-            counts.records as u64,
-            counts.rows as u64,
-            counts.scans as u64,
-            counts.live as u64,
-            counts.exercised as u64,
-            0,
-            0,
-        ],
-        Err(refused) => {
-            let number = u8::from(refused.refusal);
-            [0, 0, 0, 0, 0, number as u64, refused.place as u64]
-        }
-    }
+    [
+        r.records as u64,
+        r.rows as u64,
+        r.scans as u64,
+        r.live as u64,
+        r.exercised as u64,
+        r.number as u64,
+        r.place as u64,
+    ]
 }
 
 // Writes what a replay results in, if it fits.
-fn put_totals(out: &mut [u8], r: Result<Counts, Refused>)
-    ensures { out.new ≡ fitted (numbers (crossing (as_replayed r))) out.old }
+fn put_totals(out: &mut [u8], r: Replayed)
+    ensures { out.new ≡ fitted (numbers (crossing r)) out.old }
 {
     if out.len() < TOTALS_BYTES {
         return;
@@ -86,25 +78,14 @@ fn put_totals(out: &mut [u8], r: Result<Counts, Refused>)
     put_numbers(out, &numbers_of(r));
 }
 
-// The refusal number of what a replay results in.
-fn number_of(r: Result<Counts, Refused>) -> u8
-    ensures { result ≡ (as_replayed r).number }
-{
-    match r {
-        Ok(_) => 0,
-        Err(refused) => u8::from(refused.refusal),
-    }
-}
-
 // Writes what a replay results in, if it fits, and answers its refusal number, or 10 where it does not fit and nothing else refuses.
-pub fn put_counted(out: &mut [u8], r: Result<Counts, Refused>) -> u8
-    ensures value { result ≡ or_else (as_replayed r).number (room_number totals_bytes (length out.old)) }
-    ensures out_after { out.new ≡ fitted (numbers (crossing (as_replayed r))) out.old }
+pub fn put_counted(out: &mut [u8], r: Replayed) -> u8
+    ensures value { result ≡ or_else r.number (room_number totals_bytes (length out.old)) }
+    ensures out_after { out.new ≡ fitted (numbers (crossing r)) out.old }
 {
-    let refusal = number_of(r);
     if out.len() < TOTALS_BYTES {
-        return or_ten(refusal);
+        return or_ten(r.number);
     }
     put_totals(out, r);
-    refusal
+    r.number
 }

@@ -5,13 +5,11 @@
 #![tactic(auto)]
 
 ghost use Rattle.std.specs.Prelude.{◌≡◌, ◌+◌, ◌*◌, ◌≤◌, length};
-ghost use Rattle.rerun.specs.Answer.{as_replayed};
 ghost use Rattle.wording.specs.Puts.{Puts, PutsFirst};
 ghost use Rattle.reports.specs.Reports.{Roomy, most_report};
 ghost use Rattle.summaries.specs.Summaries.{has, is_quoted, twice, doubled, quoted, field, fields, numbers, summary_header, summary_line, most_field, most_numbers};
 
-use rerun::Counts;
-use settings::Refused;
+use rerun::Replayed;
 
 // ---- the field of a name
 
@@ -85,46 +83,31 @@ fn put_field(out: &mut [u8], name: &[u8]) -> usize
 
 // ---- the line
 
-// The numbers before the records: a refusal has zeros beside its number and place.
-fn fields_of(r: Result<Counts, Refused>) -> [u64; 6]
-    ensures { result ≡ fields (as_replayed r) }
+// The numbers before the records.
+fn fields_of(r: Replayed) -> [u64; 6]
+    ensures { result ≡ fields r }
 {
-    match r {
-        Ok(counts) => [
-            0,
-            0,
-            counts.rows as u64,
-            counts.scans as u64,
-            counts.live as u64,
-            counts.exercised as u64,
-        ],
-        Err(refused) => {
-            let number = u8::from(refused.refusal);
-            [number as u64, refused.place as u64, 0, 0, 0, 0]
-        }
-    }
-}
-
-fn records_of(r: Result<Counts, Refused>) -> u32
-    ensures { result ≡ (as_replayed r).records }
-{
-    match r {
-        Ok(counts) => counts.records,
-        Err(_) => 0,
-    }
+    [
+        r.number as u64,
+        r.place as u64,
+        r.rows as u64,
+        r.scans as u64,
+        r.live as u64,
+        r.exercised as u64,
+    ]
 }
 
 // The fields behind the name: a comma stands behind each but the last.
-fn put_numbers(out: &mut [u8], at: usize, r: Result<Counts, Refused>) -> usize
+fn put_numbers(out: &mut [u8], at: usize, r: Replayed) -> usize
     requires { at + most_numbers ≤ length out.old }
-    ensures value { Puts out.old at (numbers (as_replayed r)) result out.new }
+    ensures value { Puts out.old at (numbers r) result out.new }
     ensures upper_bound { result ≤ at + most_numbers }
 {
     let mut next = at;
     for field in fields_of(r) {
         next = text::put_field(out, next, field, b',');
     }
-    text::put_field(out, next, records_of(r) as u64, b'\n')
+    text::put_field(out, next, r.records as u64, b'\n')
 }
 
 // The first line of summaries, which names the fields.
@@ -141,9 +124,9 @@ pub fn put_summary_header(out: &mut [u8]) -> usize
 }
 
 // What a replay results in.
-pub fn put_summary(out: &mut [u8], name: &[u8], r: Result<Counts, Refused>) -> usize
+pub fn put_summary(out: &mut [u8], name: &[u8], r: Replayed) -> usize
     requires { Roomy name.now out.old }
-    ensures value { PutsFirst out.old (summary_line name.now (as_replayed r)) result out.new }
+    ensures value { PutsFirst out.old (summary_line name.now r) result out.new }
     ensures upper_bound { result ≤ length out.new }
 {
     let comma = put_field(out, name);
