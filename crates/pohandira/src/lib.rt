@@ -12,7 +12,7 @@ ghost use Rattle.pohandira.specs.Version.{version};
 ghost use Rattle.season_bytes.specs.Bytes.{into_number, season_into};
 ghost use Rattle.why_bytes.specs.Bytes.{reasons_number, reasons_into, now_number, now_into};
 
-use rerun::Counts;
+use rerun::{Counts, Replayed};
 use settings::{Refusal, Refused};
 
 // ---- the version
@@ -60,7 +60,7 @@ pub fn pohandira_count(recording: &[u8], totals: &mut [u8]) -> u8
     ensures totals_after { totals.new ≡ count_into recording.now totals.old }
 {
     let counted = rerun::replay(recording);
-    numbers::put_counted(totals, counted)
+    numbers::put_counted(totals, Replayed::from(counted))
 }
 
 // ---- a replay
@@ -89,7 +89,7 @@ fn put_records(s: &[u8], records: &mut [u8], totals_room: usize) -> Result<Count
     if let Err(refusal) = room::check_records(s, run, &board, each, records.len()) {
         return Err(no_room(refusal));
     }
-    rerun::answer_of(rerun::go(s, run, run.row_count, &mut board, records, true))
+    rerun::counted(rerun::go(s, run, run.row_count, &mut board, records, true))
 }
 
 // Replays a recording: answers its refusal number, and writes all records to `records` and 56 bytes to `totals`: records, rows, scans,
@@ -100,7 +100,7 @@ pub fn pohandira_replay(recording: &[u8], records: &mut [u8], totals: &mut [u8])
     ensures totals_after { totals.new ≡ totals_into recording.now (length records.old) totals.old }
 {
     let counted = put_records(recording, records, totals.len());
-    numbers::put_counted(totals, counted)
+    numbers::put_counted(totals, Replayed::from(counted))
 }
 
 // ---- season totals

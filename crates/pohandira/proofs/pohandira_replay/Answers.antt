@@ -9,9 +9,10 @@ use Rattle.pohandira.proofs.pohandira_replay.Goals as goal
 pub returns : goal.returns
 returns c =
     let a = c.args in
-    let is = c.put_records-counted.ensures in
+    let kept = c.put_records-counted.ensures in
+    let is = c.from.ensures ∙ kept.value in
     let put = c.put_counted.ensures in record {
-      value = put.value ∙ told_number a.recording.now (length a.records.now) (length a.totals.now) _ is.value;
-      records_after = is.records_after;
-      totals_after = put.out_after ∙ ap (λ (r : Replayed). fitted (numbers (crossing r)) a.totals.now) is.value;
+      value = put.value ∙ told_number a.recording.now (length a.records.now) (length a.totals.now) _ is;
+      records_after = kept.records_after;
+      totals_after = put.out_after ∙ ap (λ (r : Replayed). fitted (numbers (crossing r)) a.totals.now) is;
     }

@@ -94,7 +94,7 @@ returns c =
     let rows = ap (λ (u : Totals). u.rows) begun.totals in
     let whole = sym (ap (λ (x : Stop). x.number) c.in_ok-check_holds.ensures) in
     let none = nothing_refused s (length a.records.now) a.totals_room whole (limit_kept (record_length * length (replay s).replay.events) (length a.records.now) 9 (sym c.in_default.ensures)) c.if-totals_room-lt-TOTALS_BYTES.false in
-    let answer = c.answer_of.ensures ∙ answered_all c.go.ensures going.many ∙ granted_none (counts (replay s).replay) (refusal (replay s).place) (replay s).number whole in
+    let answer = c.counted.ensures ∙ answered_all c.go.ensures going.many ∙ granted_none (counts (replay s).replay) (refusal (replay s).place) (replay s).number whole in
     let all = crosses s a.records.now a.totals_room _ _ none answer (kept-all c.go.ensures going.many refl rows) in
     record { value = all.0; records_after = all.1 }
 
