@@ -17,9 +17,8 @@ ghost use Rattle.printing.specs.Status.{status as status_of, outcome_number, Tol
 ghost use Rattle.printing.specs.Waiting.{Buffer, most_gone, Waiting, Closes};
 
 use rerun::{Counts, Run, Stopped};
-pub use sending::Sent;
+pub use sending::{Sent, Unwritten};
 use settings::Refused;
-use std::io;
 use std::io::Write;
 
 // ---- the text
@@ -104,7 +103,7 @@ fn write_rest<W: Write>(
     out: &[u8],
     at: usize,
     outcome: Outcome,
-) -> io::Result<Ending>
+) -> Result<Ending, Unwritten>
     requires waiting { Waiting why s.now sent (take at out.now) (listing_of why s.now) × (outcome_number outcome ≡ status_of true (replay s.now).number) }
     requires at_in_bounds { (at ≤ length out.now) × Buffer (length out.now) × (sent.gone < most_gone) }
     ensures told { Told why s.now result }
@@ -123,7 +122,7 @@ fn write_closing<W: Write>(
     end: Result<Run, Stopped>,
     out: &mut [u8],
     at: usize,
-) -> io::Result<Ending>
+) -> Result<Ending, Unwritten>
     requires closes { Closes why s.now sent (as_end end) (take at out.old) }
     requires most_piece_in_bounds { (at + most_piece ≤ length out.old) × Buffer (length out.old) × (sent.gone < most_gone) }
     ensures told { Told why s.now result }
@@ -144,7 +143,7 @@ fn print_closing<W: Write>(
     end: Result<Run, Stopped>,
     out: &mut [u8],
     at: usize,
-) -> io::Result<Ending>
+) -> Result<Ending, Unwritten>
     requires closes { Closes why s.now sent (as_end end) (take at out.old) }
     requires at_in_bounds { (at ≤ length out.old) × Buffer (length out.old) × (sent.gone + at < most_gone) }
     ensures told { Told why s.now result }
@@ -166,7 +165,7 @@ fn print_rows<W: Write>(
     out: &mut [u8],
     from: usize,
     why: bool,
-) -> io::Result<Ending>
+) -> Result<Ending, Unwritten>
     requires going { Going s.now run board.old × (take from out.old ≡ so_far why s.now run.rows) }
     requires from_in_bounds { (from ≤ length out.old) × Buffer (length out.old) }
     ensures told { Told why s.now result }
@@ -189,8 +188,13 @@ fn print_rows<W: Write>(
 }
 
 // Prints the listing of a recording, with reasons if `why` asks for them, by way of the lent buffer, and answers how it ended, or
-// the error of the write that failed. Where all was written, an output whose bytes are known holds the whole listing more, and nothing else.
-pub fn print<W: Write>(output: &mut W, s: &[u8], why: bool, out: &mut [u8]) -> io::Result<Ending>
+// the write that failed. Where all was written, an output whose bytes are known holds the whole listing more, and nothing else.
+pub fn print<W: Write>(
+    output: &mut W,
+    s: &[u8],
+    why: bool,
+    out: &mut [u8],
+) -> Result<Ending, Unwritten>
     requires { Buffer (length out.old) }
     ensures told { Told why s.now result }
     ensures handed { OnOk result (Appends (W.contents output.old) (W.contents output.new) (listing_of why s.now)) }
