@@ -48,7 +48,7 @@ impl<R: Errors> Adding<'_, R> {
             Ok(_) => Status::Done,
             Err(kept) => {
                 let size = reports::put_check(&mut self.out, name, Err(kept.refused));
-                self.program.say_refused(&self.out[..size])
+                inputs::say_refused(self.program.rt, &self.out[..size])
             }
         }
     }
