@@ -404,6 +404,9 @@ pub trait Step {
     // what each input leaves true
     ghost kept: { Self → Type 0 };
 
+    // how many bytes the buffer for an input has: with fewer an input that is too long would pass for a shorter one
+    ghost input_room: { ℕ };
+
     // Takes an input under its name, and answers how that ended.
     fn take(&mut self, name: &[u8], input: &[u8]) -> Status
         requires { (length name.now ≤ most_name) × (0 < room self.old) × kept self.old }
@@ -416,7 +419,7 @@ const NO_NAME: usize = 0;
 impl<R: Files + Env + io::Input + Errors> Program<'_, R> {
     // Takes the input of a name, which is argument i. One that cannot be read is not taken.
     fn take_named<S: Step>(&self, step: &mut S, i: usize, name: &[u8], file: &mut [u8]) -> Status
-        requires { (length name.now ≤ most_name) × (0 < S.room step.old) × S.kept step.old }
+        requires { (length name.now ≤ most_name) × (length file.old ≡ S.input_room) × (0 < S.room step.old) × S.kept step.old }
         ensures { (S.room step.old ≤ S.room step.new + 1) × S.kept step.new × (length file.new ≡ length file.old) }
     {
         let Some(size) = self.read_named(i, name, file) else {
@@ -433,7 +436,7 @@ impl<R: Files + Env + io::Input + Errors> Program<'_, R> {
         name: &mut [u8],
         file: &mut [u8],
     ) -> Status
-        requires { (length name.old ≤ most_name) × (0 < S.room step.old) × S.kept step.old }
+        requires { (length name.old ≤ most_name) × (length file.old ≡ S.input_room) × (0 < S.room step.old) × S.kept step.old }
         ensures { (S.room step.old ≤ S.room step.new + 1) × S.kept step.new × (length name.new ≡ length name.old) × (length file.new ≡ length file.old) }
     {
         let Some(size) = self.argument(i, name) else {
@@ -444,7 +447,7 @@ impl<R: Files + Env + io::Input + Errors> Program<'_, R> {
 
     // Takes all inputs that are named by arguments; a failed output ends the run.
     fn take_all<S: Step>(&self, step: &mut S, name: &mut [u8], file: &mut [u8]) -> Status
-        requires { (length name.old ≤ most_name) × (2 ^ 64 ≤ S.room step.old + 1) × S.kept step.old }
+        requires { (length name.old ≤ most_name) × (length file.old ≡ S.input_room) × (2 ^ 64 ≤ S.room step.old + 1) × S.kept step.old }
         ensures { S.kept step.new }
     {
         let count = argument_count(self.rt);
@@ -460,9 +463,9 @@ impl<R: Files + Env + io::Input + Errors> Program<'_, R> {
     }
 
     // Takes all named inputs, or standard input if none is named, and answers how the gravest ended. The buffers are no struct here: each
-    // program lends its own, and its contract (`InputRoom` of `reports`) says of which length.
+    // program lends its own, and its `Step` says how long the one for an input is.
     pub fn take_each<S: Step>(&self, step: &mut S, name: &mut [u8], file: &mut [u8]) -> Status
-        requires { (length name.old ≤ most_name) × (2 ^ 64 ≤ S.room step.old + 1) × S.kept step.old }
+        requires { (length name.old ≤ most_name) × (length file.old ≡ S.input_room) × (2 ^ 64 ≤ S.room step.old + 1) × S.kept step.old }
         ensures { S.kept step.new }
     {
         if argument_count(self.rt) <= FIRST_NAME {
