@@ -33,13 +33,6 @@ impl Status {
     {
         self.max(other)
     }
-
-    // The digit that tells it. For a user the last two statuses are one: not read or not written.
-    fn digit(self) -> u8
-        ensures { result ≡ min (status_number self) unread }
-    {
-        (self as u8).min(Status::Unread as u8)
-    }
 }
 
 // What a status is written to: descriptor 3, which std has no other name for.
@@ -50,13 +43,13 @@ fn write_status<R: Files>(rt: &R, digit: u8) -> io::Result<()> {
     write!(file, "{digit}")
 }
 
-// A program writes its status to descriptor 3 as a digit, and the command that started it ends with that. The answer is the digit. If
-// there is no such descriptor, nobody asks for the status. An exit status of its own, as `main` could return one, would not tell a run that
-// has ended from one that broke off.
-pub fn tell<R: Files>(rt: &R, status: Status) -> u8
-    ensures { result ≡ min (status_number status) unread }
+// A program writes the number of its status to descriptor 3 as a digit, and the command that started it ends with that. The answer is the
+// digit. For a user not read and not written are one, so what is graver than not read is told as that. If there is no such descriptor, nobody
+// asks for the status. An exit status of its own, as `main` could return one, would not tell a run that has ended from one that broke off.
+pub fn tell<R: Files>(rt: &R, status: u8) -> u8
+    ensures { result ≡ min status unread }
 {
-    let digit = status.digit();
+    let digit = status.min(Status::Unread as u8);
     let _ = write_status(rt, digit);
     digit
 }
@@ -72,6 +65,14 @@ impl Errors for HostRuntime {
     fn write_error(&self, bytes: &[u8]) -> io::Result<()> {
         Print::write_all(&self.stderr(), bytes)
     }
+}
+
+// Says the line of a refused input, and answers the status of that. If standard error takes no more, nobody can be told.
+pub fn say_refused<R: Errors>(rt: &R, line: &[u8]) -> Status
+    ensures { status_number result ≡ refused }
+{
+    let _ = rt.write_error(line);
+    Status::Refused
 }
 
 // The errors of the system that are found here: an argument that is not there, one that is longer than its buffer, and a name that is no
@@ -161,14 +162,6 @@ impl<R: Errors> Program<'_, R> {
     {
         let mut text = [0u8; MESSAGE_BYTES];
         self.fail_through(&mut text, what, error);
-    }
-
-    // Says the line of a refused input, and answers the status of that. If standard error takes no more, nobody can be told.
-    pub fn say_refused(&self, line: &[u8]) -> Status
-        ensures { status_number result ≡ refused }
-    {
-        let _ = self.rt.write_error(line);
-        Status::Refused
     }
 
     // Says that standard output takes no more, and answers the status of that.
@@ -329,7 +322,7 @@ impl<R: Files + Env + io::Input + Errors> Program<'_, R> {
 // The argument that says what is asked of the inputs, and the first that names one.
 pub const ASKED: usize = 1;
 
-const FIRST_NAME: usize = 2;
+pub const FIRST_NAME: usize = 2;
 
 // How many arguments there are where one name is given.
 const ONE_NAME: usize = 3;
@@ -396,7 +389,7 @@ impl<R: Files + Env> Program<'_, R> {
     // Tells the status. Without an argument nobody reads it, so it is not told.
     pub fn tell_asked(&self, status: Status) {
         if ASKED < argument_count(self.rt) {
-            tell(self.rt, status);
+            tell(self.rt, status as u8);
         }
     }
 }
@@ -411,6 +404,9 @@ pub trait Step {
     // what each input leaves true
     ghost kept: { Self → Type 0 };
 
+    // how many bytes the buffer for an input has: with fewer an input that is too long would pass for a shorter one
+    ghost input_room: { ℕ };
+
     // Takes an input under its name, and answers how that ended.
     fn take(&mut self, name: &[u8], input: &[u8]) -> Status
         requires { (length name.now ≤ most_name) × (0 < room self.old) × kept self.old }
@@ -423,7 +419,7 @@ const NO_NAME: usize = 0;
 impl<R: Files + Env + io::Input + Errors> Program<'_, R> {
     // Takes the input of a name, which is argument i. One that cannot be read is not taken.
     fn take_named<S: Step>(&self, step: &mut S, i: usize, name: &[u8], file: &mut [u8]) -> Status
-        requires { (length name.now ≤ most_name) × (0 < S.room step.old) × S.kept step.old }
+        requires { (length name.now ≤ most_name) × (length file.old ≡ S.input_room) × (0 < S.room step.old) × S.kept step.old }
         ensures { (S.room step.old ≤ S.room step.new + 1) × S.kept step.new × (length file.new ≡ length file.old) }
     {
         let Some(size) = self.read_named(i, name, file) else {
@@ -440,7 +436,7 @@ impl<R: Files + Env + io::Input + Errors> Program<'_, R> {
         name: &mut [u8],
         file: &mut [u8],
     ) -> Status
-        requires { (length name.old ≤ most_name) × (0 < S.room step.old) × S.kept step.old }
+        requires { (length name.old ≤ most_name) × (length file.old ≡ S.input_room) × (0 < S.room step.old) × S.kept step.old }
         ensures { (S.room step.old ≤ S.room step.new + 1) × S.kept step.new × (length name.new ≡ length name.old) × (length file.new ≡ length file.old) }
     {
         let Some(size) = self.argument(i, name) else {
@@ -451,7 +447,7 @@ impl<R: Files + Env + io::Input + Errors> Program<'_, R> {
 
     // Takes all inputs that are named by arguments; a failed output ends the run.
     fn take_all<S: Step>(&self, step: &mut S, name: &mut [u8], file: &mut [u8]) -> Status
-        requires { (length name.old ≤ most_name) × (2 ^ 64 ≤ S.room step.old + 1) × S.kept step.old }
+        requires { (length name.old ≤ most_name) × (length file.old ≡ S.input_room) × (2 ^ 64 ≤ S.room step.old + 1) × S.kept step.old }
         ensures { S.kept step.new }
     {
         let count = argument_count(self.rt);
@@ -467,9 +463,9 @@ impl<R: Files + Env + io::Input + Errors> Program<'_, R> {
     }
 
     // Takes all named inputs, or standard input if none is named, and answers how the gravest ended. The buffers are no struct here: each
-    // program lends its own, and its contract (`InputRoom` of `reports`) says of which length.
+    // program lends its own, and its `Step` says how long the one for an input is.
     pub fn take_each<S: Step>(&self, step: &mut S, name: &mut [u8], file: &mut [u8]) -> Status
-        requires { (length name.old ≤ most_name) × (2 ^ 64 ≤ S.room step.old + 1) × S.kept step.old }
+        requires { (length name.old ≤ most_name) × (length file.old ≡ S.input_room) × (2 ^ 64 ≤ S.room step.old + 1) × S.kept step.old }
         ensures { S.kept step.new }
     {
         if argument_count(self.rt) <= FIRST_NAME {

@@ -5,7 +5,8 @@
 // but what it prints, and the digit that it tells, may change.
 #![tactic(auto)]
 
-ghost use Rattle.std.specs.Prelude.{◌≤◌, ◌^◌, length};
+ghost use Rattle.std.specs.Prelude.{◌+◌, ◌≤◌, ◌^◌, length};
+ghost use Rattle.recording.specs.Encode.{most_length};
 ghost use Rattle.reports.specs.Reports.{most_name, InputRoom};
 
 use inputs::{ASKED, Errors, Program, Status, Step};
@@ -109,6 +110,8 @@ impl<R: Print + Errors> Step for Replay<'_, R> {
     ghost room = { λ _. 2 ^ 64 };
 
     ghost kept = { λ _. Unit {0} };
+
+    ghost input_room = { most_length + 1 };
 
     // Answers what is asked of a recording. What is asked is a match here, and no closure: the first line goes by it, too.
     fn take(&mut self, name: &[u8], input: &[u8]) -> Status {

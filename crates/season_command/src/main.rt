@@ -5,7 +5,8 @@
 // statuses. All but what it prints and says, and the digit that it tells, may change.
 #![tactic(auto)]
 
-ghost use Rattle.std.specs.Prelude.{◌≡◌, ◌-◌, ◌≤◌, length};
+ghost use Rattle.std.specs.Prelude.{◌≡◌, ◌+◌, ◌-◌, ◌≤◌, length};
+ghost use Rattle.recording.specs.Encode.{most_length};
 ghost use Rattle.reports.specs.Reports.{most_name, InputRoom};
 ghost use Rattle.sums.specs.Sums.{most_sum};
 ghost use Rattle.season_table.specs.Files.{Over, files_of};
@@ -48,7 +49,7 @@ impl<R: Errors> Adding<'_, R> {
             Ok(_) => Status::Done,
             Err(kept) => {
                 let size = reports::put_check(&mut self.out, name, Err(kept.refused));
-                self.program.say_refused(&self.out[..size])
+                inputs::say_refused(self.program.rt, &self.out[..size])
             }
         }
     }
@@ -69,6 +70,8 @@ impl<R: Errors> Step for Adding<'_, R> {
     ghost room = { λ adding. most_sum - files_of adding.table };
 
     ghost kept = { λ adding. Over adding.table };
+
+    ghost input_room = { most_length + 1 };
 
     fn take(&mut self, name: &[u8], input: &[u8]) -> Status {
         self.add(name, input)

@@ -5,7 +5,8 @@
 // it prints, and the digit that it tells, may change.
 #![tactic(auto)]
 
-ghost use Rattle.std.specs.Prelude.{◌≤◌, ◌^◌, length};
+ghost use Rattle.std.specs.Prelude.{◌+◌, ◌≤◌, ◌^◌, length};
+ghost use Rattle.recording.specs.Encode.{most_length};
 ghost use Rattle.reports.specs.Reports.{most_name, InputRoom};
 
 use inputs::{ASKED, Errors, Program, Status, Step};
@@ -53,6 +54,8 @@ impl<R: Print + Errors> Step for Why<'_, R> {
     ghost room = { λ _. 2 ^ 64 };
 
     ghost kept = { λ _. Unit {0} };
+
+    ghost input_room = { most_length + 1 };
 
     // Answers what is asked of a recording. If several are named, the answer has its name above it: without the heading nobody could tell
     // whose answer it is, so it then is not written.
