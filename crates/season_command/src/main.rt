@@ -16,6 +16,7 @@ use season::{Added, NotAdded};
 use season_table::Table;
 use std::env::Env;
 use std::rt::Files;
+use text::Told;
 
 // What adds the recordings: the table over the files so far, and the buffer for what is said and printed.
 #[derive(Drop)]
@@ -47,7 +48,8 @@ impl<R: Errors> Adding<'_, R> {
         match added {
             Ok(_) => Status::Done,
             Err(kept) => {
-                let size = reports::put_check(&mut self.out, name, Err(kept.refused));
+                let told = Told::from(kept.refused);
+                let size = reports::put_check(&mut self.out, name, Err(told));
                 self.program.say_refused(&self.out[..size])
             }
         }
