@@ -102,6 +102,7 @@ use denote.RattleType.{RattleType}
 use denote.Param.Laws.{Laws}
 use mir.Syntax.{Dict}
 use Rattle.text.specs.declared.Field.{Ghosts}
+use Rattle.text.proofs.ToldFromRefused.from.Reads as text·from
 use Rattle.text.proofs.put_field.Reads as text·put-field
 use Rattle.wording.proofs.put_named.Reads as wording·put-named
 use Rattle.text.proofs.put_end.Reads as text·put-end
@@ -208,6 +209,11 @@ rerun_from κs = by_equation (rerun·from.Learnt κs) _ (λ a r e h. h)
 
 pub season_from : (κs : Lfts 0) → Unique (season·from.Learnt κs) none
 season_from κs = by_equation (season·from.Learnt κs) _ (λ a r e h. h)
+
+-- A refusal is told by its number (`text`)
+
+pub text_from : (κs : Lfts 0) → Unique (text·from.Learnt κs) none
+text_from κs = by_equation (text·from.Learnt κs) _ (λ a r e h. h)
 
 -- ## Event records (`effects`)
 

@@ -13,6 +13,7 @@ use inputs::{ASKED, Errors, Program, Status, Step};
 use settings::Refused;
 use std::env::Env;
 use std::rt::Files;
+use text::Told;
 
 // What is asked of each recording.
 #[derive(Clone, Copy)]
@@ -69,7 +70,7 @@ impl<R: Print + Errors> Replay<'_, R> {
         requires { length name.now ≤ most_name }
     {
         let answer = recording::read(s);
-        let size = reports::put_check(&mut self.out, name, answer);
+        let size = reports::put_check(&mut self.out, name, answer.map_err(Told::from));
         listings::write_text(self.program, &self.out[..size], number_of(answer.err()))
     }
 
@@ -85,7 +86,14 @@ impl<R: Print + Errors> Replay<'_, R> {
         requires { length name.now ≤ most_name }
     {
         let explained = findings::explain(s);
-        let size = reports::put_explained(&mut self.out, name, explained);
+        let refused = explained.refused.map(Told::from);
+        let size = reports::put_explained(
+            &mut self.out,
+            name,
+            refused,
+            explained.rows,
+            explained.finding,
+        );
         listings::write_text(
             self.program,
             &self.out[..size],

@@ -1,8 +1,11 @@
 -- Lines at the front of a buffer, and the room that they take.
-use mathlib.Core.Path.{◌≡◌, sym}
+use mathlib.Core.Path.{◌≡◌, refl, sym}
+use mathlib.Core.Bool.{Bool, true, false, not}
 use mathlib.Core.List.{List, ◌++◌, append_assoc}
-use Prim.Native.Nat.{ℕ, ◌^◌, ◌≤◌, ◌<◌}
+use Prim.Native.Nat.{ℕ, zero, suc, ◌^◌, ◌≤◌, ◌<◌}
 use native.Mathlib.Omega.{arith}
+use borrow.Author.Tests.{eqb-true}
+use lib.Dec.{eqb}
 use lib.ListN.{length, length-append}
 use lib.Seq.{sets, length-sets}
 use Rattle.bits.specs.Decimal.{ascii}
@@ -53,3 +56,15 @@ module _ (name : List ℕ) (e : Explained) where
   pub explained_refused : (e.number ≡ 0 → ⊥) → explained_line name e ≡ refused_why name e.number e.place e.finding
   unfolding explained_line
   explained_refused h = granted_refused (accepted_line name e.rows) (λ (n : ℕ). refused_why name n e.place e.finding) e.number h
+
+-- 0 refuses nothing, and any other number refuses
+pub told_none : (n : ℕ) → false ≡ not (eqb n 0) → n ≡ 0
+told_none n h = go (eqb n 0) refl
+  where
+    go : (b : Bool) → eqb n 0 ≡ b → n ≡ 0
+    go true e = eqb-true n 0 e
+    go false e = (cc)
+
+pub told_some : (n : ℕ) → true ≡ not (eqb n 0) → n ≡ 0 → ⊥
+told_some zero h e = (cc)
+told_some (suc k) h e = omega (arith, e)

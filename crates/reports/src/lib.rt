@@ -4,15 +4,14 @@
 // without moving a contract; the text is specs/Reports.
 #![tactic(auto)]
 
-ghost use Rattle.std.specs.Prelude.{◌≡◌, ◌+◌, ◌≤◌, length};
+ghost use Rattle.std.specs.Prelude.{◌≡◌, not, ◌+◌, ◌≤◌, eqb, length};
 ghost use Rattle.wording.specs.Puts.{Puts, PutsFirst};
-ghost use Rattle.recording.specs.Answer.{as_reading};
-ghost use Rattle.findings.specs.Answer.{as_explained};
+ghost use Rattle.reports.specs.Told.{answer_told, explained_told};
 ghost use Rattle.reports.specs.Reports.{heading, accepted_line, refused_line, check_line, refused_at, refused_why, explained_line, most_refused_at, Roomy};
 
-use findings::{Explained, Finding};
+use findings::Finding;
 use recording::Recording;
-use settings::Refused;
+use text::Told;
 
 // ---- the heading, and a check
 
@@ -40,7 +39,7 @@ fn put_accepted(out: &mut [u8], name: &[u8], rows: u16) -> usize
 }
 
 // Here and below number and place are parameters: how long their digits can get follows from a parameter's range, and that of a field of a
-// `Refused` is not known to a proof.
+// `Told` is not known to a proof.
 fn put_refused(out: &mut [u8], name: &[u8], number: u8, place: usize) -> usize
     requires { Roomy name.now out.old }
     ensures value { PutsFirst out.old (refused_line name.now number place) result out.new }
@@ -51,15 +50,15 @@ fn put_refused(out: &mut [u8], name: &[u8], number: u8, place: usize) -> usize
     text::put_refusal(out, at, number, place)
 }
 
-// What the reader answered.
-pub fn put_check(out: &mut [u8], name: &[u8], answer: Result<Recording, Refused>) -> usize
+// What the reader answered. A refusal's line has its number, whatever that is.
+pub fn put_check(out: &mut [u8], name: &[u8], answer: Result<Recording, Told>) -> usize
     requires { Roomy name.now out.old }
-    ensures value { PutsFirst out.old (check_line name.now (as_reading answer).answer) result out.new }
+    ensures value { PutsFirst out.old (check_line name.now (answer_told answer)) result out.new }
     ensures upper_bound { result ≤ length out.new }
 {
     match answer {
         Ok(file) => put_accepted(out, name, file.rows),
-        Err(refused) => put_refused(out, name, u8::from(refused.refusal), refused.place),
+        Err(told) => put_refused(out, name, told.number, told.place),
     }
 }
 
@@ -88,17 +87,27 @@ fn put_why(out: &mut [u8], name: &[u8], number: u8, place: usize, finding: Findi
     bits::put_text(out, end, b"\n")
 }
 
+// 0 refuses nothing, whatever its place.
+fn refuses(told: Told) -> bool
+    ensures { result ≡ not (eqb told.number 0) }
+{
+    told.number != 0
+}
+
 // What a replay would be refused by, in words.
-pub fn put_explained(out: &mut [u8], name: &[u8], e: Explained) -> usize
+pub fn put_explained(
+    out: &mut [u8],
+    name: &[u8],
+    refused: Option<Told>,
+    rows: u16,
+    finding: Finding,
+) -> usize
     requires { Roomy name.now out.old }
-    ensures value { PutsFirst out.old (explained_line name.now (as_explained e)) result out.new }
+    ensures value { PutsFirst out.old (explained_line name.now (explained_told refused rows finding)) result out.new }
     ensures upper_bound { result ≤ length out.new }
 {
-    match e.refused {
-        Some(refused) => {
-            let number = u8::from(refused.refusal);
-            put_why(out, name, number, refused.place, e.finding)
-        }
-        None => put_accepted(out, name, e.rows),
+    match refused {
+        Some(told) if refuses(told) => put_why(out, name, told.number, told.place, finding),
+        _ => put_accepted(out, name, rows),
     }
 }

@@ -17,6 +17,7 @@ use season::{Added, NotAdded};
 use season_table::Table;
 use std::env::Env;
 use std::rt::Files;
+use text::Told;
 
 // What adds the recordings: the table over the files so far, and the buffer for what is said and printed.
 #[derive(Drop)]
@@ -48,7 +49,8 @@ impl<R: Errors> Adding<'_, R> {
         match added {
             Ok(_) => Status::Done,
             Err(kept) => {
-                let size = reports::put_check(&mut self.out, name, Err(kept.refused));
+                let told = Told::from(kept.refused);
+                let size = reports::put_check(&mut self.out, name, Err(told));
                 inputs::say_refused(self.program.rt, &self.out[..size])
             }
         }
