@@ -257,7 +257,9 @@ impl State {
     }
 
     // A held run. Its records go to the front of `out`. They are laid in a space of their own first, because a run that is refused for
-    // want of room touches no byte of `out`.
+    // want of room touches no byte of `out`. It is not inlined: where a caller makes state and settings of numbers that it knows one by one, the
+    // compiler takes both apart there, and puts them together again wherever a slot or an effect is taken by its number.
+    #[inline(never)]
     pub fn held(self, st: Settings, row: Row, out: &mut [u8]) -> Result<Held, RunRefused>
         ensures value { as_held result ≡ held_of st row self (length out.old) }
         ensures out_after { out.new ≡ held_into st row self out.old }

@@ -91,7 +91,9 @@ fn row_right(b: Bars, s: &[u8], at: usize) -> bool
     hold_right(first) & words_right(b, first, second, third) & forces_right(b.several, third)
 }
 
-// How many of the n rows from `at` are whole and valid before the first that is not.
+// How many of the n rows from `at` are whole and valid before the first that is not. It is not inlined: within the reader its bars stand on the
+// stack and not in registers, and a row takes a third longer.
+#[inline(never)]
 pub fn right_rows(known: Known, s: &[u8], n: u16, at: usize) -> u16
     requires { at ≤ length s.now }
     ensures { Skipped (test_of Rows known s.now) (width_of Rows) (length s.now) n at result }

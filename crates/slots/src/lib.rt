@@ -47,10 +47,10 @@ fn slot_unused(x: Slot) -> bool
     (p == EffectState::Tripped) & (x.timer == 0) & (x.first_out == 0)
 }
 
-// Slot i is valid, or unused past the count.
-fn slot_ok(st: Settings, i: usize, x: Slot) -> bool
+// Slot i is valid, or unused past the count. The settings are lent: as a value they would be copied for each slot.
+fn slot_ok(st: &Settings, i: usize, x: Slot) -> bool
     requires { i < 16 }
-    ensures { result ≡ slot_ok st i x }
+    ensures { result ≡ slot_ok st.now i x }
 {
     if i < (st.count as usize) {
         let e = st.effects[i];
@@ -65,7 +65,7 @@ pub fn slots_ok(st: Settings, slots: [Slot; 16]) -> bool
     ensures { result ≡ all_from (slot_ok st) 0 slots }
 {
     for (i, x) in slots.iter().enumerate() {
-        if !slot_ok(st, i, *x) {
+        if !slot_ok(&st, i, *x) {
             return false;
         }
     }
