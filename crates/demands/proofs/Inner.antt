@@ -25,6 +25,7 @@ use Rattle.rules.proofs.States.{code_injective}
 use Rattle.settings.proofs.numbers.RefusalFromRefused.from.Reads as settings·from
 use Rattle.block.proofs.RefusalFromRunRefused.from.Reads as block·from
 use Rattle.rerun.proofs.RefusedFromStopped.from.Reads as rerun·from
+use Rattle.rerun.proofs.ReplayedFromResultCountsRefused.from.Reads as rerun·told
 use Rattle.season.proofs.RefusalFromNotAdded.from.Reads as season·from
 use Rattle.effects.proofs.Records.{one_event}
 use Rattle.effects.proofs.event_at.Reads as effects·event-at
@@ -74,6 +75,7 @@ use Rattle.block.proofs.run_kept.Reads as block·run-kept
 use Rattle.rerun.proofs.check_holds.Reads as rerun·check-holds
 use Rattle.rerun.proofs.run_of.Reads as rerun·run-of
 use Rattle.rerun.proofs.answer_of.Reads as rerun·answer-of
+use Rattle.rerun.proofs.counted.Reads as rerun·counted
 use Rattle.rerun.proofs.begin.Reads as rerun·begin
 use Rattle.rerun.proofs.row.Reads as rerun·row
 use Rattle.rerun.proofs.go.Reads as rerun·go
@@ -206,6 +208,9 @@ block_from κs = by_equation (block·from.Learnt κs) _ (λ a r e h. h)
 
 pub rerun_from : (κs : Lfts 0) → Unique (rerun·from.Learnt κs) none
 rerun_from κs = by_equation (rerun·from.Learnt κs) _ (λ a r e h. h)
+
+pub rerun_told : (κs : Lfts 0) → Unique (rerun·told.Learnt κs) none
+rerun_told κs = by_equation (rerun·told.Learnt κs) _ (λ a r e h. h)
 
 pub season_from : (κs : Lfts 0) → Unique (season·from.Learnt κs) none
 season_from κs = by_equation (season·from.Learnt κs) _ (λ a r e h. h)
@@ -412,7 +417,10 @@ pub rerun_check_holds : (κs : Lfts 1) → Unique (rerun·check-holds.Learnt κs
 rerun_check_holds κs = by_equation_as (rerun·check-holds.Learnt κs) as_stop _ stop_once (λ a r e h. h)
 
 pub rerun_answer_of : (κs : Lfts 0) → Unique (rerun·answer-of.Learnt κs) none
-rerun_answer_of κs = by_equation_as (rerun·answer-of.Learnt κs) as_replayed _ replayed_once (λ a r e h. h)
+rerun_answer_of κs = by_equation (rerun·answer-of.Learnt κs) _ (λ a r e h. h)
+
+pub rerun_counted : (κs : Lfts 0) → Unique (rerun·counted.Learnt κs) none
+rerun_counted κs = by_equation_as (rerun·counted.Learnt κs) as_replayed _ replayed_once (λ a r e h. h)
 
 pub rerun_run_of : (κs : Lfts 0) → Unique (rerun·run-of.Learnt κs) none
 rerun_run_of κs = by_equation (rerun·run-of.Learnt κs) _ (λ a r e h. h)

@@ -48,7 +48,7 @@ use Rattle.walk.specs.Walks.{start_of, next_of, moved_on, nth_of}
 use Rattle.rerun.specs.Answer.{as_replayed}
 use Rattle.rerun.specs.Replay.{answered, replay}
 use Rattle.listing.specs.Listing.{closing}
-use Rattle.listing.specs.Printed.{opening, has_room, placed, written, place_of}
+use Rattle.listing.specs.Printed.{answer_told, opening, has_room, placed, written, place_of}
 use Rattle.text.specs.Room.{most_piece}
 use Rattle.pohandira.specs.Crossing.{check_number, check_into, count_number, count_into, replay_number, records_into, totals_into}
 use Rattle.pohandira.specs.Version.{version}
@@ -100,10 +100,10 @@ pub record EntryPoints (κ0 : Lfts 0) (κ1 : Lfts 1) (κ2 : Lfts 2) (κ3 : Lfts 
   pub pohandira_now : Gives (pohandira.pohandira_now.Reads.Asked κ2) (pohandira.pohandira_now.Reads.Learnt κ2) (λ (s, (out, _)). now_number s.now (length out.now))
       (λ e. e.1.0.now) (λ (s, (out, _)). now_into s.now out.now)
   -- listings (`listing`)
-  pub opening : Gives (listing.opening.Reads.Asked κ1) (listing.opening.Reads.Learnt κ1) (λ (file, (out, (at, (why, _)))). place_of (written (length out.now) at (opening why (as_reading file).answer)))
-      (λ e. e.1.0.now) (λ (file, (out, (at, (why, _)))). placed out.now at (opening why (as_reading file).answer))
-  pub closing : Gives (listing.closing.Reads.Asked κ1) (listing.closing.Reads.Learnt κ1) (λ (end, (out, (at, _))). place_of (written (length out.now) at (closing (as_replayed end))))
-      (λ e. e.1.0.now) (λ (end, (out, (at, _))). placed out.now at (closing (as_replayed end)))
+  pub opening : Gives (listing.opening.Reads.Asked κ1) (listing.opening.Reads.Learnt κ1) (λ (file, (out, (at, (why, _)))). place_of (written (length out.now) at (opening why (answer_told file))))
+      (λ e. e.1.0.now) (λ (file, (out, (at, (why, _)))). placed out.now at (opening why (answer_told file)))
+  pub closing : Gives (listing.closing.Reads.Asked κ1) (listing.closing.Reads.Learnt κ1) (λ (end, (out, (at, _))). place_of (written (length out.now) at (closing end)))
+      (λ e. e.1.0.now) (λ (end, (out, (at, _))). placed out.now at (closing end))
   pub has_room : Returns (listing.has_room.Reads.Asked κ0) (listing.has_room.Reads.Learnt κ0) (λ (n, (at, _)). has_room n at)
   pub most-piece : Returns (listing.most_piece.Reads.Asked κ0) (listing.most_piece.Reads.Learnt κ0) (λ _. most_piece)
   -- settings and rows (`settings`)

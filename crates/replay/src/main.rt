@@ -10,6 +10,7 @@ ghost use Rattle.recording.specs.Encode.{most_length};
 ghost use Rattle.reports.specs.Reports.{most_name, InputRoom};
 
 use inputs::{ASKED, Errors, Program, Status, Step};
+use rerun::Replayed;
 use settings::Refused;
 use std::env::Env;
 use std::rt::Files;
@@ -77,9 +78,9 @@ impl<R: Print + Errors> Replay<'_, R> {
     fn summarize(&mut self, name: &[u8], s: &[u8]) -> Status
         requires { length name.now ≤ most_name }
     {
-        let replayed = rerun::replay(s);
+        let replayed = Replayed::from(rerun::replay(s));
         let size = summaries::put_summary(&mut self.out, name, replayed);
-        listings::write_text(self.program, &self.out[..size], number_of(replayed.err()))
+        listings::write_text(self.program, &self.out[..size], replayed.number)
     }
 
     fn explain(&mut self, name: &[u8], s: &[u8]) -> Status
