@@ -44,7 +44,7 @@ use Rattle.writing.specs.Writer.{opening_number, row_piece_number}
 use Rattle.writing.proofs.Theorems.{written-number, written_piece}
 use Rattle.walk.specs.Walks.{start_of, next_of, moved_on, walked}
 use Rattle.walk.proofs.Theorems as walk
-use Rattle.rerun.specs.Answer.{Replayed}
+use Rattle.rerun.specs.declared.Replayed.{Replayed}
 use Rattle.rerun.specs.Replay.{Outcome, counts, refusal as no_counts, replay}
 use Rattle.rerun.proofs.Theorems as rerun
 use Rattle.numbers.specs.Numbers.{numbers, fitted, crossing}

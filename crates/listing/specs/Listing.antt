@@ -4,7 +4,7 @@ use Rattle.settings.specs.Refusals.{granted}
 use Rattle.recording.specs.Answer.{Answer}
 use Rattle.recording.specs.Answers.{number, place}
 use Rattle.recording.specs.Reader.{reading}
-use Rattle.rerun.specs.Answer.{Replayed}
+use Rattle.rerun.specs.declared.Replayed.{Replayed}
 use Rattle.rerun.specs.Replay.{Outcome, replay, answered}
 use Rattle.text.specs.Text.{header, lines, last_line, refusal_line}
 

@@ -1,10 +1,11 @@
 -- A listing piece by piece, as the code gives it, with a column for reasons (why) or without: the opening, the lines of each row, and the
 -- closing, each at a place of a lent buffer. Where fewer bytes are left than a piece may take, the buffer is full: nothing is written, and
 -- the caller goes on with more room. The pieces together are the listing of document 01, "One session, whole", or of document 02, L4.
-use Rattle.std.specs.Prelude.{ℕ, zero, suc, ◌+◌, ◌≤◌, ◌≡◌, Bool, true, false, not, cond, Option, None, Some, List, [], ◌++◌, leb, length}
+use Rattle.std.specs.Prelude.{ℕ, zero, suc, ◌+◌, ◌≤◌, ◌≡◌, Bool, true, false, not, cond, Option, None, Some, Result, Ok, Err, List, [], ◌++◌, leb, length}
 use Rattle.std.proofs.lemmas.List.Edits.{sets}
 use Rattle.settings.specs.Refusals.{granted}
-use Rattle.recording.specs.Answer.{Answer}
+use Rattle.recording.specs.declared.Recording.{Recording}
+use Rattle.recording.specs.Answer.{Answer, Accepted, Refused}
 use Rattle.recording.specs.Answers.{number, place}
 use Rattle.recording.specs.Reader.{reading}
 use Rattle.rerun.specs.declared.Run.{Run}
@@ -15,6 +16,7 @@ use Rattle.reasoned.specs.Reasoned.{reasoned, reasoned_row}
 use Rattle.reasoned.specs.Told.{row_sight}
 use Rattle.rerun.specs.Turn.{Going, records_of, answer_of}
 use Rattle.listing.specs.declared.Printed.{Printed}
+use Rattle.text.specs.declared.Told.{Told}
 use Rattle.text.specs.Room.{most_piece}
 use Rattle.text.specs.Pieces.{header_of}
 use Rattle.text.specs.Text.{lines, refusal_line}
@@ -32,6 +34,11 @@ unfoldable pub listing_of : (why : Bool) → List ℕ → List ℕ
 listing_of why s = listed_as (header_of why) (all_lines why s) (reading s).answer (replay s)
 
 -- ## The pieces
+
+-- as which answer of the reader a refusal is read that is told by any number: by 0 too, which refuses nothing
+abbrev pub answer_told : Result Recording Told → Answer
+answer_told (Ok r) = Accepted r.rows r.first r.width
+answer_told (Err told) = Refused told.number told.place
 
 -- the opening, from the reader's answer: the header, or the line of the refusal
 abbrev pub opening : (why : Bool) → Answer → List ℕ

@@ -9,19 +9,18 @@
 ghost use Rattle.std.specs.Prelude.{◌≡◌, ◌+◌, ◌<◌, ◌≤◌, length, IfSome};
 ghost use Rattle.recording.specs.Answers.{row_count_of};
 ghost use Rattle.recording.specs.Reader.{reading as reading_of};
-ghost use Rattle.recording.specs.Answer.{as_reading};
-ghost use Rattle.rerun.specs.Answer.{as_turn, as_replayed};
+ghost use Rattle.rerun.specs.Answer.{as_turn};
 ghost use Rattle.rerun.specs.Turn.{Going};
 ghost use Rattle.wording.specs.Puts.{Puts};
 ghost use Rattle.text.specs.Room.{most_piece};
 ghost use Rattle.listing.specs.Listing.{closing as closing_of};
 ghost use Rattle.reasoned.specs.Told.{NextRow};
-ghost use Rattle.listing.specs.Printed.{opening as opening_of, column_of, has_room, placed, written, place_of, printed_of, PrintedRow};
+ghost use Rattle.listing.specs.Printed.{answer_told, opening as opening_of, column_of, has_room, placed, written, place_of, printed_of, PrintedRow};
 
 use reasons::Sight;
 use recording::Recording;
-use rerun::{Counts, Run, Stopped, Turn};
-use settings::Refused;
+use rerun::{Replayed, Run, Stopped, Turn};
+use text::Told;
 
 // The place after a row's lines, and the row's turn.
 #[derive(Clone, Copy)]
@@ -50,27 +49,27 @@ pub fn has_room(n: usize, at: usize) -> bool
     at <= n - MOST_PIECE
 }
 
-fn put_opening(out: &mut [u8], at: usize, answer: Result<Recording, Refused>, why: bool) -> usize
+fn put_opening(out: &mut [u8], at: usize, answer: Result<Recording, Told>, why: bool) -> usize
     requires { at + most_piece ≤ length out.old }
-    ensures value { Puts out.old at (opening_of why (as_reading answer).answer) result out.new }
+    ensures value { Puts out.old at (opening_of why (answer_told answer)) result out.new }
     ensures upper_bound { result ≤ length out.old }
 {
     match answer {
-        Ok(_) => text::put_header(out, at, why),
-        Err(refused) => text::put_refusal(out, at, u8::from(refused.refusal), refused.place),
+        Ok(_) | Err(Told { number: 0, .. }) => text::put_header(out, at, why),
+        Err(Told { number, place }) => text::put_refusal(out, at, number, place),
     }
 }
 
 // The opening of a listing, from the reader's answer: the header; or, for a refused file, the line of the refusal, which is then the whole
-// listing. The place after it; none where the buffer is full.
+// listing. Refusal number 0 refuses nothing. The place after it; none where the buffer is full.
 pub fn opening(
-    answer: Result<Recording, Refused>,
+    answer: Result<Recording, Told>,
     out: &mut [u8],
     at: usize,
     why: bool,
 ) -> Option<usize>
-    ensures value { result ≡ place_of (written (length out.old) at (opening_of why (as_reading answer).answer)) }
-    ensures out_after { out.new ≡ placed out.old at (opening_of why (as_reading answer).answer) }
+    ensures value { result ≡ place_of (written (length out.old) at (opening_of why (answer_told answer))) }
+    ensures out_after { out.new ≡ placed out.old at (opening_of why (answer_told answer)) }
     ensures at_in_bounds { IfSome result (λ r. r ≤ length out.old) }
 {
     if !has_room(out.len(), at) {
@@ -124,22 +123,23 @@ pub fn row(
     Some(Printed { at: next, turn })
 }
 
-fn put_closing(out: &mut [u8], at: usize, end: Result<Counts, Refused>) -> usize
+fn put_closing(out: &mut [u8], at: usize, end: Replayed) -> usize
     requires { at + most_piece ≤ length out.old }
-    ensures value { Puts out.old at (closing_of (as_replayed end)) result out.new }
+    ensures value { Puts out.old at (closing_of end) result out.new }
     ensures upper_bound { result ≤ length out.old }
 {
-    match end {
-        Ok(c) => text::put_last(out, at, c.rows, c.scans, c.live, c.exercised),
-        Err(stop) => text::put_refusal(out, at, u8::from(stop.refusal), stop.place),
+    if end.number == 0 {
+        text::put_last(out, at, end.rows, end.scans, end.live, end.exercised)
+    } else {
+        text::put_refusal(out, at, end.number, end.place)
     }
 }
 
-// The closing of a listing, from the answer of the replay: the last line, or the line of a refusal. The place after it; none where the
+// The closing of a listing, from what is told of the replay: the last line, or the line of a refusal. The place after it; none where the
 // buffer is full.
-pub fn closing(end: Result<Counts, Refused>, out: &mut [u8], at: usize) -> Option<usize>
-    ensures value { result ≡ place_of (written (length out.old) at (closing_of (as_replayed end))) }
-    ensures out_after { out.new ≡ placed out.old at (closing_of (as_replayed end)) }
+pub fn closing(end: Replayed, out: &mut [u8], at: usize) -> Option<usize>
+    ensures value { result ≡ place_of (written (length out.old) at (closing_of end)) }
+    ensures out_after { out.new ≡ placed out.old at (closing_of end) }
     ensures at_in_bounds { IfSome result (λ r. r ≤ length out.old) }
 {
     if !has_room(out.len(), at) {

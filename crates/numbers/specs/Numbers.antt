@@ -3,7 +3,7 @@ use Rattle.std.specs.Prelude.{ℕ, ◌*◌, cond, leb, length}
 use mathlib.Core.List.{List, [], ◌∷◌, flat_map}
 use Rattle.std.proofs.lemmas.List.Edits.{sets}
 use Rattle.bits.specs.Numbers.{digits}
-use Rattle.rerun.specs.Answer.{Replayed}
+use Rattle.rerun.specs.declared.Replayed.{Replayed}
 
 -- every number that crosses is 8 bytes, big-endian
 abbrev pub number_bytes : ℕ

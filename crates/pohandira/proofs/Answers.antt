@@ -10,7 +10,7 @@ use Rattle.settings.specs.Refusals.{or_else, room_number}
 use Rattle.settings.proofs.Refusals.{granted_none, granted_refused, granted_number, or_else_none, or_else_alone}
 use Rattle.recording.specs.Answer as A
 use Rattle.recording.specs.Reader.{reading}
-use Rattle.rerun.specs.Answer.{Replayed}
+use Rattle.rerun.specs.declared.Replayed.{Replayed}
 use Rattle.rerun.specs.Replay.{Outcome, replay, counts, refusal}
 use Rattle.rerun.proofs.Files.{refusal_number, refused_replay}
 use Rattle.numbers.specs.Numbers.{totals_bytes}

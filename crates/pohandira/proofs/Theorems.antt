@@ -17,7 +17,7 @@ use Rattle.settings.proofs.Refusals.{granted_none, granted_refused, granted_eith
 use Rattle.recording.specs.Answers.{number, row_count_of}
 use Rattle.recording.specs.Reader.{reading}
 use Rattle.recording.specs.Accepted.{Accepted}
-use Rattle.rerun.specs.Answer.{Replayed}
+use Rattle.rerun.specs.declared.Replayed.{Replayed}
 use Rattle.rerun.specs.Replay.{Outcome, replay, counts, refusal, answered}
 use Rattle.rerun.proofs.Files.{most-effects, whole_so_far}
 use Rattle.rerun.proofs.Theorems.{a_refused_file_is_not_run, a_replay_is_all_its_rows, two_records_an_effect_and_row}

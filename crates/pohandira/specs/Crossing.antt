@@ -7,7 +7,7 @@ use Rattle.settings.specs.Refusals.{or_else, granted, room_number}
 use Rattle.recording.specs.Answer.{Answer}
 use Rattle.recording.specs.Answers.{number, place, row_count_of}
 use Rattle.recording.specs.Reader.{reading}
-use Rattle.rerun.specs.Answer.{Replayed}
+use Rattle.rerun.specs.declared.Replayed.{Replayed}
 use Rattle.rerun.specs.Replay.{replay, counts, refusal, answered}
 use Rattle.numbers.specs.Numbers.{check_bytes, totals_bytes, numbers, fitted, crossing}
 

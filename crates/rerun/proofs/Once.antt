@@ -8,7 +8,8 @@ use Rattle.rerun.specs.declared.Run.{Run}
 use Rattle.rerun.specs.declared.Turn.{Turn as RowDone}
 use Rattle.rerun.specs.declared.Stopped.{Stopped}
 use Rattle.rerun.specs.declared.Counts.{Counts}
-use Rattle.rerun.specs.Answer.{Turn, Replayed, Stop, as_turn, as_end, as_replayed, as_stop}
+use Rattle.rerun.specs.Answer.{Turn, Stop, as_turn, as_end, as_replayed, as_stop}
+use Rattle.rerun.specs.declared.Replayed.{Replayed}
 
 pub turn_once : (r q : Result RowDone Stopped) → as_turn r ≡ as_turn q → r ≡ q
 turn_once (Ok a) (Ok b) e = λ j. Ok (record { records = (e j).records; run = (e j).run })

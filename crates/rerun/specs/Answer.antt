@@ -6,6 +6,7 @@ use Rattle.rerun.specs.declared.Run.{Run}
 use Rattle.rerun.specs.declared.Turn.{Turn as RowDone}
 use Rattle.rerun.specs.declared.Stopped.{Stopped}
 use Rattle.rerun.specs.declared.Counts.{Counts}
+use Rattle.rerun.specs.declared.Replayed.{Replayed}
 
 -- what one row more, or some rows, result in: 0 and the run after them; or refusal number 9 and the run before the row that is refused,
 -- whose place is that row's first byte. records: the number of records of the one row; 0 after some rows
@@ -13,16 +14,6 @@ pub record Turn : Type 0 where
   pub number : ℕ
   pub records : ℕ
   pub run : Run
-
--- what a whole file results in: 0, 0 and what its rows have given; or the refusal number, its place, and zeros
-pub record Replayed : Type 0 where
-  pub number : ℕ
-  pub place : ℕ
-  pub records : ℕ
-  pub rows : ℕ
-  pub scans : ℕ
-  pub live : ℕ
-  pub exercised : ℕ
 
 -- where a replay stops: 0 and 0 where every row is replayed, or the refusal number and its place
 pub record Stop : Type 0 where

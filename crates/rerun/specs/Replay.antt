@@ -13,7 +13,7 @@ use Rattle.recording.specs.Answers.{number, place, first_row, row_width}
 use Rattle.settings.specs.Zeros.{no_row}
 use Rattle.recording.specs.Reader.{reading}
 use Rattle.recording.specs.Steps.{rows_of}
-use Rattle.rerun.specs.Answer.{Replayed}
+use Rattle.rerun.specs.declared.Replayed.{Replayed}
 
 -- what the rows so far have given; the state has the scans done
 pub record Replay : Type 0 where

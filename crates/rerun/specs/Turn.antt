@@ -17,7 +17,7 @@ use Rattle.recording.specs.Reader.{reading}
 use Rattle.recording.specs.Steps.{row_place}
 use Rattle.rerun.specs.declared.Run.{Run}
 use Rattle.rerun.specs.Answer.{Turn}
-use Rattle.rerun.specs.Answer.{Replayed}
+use Rattle.rerun.specs.declared.Replayed.{Replayed}
 use Rattle.rerun.specs.Answer.{Stop}
 use Rattle.rerun.specs.Replay.{Replay, Outcome, started, refusal, first_rows, row_run}
 

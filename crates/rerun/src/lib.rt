@@ -10,7 +10,7 @@ ghost use Rattle.cells.specs.Array.{array_length};
 ghost use Rattle.recording.specs.Answer.{Accepted};
 ghost use Rattle.recording.specs.Reader.{reading};
 ghost use Rattle.rerun.specs.Answer.{as_turn, as_end, as_replayed, as_stop};
-ghost use Rattle.rerun.specs.Replay.{replay as whole_replay, answered};
+ghost use Rattle.rerun.specs.Replay.{refusal, replay as whole_replay, answered};
 ghost use Rattle.rerun.specs.Turn.{Begins, RowReady, RowDone, RowsReady, RowsDone, SmallSums, place_of, run_after, counts_in, answer_of, stop_of};
 
 use cells::Plan;
@@ -59,6 +59,19 @@ pub struct Counts {
     pub exercised: u32,
 }
 
+// What is told of a whole file, in text and to other languages: 0, 0 and what its rows have given; or the refusal number, its place, and
+// zeros. What tells it takes any numbers, also such as no replay results in.
+#[derive(Clone, Copy)]
+pub struct Replayed {
+    pub number: u8,
+    pub place: usize,
+    pub records: u32,
+    pub rows: u32,
+    pub scans: u32,
+    pub live: u32,
+    pub exercised: u32,
+}
+
 impl From<Stopped> for Refused {
     ghost from_gives = { λ stopped refused. refused ≡ (record { refusal = stopped.refusal; place = stopped.run.place }) };
 
@@ -67,6 +80,40 @@ impl From<Stopped> for Refused {
             refusal: stopped.refusal,
             place: stopped.run.place,
         }
+    }
+}
+
+impl From<Result<Counts, Refused>> for Replayed {
+    ghost from_gives = { λ answer told. told ≡ as_replayed answer };
+
+    fn from(answer: Result<Counts, Refused>) -> Replayed {
+        match answer {
+            Ok(counts) => Replayed {
+                number: 0,
+                place: 0,
+                records: counts.records,
+                rows: counts.rows,
+                scans: counts.scans,
+                live: counts.live,
+                exercised: counts.exercised,
+            },
+            Err(refused) => refused_by(u8::from(refused.refusal), refused.place),
+        }
+    }
+}
+
+// A refusal as it is told: its number, which may be any, its place, and zeros.
+fn refused_by(number: u8, place: usize) -> Replayed
+    ensures { result ≡ refusal place number }
+{
+    Replayed {
+        number,
+        place,
+        records: 0,
+        rows: 0,
+        scans: 0,
+        live: 0,
+        exercised: 0,
     }
 }
 
@@ -216,10 +263,21 @@ fn counts_of(run: Run) -> Counts
 }
 
 // The answer of a replay that ended so: what its rows have given, or the refusal of the row after them.
-pub fn answer_of(end: Result<Run, Stopped>) -> Result<Counts, Refused>
+pub fn counted(end: Result<Run, Stopped>) -> Result<Counts, Refused>
     ensures { as_replayed result ≡ answer_of (as_end end) }
 {
     Ok(counts_of(end?))
+}
+
+// What is told of a replay that ended with this refusal number, which may be any, and this run: by 0 what its rows have given, else the
+// refusal of the row after them.
+pub fn answer_of(number: u8, run: Run) -> Replayed
+    ensures { result ≡ answer_of (record { number = number; records = 0; run = run }) }
+{
+    if number == 0 {
+        return Replayed::from(Ok(counts_of(run)));
+    }
+    refused_by(number, run.place)
 }
 
 // Replays a whole recording, and answers what its rows gave, or the refusal. The records are not kept.
@@ -230,5 +288,5 @@ pub fn replay(s: &[u8]) -> Result<Counts, Refused>
     let mut board = [0u32; 64];
     let run = begin(file, &mut board);
     let mut space = [0u8; effects::MOST_ROW_BYTES];
-    answer_of(go(s, run, file.rows as u32, &mut board, &mut space, false))
+    counted(go(s, run, file.rows as u32, &mut board, &mut space, false))
 }

@@ -9,7 +9,7 @@ use lib.Seq.{sets}
 use Rattle.bits.specs.Decimal.{ascii, decimal}
 use Rattle.bits.proofs.Decimal.{length_of_64_bits}
 use Rattle.bits.proofs.Puts.{Put}
-use Rattle.rerun.specs.Answer.{Replayed}
+use Rattle.rerun.specs.declared.Replayed.{Replayed}
 use Rattle.summaries.specs.Summaries.{is_quoted, quoted, field, three, numbers, summary_line, most_number}
 
 -- a piece that was put at the front

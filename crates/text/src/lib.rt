@@ -9,6 +9,7 @@ ghost use Rattle.bits.specs.Decimal.{ascii, decimal};
 ghost use Rattle.rules.specs.Limits.{most_effects};
 ghost use Rattle.effects.specs.Records.{most_records, Recorded};
 ghost use Rattle.reasons.specs.Given.{Narrow};
+ghost use Rattle.settings.specs.Refusals.{number_of};
 ghost use Rattle.wording.specs.Puts.{Puts};
 ghost use Rattle.wording.specs.Text.{words_of};
 ghost use Rattle.text.specs.Pieces.{when, change, column_line, column_lines, header_of, total, LinesPut};
@@ -18,6 +19,7 @@ ghost use Rattle.text.specs.Text.{name, last_line, refusal_line};
 use effects::Event;
 use reasons::{Reason, Sight};
 use rules::EffectState;
+use settings::Refused;
 
 // ---- fields
 
@@ -203,6 +205,24 @@ pub fn put_last(
     let third = put_total(out, second, b"scans", scans as u64, b' ');
     let fourth = put_total(out, third, b"live", live as u64, b' ');
     put_total(out, fourth, b"exercised", exercised as u64, b'\n')
+}
+
+// A refusal as it is told: its number, which may be any, and its place.
+#[derive(Clone, Copy)]
+pub struct Told {
+    pub number: u8,
+    pub place: usize,
+}
+
+impl From<Refused> for Told {
+    ghost from_gives = { λ refused told. told ≡ (record { number = number_of refused.refusal; place = refused.place }) };
+
+    fn from(refused: Refused) -> Told {
+        Told {
+            number: u8::from(refused.refusal),
+            place: refused.place,
+        }
+    }
 }
 
 // Puts the line of a refusal, whatever its number is: what this promises of any number, it promises still.

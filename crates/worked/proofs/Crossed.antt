@@ -9,7 +9,7 @@ use Rattle.effects.specs.Records.{record_length, encode, bytes}
 use Rattle.recording.specs.Answer.{Answer}
 use Rattle.recording.specs.Answer as A
 use Rattle.recording.specs.Answers.{number}
-use Rattle.rerun.specs.Answer.{Replayed}
+use Rattle.rerun.specs.declared.Replayed.{Replayed}
 use Rattle.rerun.specs.Replay.{replay, counts, refusal, answered}
 use Rattle.settings.proofs.Refusals.{granted_none}
 use Rattle.worked.specs.Recorded.{session, session_events}

@@ -3,7 +3,7 @@ use mathlib.Core.Path.{ap, ◌∙◌}
 use Prim.Native.Nat.{ℕ}
 use lib.ListN.{length}
 use Rattle.settings.specs.Refusals.{or_else, room_number}
-use Rattle.rerun.specs.Answer.{Replayed}
+use Rattle.rerun.specs.declared.Replayed.{Replayed}
 use Rattle.rerun.proofs.Theorems.{an_answer_has_the_number}
 use Rattle.numbers.specs.Numbers.{totals_bytes, numbers, fitted, crossing}
 use Rattle.pohandira.proofs.pohandira_count.Goals as goal

@@ -1,7 +1,7 @@
 -- `pohandira::pohandira_replay` meets its contract: what a replay results in crosses.
 use mathlib.Core.Path.{ap, ◌∙◌}
 use lib.ListN.{length}
-use Rattle.rerun.specs.Answer.{Replayed}
+use Rattle.rerun.specs.declared.Replayed.{Replayed}
 use Rattle.numbers.specs.Numbers.{numbers, fitted, crossing}
 use Rattle.pohandira.proofs.Answers.{told_number}
 use Rattle.pohandira.proofs.pohandira_replay.Goals as goal

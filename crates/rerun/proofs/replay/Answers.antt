@@ -22,4 +22,4 @@ go-requires c =
     ready_all (rw (settings_are _ c.in_ok-file.file is) at c.begin-run.ensures) (answer_is _ c.in_ok-file.file is) (omega arith)
 
 pub returns : goal.returns
-returns c = c.answer_of.ensures ∙ answered_all c.go.ensures (sym (ap row_count_of (answer_is _ c.in_ok-file.file c.in_ok-file.ensures)))
+returns c = c.counted.ensures ∙ answered_all c.go.ensures (sym (ap row_count_of (answer_is _ c.in_ok-file.file c.in_ok-file.ensures)))

@@ -2,7 +2,7 @@
 use mathlib.Core.Path.{refl, ap, ◌∙◌}
 use Rattle.settings.specs.Refusals.{number_in, number_of}
 use Rattle.settings.proofs.Refusals.{number_some, passed_on, or_else_first, or_else_next}
-use Rattle.rerun.specs.Answer.{Replayed}
+use Rattle.rerun.specs.declared.Replayed.{Replayed}
 use Rattle.rerun.proofs.Theorems.{an_answer_has_the_number}
 use Rattle.season_bytes.proofs.without_room.Goals as goal
 
