@@ -12,7 +12,7 @@ use Rattle.recording.specs.Answer.{Answer}
 use Rattle.recording.specs.Answer.{Refused}
 use Rattle.recording.specs.Reader.{reading}
 use Rattle.std.specs.declared.result.Result.TheVariants.{Ok}
-use Rattle.rerun.specs.Answer.{Replayed}
+use Rattle.rerun.specs.declared.Replayed.{Replayed}
 use Rattle.rerun.specs.declared.Run.{Run}
 use Rattle.rerun.specs.Answer.{Turn}
 use Rattle.rerun.specs.Turn.{answer_of}

@@ -20,7 +20,7 @@ abbrev pub outcome_number : Outcome → ℕ
 outcome_number Replayed = 0
 outcome_number Refused = 1
 
-abbrev pub ending_number : Result Ending Unwritten → ℕ
+abbrev pub ending_number : {E : Type 0} → Result Ending E → ℕ
 ending_number (Ok e) = outcome_number e.outcome
 ending_number (Err e) = 2
 
