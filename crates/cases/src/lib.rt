@@ -168,36 +168,32 @@ fn put_words(out: &mut [u8], effect: u16, latent: u16, records: usize)
     u16::put(out, 127, (records % 65536) as u16);
 }
 
-// Puts the bytes of a refusal number, 0 for none, a state, two words and a number of records. There is no place outside the reader.
-fn put_parts(out: &mut [u8], number: u8, state: State, effect: u16, latent: u16, records: usize)
+// Puts the 129 bytes of a refusal number, 0 for none, its place, and what a scan answers, at the front of `out`.
+pub fn put_answer(out: &mut [u8], number: u8, place: usize, scanned: Scanned)
     requires { 129 ≤ length out.old }
-    ensures { out.new ≡ sets out.old 0 (answer_bytes (record { number = number; place = 0; state = state; effect = effect; latent = latent; records = records })) }
+    ensures { out.new ≡ sets out.old 0 (answer_bytes (record { number = number; place = place; state = scanned.state; effect = scanned.effect; latent = scanned.latent; records = scanned.records })) }
 {
-    put_refusal(out, number, 0);
+    let state = scanned.state;
+    put_refusal(out, number, place);
     put_state(out, 5, state);
-    put_words(out, effect, latent, records);
+    put_words(out, scanned.effect, scanned.latent, scanned.records);
 }
 
-// Puts the 129 bytes that answer a scan at the front of `out`: a refusal has the given state and zeros.
-pub fn put_answer(out: &mut [u8], r: Result<Scanned, RunRefused>)
+// Puts the 129 bytes that answer a scan, likewise: a refusal has the given state and zeros, and there is no place outside the reader.
+pub fn put_scanned(out: &mut [u8], r: Result<Scanned, RunRefused>)
     requires { 129 ≤ length out.old }
     ensures { out.new ≡ sets out.old 0 (answer_bytes (as_scanned r)) }
 {
     match r {
-        Ok(scanned) => {
-            let state = scanned.state;
-            put_parts(
-                out,
-                0,
-                state,
-                scanned.effect,
-                scanned.latent,
-                scanned.records,
-            );
-        }
+        Ok(scanned) => put_answer(out, 0, 0, scanned),
         Err(refused) => {
-            let state = refused.state;
-            put_parts(out, u8::from(refused.refusal), state, 0, 0, 0);
+            let scanned = Scanned {
+                state: refused.state,
+                effect: 0,
+                latent: 0,
+                records: 0,
+            };
+            put_answer(out, u8::from(refused.refusal), 0, scanned);
         }
     }
 }

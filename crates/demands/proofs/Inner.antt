@@ -91,6 +91,8 @@ use Rattle.tally.proofs.Count.close_all.Reads as tally·close-all
 use Rattle.tally.proofs.Count.count_events.Reads as tally·count-events
 use Rattle.tally.proofs.Count.empty.Reads as tally·empty
 use Rattle.season_table.proofs.Table.empty.Reads as season-table·empty
+use Rattle.season_table.specs.Files.{with_file}
+use Rattle.season_table.proofs.Theorems.{an_answer, an_answer_stands}
 use Rattle.season_table.proofs.Table.with_file.Reads as season-table·with-file
 use Rattle.season_table.proofs.put_table.Reads as season-table·put-table
 use Rattle.season_bytes.proofs.report_at.Reads as season-bytes·report-at
@@ -484,7 +486,8 @@ pub season_table_empty : (κs : Lfts 0) → Unique (season-table·empty.Learnt �
 season_table_empty κs = by_equation (season-table·empty.Learnt κs) _ (λ a r e h. h)
 
 pub season_table_with_file : (κs : Lfts 0) → Unique (season-table·with-file.Learnt κs) none
-season_table_with_file κs = by_equation (season-table·with-file.Learnt κs) _ (λ a r e h. h)
+season_table_with_file κs =
+    by_equation (season-table·with-file.Learnt κs) (λ (t, (added, _)). with_file t (an_answer added)) (λ (t, (added, _)) r e h. h (an_answer added) (an_answer_stands added))
 
 pub season_table_put_table : (κs : Lfts 1) → Unique (season-table·put-table.Learnt κs) (λ e. e.0.now)
 season_table_put_table κs = by_equations (season-table·put-table.Learnt κs) (λ e. e.0.now) _ _ (λ a r e h. h.0)

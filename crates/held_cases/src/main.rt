@@ -35,7 +35,7 @@ fn shared(r: Held) -> Scanned {
 fn put_head(r: Result<Held, RunRefused>, head: &mut [u8])
     requires { length head.old ≡ 137 }
 {
-    cases::put_answer(head, r.map(shared));
+    cases::put_scanned(head, r.map(shared));
     if let Ok(held) = r {
         u32::put(head, 129, held.live);
         u32::put(head, 133, held.exercised);

@@ -23,7 +23,7 @@ fn answer_in<W: Write>(output: &mut W, case: &[u8; 241], buf: &mut [u8]) -> io::
 {
     let r = run(case, buf);
     let mut head = [0u8; 129];
-    cases::put_answer(&mut head, r);
+    cases::put_scanned(&mut head, r);
     let mut line = [0u8; 1076];
     cases::print_line(output, &head, buf, b'\n', &mut line)
 }

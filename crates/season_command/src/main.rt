@@ -62,7 +62,7 @@ impl<R: Errors> Adding<'_, R> {
         ensures { Grown self.old.table self.new.table }
     {
         let added = self.table.report.add(s);
-        self.table = self.table.with_file(added);
+        self.table = self.table.with_file(added.ok());
         self.say_refusal(name, added)
     }
 }

@@ -2,21 +2,25 @@
 -- a report has. docs/FORMAT.md, "Season totals".
 use mathlib.Core.Path.{◌≡◌, refl, sym, ap, ◌∙◌}
 use mathlib.Core.List.{List, [], ◌∷◌, ◌++◌}
-use Prim.Native.Nat.{ℕ, zero, suc, ◌+◌, ◌≤◌}
+use Prim.Native.Nat.{ℕ, zero, suc, ◌+◌, ◌≤◌, max}
 use native.Mathlib.Nat.{max-le}
 use native.Mathlib.Omega.{arith}
 use lib.ListN.{length}
 use Rattle.rules.specs.Limits.{most_effects}
+use Rattle.std.specs.Result.{result_ok}
+use Rattle.std.proofs.Common.{Option, None, Some, Result, Ok, Err}
 use Rattle.settings.specs.Refusals.{granted}
-use Rattle.settings.proofs.Refusals.{granted_none, granted_refused, granted_either}
+use Rattle.settings.proofs.Refusals.{number_some, granted_none, granted_refused, granted_either}
 use Rattle.rerun.proofs.Files.{most-effects}
 use Rattle.season.specs.declared.Report.{Report}
-use Rattle.season.specs.Answer.{Added}
+use Rattle.season.specs.declared.Added.{Added as Grown}
+use Rattle.season.specs.declared.NotAdded.{NotAdded}
+use Rattle.season.specs.Answer.{Added, as_added}
 use Rattle.season.specs.Season.{empty, season_number, refused, accepted, added_to}
 use Rattle.season.specs.Overall.{over_all}
 use Rattle.season.proofs.Theorems.{a_refusal_leaves_the_report, else_it_grows, added_is_replayed}
 use Rattle.season_table.specs.declared.Table.{Table}
-use Rattle.season_table.specs.Files.{empty_table, with_added, with_refused, with_file, table_from, Over, files_of}
+use Rattle.season_table.specs.Files.{empty_table, with_added, with_refused, StandsFor, with_file, table_from, Over, files_of}
 
 -- ## One file more
 
@@ -63,6 +67,30 @@ report_after t s = go (added_to t.report s).number (kept t.report s)
     go : (n : ℕ) → ((n ≡ 0 → ⊥) → t.report ≡ a.report) → (granted n (with_added t a) (λ k. with_refused t)).report ≡ a.report
     go zero h = refl
     go (suc n) h = h (λ e. omega (arith, e))
+
+-- ## What is told of a file
+
+module _ (t : Table) (a : Added) where
+  pub told_added : (g : Grown) → StandsFor (Some g) a → record { report = g.report; effects = max t.effects g.effects; recordings = t.recordings + 1; refused = t.refused } ≡ with_file t a
+  told_added g s = sym (file_added t a s.0 ∙ (λ j. record { report = s.2 j; effects = max t.effects (s.1 j); recordings = t.recordings + 1; refused = t.refused }))
+
+  pub told_refused : StandsFor None a → with_refused t ≡ with_file t a
+  told_refused s = sym (file_refused t a s)
+
+-- it stands for some answer
+pub an_answer : Option Grown → Added
+an_answer (Some g) = record { number = 0; place = 0; effects = g.effects; report = g.report }
+an_answer None = record { number = 1; place = 0; effects = 0; report = empty }
+
+pub an_answer_stands : (told : Option Grown) → StandsFor told (an_answer told)
+unfolding an_answer
+an_answer_stands (Some g) = (refl, refl, refl)
+an_answer_stands None = λ e. omega (arith, e)
+
+-- what was added, of the answer of `season`, stands for that answer
+pub added_stands : (r : Result Grown NotAdded) → StandsFor (result_ok r) (as_added r)
+added_stands (Ok g) = (refl, refl, refl)
+added_stands (Err e) = number_some e.refused.refusal
 
 -- ## All files
 

@@ -1,7 +1,8 @@
 -- What a table shows of files: the report over them, and what is counted beside it. docs/FORMAT.md, "Season totals"; document 02, L1, asks
 -- for the report.
-use Rattle.std.specs.Prelude.{ℕ, ◌+◌, max, ◌≡◌, List, [], ◌∷◌}
+use Rattle.std.specs.Prelude.{ℕ, ◌+◌, max, ◌≡◌, List, [], ◌∷◌, Option, None, Some}
 use Rattle.settings.specs.Refusals.{granted}
+use Rattle.season.specs.declared.Added.{Added as Grown}
 use Rattle.season.specs.Answer.{Added}
 use Rattle.season.specs.Season.{empty, added_to}
 use Rattle.season_table.specs.declared.Table.{Table}
@@ -17,6 +18,11 @@ with_added t a = record { report = a.report; effects = max t.effects a.effects; 
 -- or it was refused
 abbrev pub with_refused : Table → Table
 with_refused t = record { report = t.report; effects = t.effects; recordings = t.recordings; refused = t.refused + 1 }
+
+-- what is told of a file stands for the answers that have it: the recording that was added, or that the file was refused, by any number
+abbrev pub StandsFor : Option Grown → Added → Type 0
+StandsFor (Some g) a = (a.number ≡ 0) × (a.effects ≡ g.effects) × (a.report ≡ g.report)
+StandsFor None a = a.number ≡ 0 → ⊥
 
 unfoldable pub with_file : Table → Added → Table
 with_file t a = granted a.number (with_added t a) (λ n. with_refused t)

@@ -8,12 +8,12 @@ ghost use Rattle.rules.specs.Limits.{most_effects};
 ghost use Rattle.sums.specs.Sums.{most_sum};
 ghost use Rattle.tally.specs.Tally.{sums_of_effect};
 ghost use Rattle.wording.specs.Puts.{Puts, PutsFirst};
-ghost use Rattle.season.specs.Answer.{as_added};
-ghost use Rattle.season_table.specs.Files.{empty_table, with_file, files_of};
+ghost use Rattle.season.specs.Answer.{Added as Answer};
+ghost use Rattle.season_table.specs.Files.{empty_table, StandsFor, with_file, files_of};
 ghost use Rattle.season_table.specs.Lines.{effect_line, effect_lines, closing_line, table_text};
 ghost use Rattle.season_table.specs.Pieces.{sums_text, most_spaced, most_effect_line, most_closing, most_table, Shown};
 
-use season::{Added, NotAdded, Report};
+use season::{Added, Report};
 
 // The report over some files, the largest effect count of those that were added, and how many were added and refused.
 #[derive(Clone, Copy)]
@@ -39,19 +39,20 @@ impl Table {
         }
     }
 
-    // The table with one file more, by the answer to adding it to the report.
-    pub fn with_file(self, added: Result<Added, NotAdded>) -> Table
+    // The table with one file more, by the answer to adding it to the report: what was added, or none where the file is refused. No answer
+    // but 0 adds one, so that a refusal's number need not be told.
+    pub fn with_file(self, added: Option<Added>) -> Table
         requires { files_of self < most_sum }
-        ensures { result ≡ with_file self (as_added added) }
+        ensures { (answer : Answer) → StandsFor added answer → result ≡ with_file self answer }
     {
         match added {
-            Ok(added) => Table {
+            Some(added) => Table {
                 report: added.report,
                 effects: self.effects.max(added.effects),
                 recordings: self.recordings + 1,
                 ..self
             },
-            Err(_) => Table {
+            None => Table {
                 refused: self.refused + 1,
                 ..self
             },

@@ -23,11 +23,12 @@ const SLOTS: usize = 16;
 
 pub const EXERCISED_SUM: usize = SUMS_OF_EFFECT * SLOTS;
 
-// A stretch that is open: the effect has stood in `state` after each scan behind scan number `since`.
+// A stretch that is open: the effect has stood in the state of this code after each scan behind scan number `since`. The code is a number,
+// so that nothing is asked of a slot whose stretch does not end.
 #[derive(Clone, Copy)]
 pub struct Stretch {
     pub since: u32,
-    pub state: EffectState,
+    pub code: u32,
 }
 
 // The sums so far, and the stretch that is open for each slot.
@@ -56,7 +57,7 @@ impl Count {
             sums: [0; 113],
             stretches: [Stretch {
                 since: 0,
-                state: EffectState::Tripped,
+                code: u8::from(EffectState::Tripped) as u32,
             }; 16],
         }
     }
@@ -67,8 +68,7 @@ impl Count {
         ensures { self.new ≡ with_sums self.old (closed_at i scan (shown self.old)) }
     {
         let open = self.stretches[i];
-        let state = open.state;
-        let stood = SUMS_OF_EFFECT * i + u8::from(state) as usize;
+        let stood = SUMS_OF_EFFECT * i + open.code as usize;
         self.sums[stood] += scan.saturating_sub(open.since) as u64;
     }
 
@@ -93,7 +93,8 @@ impl Count {
         self.close(i, since);
         let trips = SUMS_OF_EFFECT * i + TRIP_PLACE;
         self.sums[trips] += is_tripped(state);
-        self.stretches[i] = Stretch { since, state };
+        let code = u8::from(state) as u32;
+        self.stretches[i] = Stretch { since, code };
     }
 
     // The events of the n records at the front of `records`.

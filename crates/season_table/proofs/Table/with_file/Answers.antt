@@ -1,15 +1,9 @@
--- `season_table::Table::with_file` meets its contract: a recording that was not added has a refusal number.
-use mathlib.Core.Path.{refl, sym}
-use Rattle.std.proofs.Common.{Ok, Err}
-use Rattle.settings.proofs.Refusals.{number_some}
-use Rattle.season.specs.Answer.{as_added}
-use Rattle.season_table.proofs.Theorems.{file_added, file_refused}
+-- `season_table::Table::with_file` meets its contract: what was added makes the table with it, and none one file more that was refused.
+use Rattle.season_table.proofs.Theorems.{told_added, told_refused}
 use Rattle.season_table.proofs.Table.with_file.Goals as goal
 
-pub returns-in-Ok : goal.returns-in-Ok
-returns-in-Ok c = rw (c.in-Ok.is, c.max.ensures) (sym (file_added c.args.self (as_added (Ok c.in-Ok.added)) refl))
+pub returns-in-Some : goal.returns-in-Some
+returns-in-Some c a s = rw c.max.ensures (told_added c.args.self a c.in-Some.added (rw c.in-Some.is at s))
 
-pub returns-in-Err : goal.returns-in-Err
-returns-in-Err c =
-    let e = c.in-Err.field-0 in
-    rw (c.in-Err.is, file_refused c.args.self (as_added (Err e)) (number_some e.refused.refusal))
+pub returns-in-None : goal.returns-in-None
+returns-in-None c a s = told_refused c.args.self a (rw c.in-None.is at s)
