@@ -43,7 +43,7 @@ pub fn list<R: Print + Errors>(program: &Program<R>, s: &[u8], why: bool, out: &
             Outcome::Replayed => Status::Done,
             Outcome::Refused => Status::Refused,
         },
-        Err(error) => program.say_unwritten(error),
+        Err(unwritten) => program.say_unwritten(unwritten.error),
     }
 }
 

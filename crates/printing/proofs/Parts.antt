@@ -7,12 +7,12 @@ use native.Mathlib.Omega.{arith}
 use borrow.Author.Tests.{le-leb}
 use lib.ListN.{length, take, drop, length-append}
 use lib.Seq.{sets, sets-eq, take_at, drop_at, take-append_seam, length-take-le}
-use Rattle.std.specs.Prelude.{Option, Some, unwrap_or}
+use Rattle.std.specs.Prelude.{Option, None, Some, unwrap_or}
 use Rattle.recording.specs.Answer.{Answer}
 use Rattle.recording.specs.Answer.{Refused}
 use Rattle.recording.specs.Reader.{reading}
 use Rattle.std.specs.declared.result.Result.TheVariants.{Ok}
-use Rattle.rerun.specs.Answer.{Replayed}
+use Rattle.rerun.specs.declared.Replayed.{Replayed}
 use Rattle.rerun.specs.declared.Run.{Run}
 use Rattle.rerun.specs.Answer.{Turn}
 use Rattle.rerun.specs.Turn.{answer_of}
@@ -55,8 +55,8 @@ opening_put why s out a room e f within is = piece_put out (opening why a) 0 (om
 -- ## What waits
 
 -- nothing has gone
-pub starts : {why : Bool} {s : List ℕ} {sent : Sent} {text front : List ℕ} → sent.gone ≡ 0 → text ≡ front → Waiting why s sent text front
-starts {s = s} n e = record { within = omega (arith, n); joined = rw n e }
+pub starts : {why : Bool} {s : List ℕ} {sent : Sent} {text front : List ℕ} → (sent.gone ≡ 0) × (sent.failed ≡ None) → text ≡ front → Waiting why s sent text front
+starts {s = s} n e = record { written = n.1; within = omega (arith, n.0); joined = rw n.0 e }
 
 module _ {why : Bool} {s : List ℕ} {sent : Sent} {text front : List ℕ} (w : Waiting why s sent text front) where
   abbrev given : List ℕ
@@ -66,6 +66,7 @@ module _ {why : Bool} {s : List ℕ} {sent : Sent} {text front : List ℕ} (w : 
   pub grows : {text' front' : List ℕ} (piece : List ℕ) → text' ≡ text ++ piece → front ++ piece ≡ front' → Waiting why s sent text' front'
   grows piece e f =
       record {
+        written = w.written;
         within = w.within;
         joined = ap (λ (l : List ℕ). given ++ l) e ∙ sym (append_assoc given text piece) ∙ ap (λ (l : List ℕ). l ++ piece) w.joined ∙ f;
       }
@@ -92,9 +93,10 @@ module _ {why : Bool} {s : List ℕ} {sent : Sent} {text front : List ℕ} (w : 
         }
 
     -- and once it is written, nothing waits
-    pub goes : {r : Sent} → r.gone ≡ sent.gone + length text → Waiting why s r [] front
-    goes {r} e =
+    pub goes : {r : Sent} → r.failed ≡ None → r.gone ≡ sent.gone + length text → Waiting why s r [] front
+    goes {r} all e =
         record {
+          written = all;
           within = omega (arith, e, next.within);
           joined = append-nil (take r.gone (listing_of why s)) ∙ ap (take r.gone) (sym whole) ∙ take_at front rest r.gone (sym ends_at ∙ sym e);
         }
@@ -102,7 +104,7 @@ module _ {why : Bool} {s : List ℕ} {sent : Sent} {text front : List ℕ} (w : 
 -- a buffer that was filled
 pub filled : {why : Bool} {s : List ℕ} {sent : Sent} {run : Run} {at : ℕ} {out : List ℕ} {r : PrintedPiece} {array' out' : List ℕ} → Waiting why s sent (take at out) (so_far why s run.rows)
     → Filled why s run at out r array' out' → Waiting why s sent (take r.at out') (so_far why s r.turn.run.rows)
-filled {why} {s} {sent} w f = record { within = w.within; joined = f.text (take sent.gone (listing_of why s)) w.joined }
+filled {why} {s} {sent} w f = record { written = w.written; within = w.within; joined = f.text (take sent.gone (listing_of why s)) w.joined }
 
 -- ## How it ends
 
@@ -116,6 +118,6 @@ pub number_of_refused : (s : List ℕ) (n p : ℕ) → (reading s).answer ≡ Re
 number_of_refused s n p e = ap (λ (o : Outcome). o.number) (refused_replay s n p e)
 
 -- the rest was handed over
-pub told : {E : Type 0} {why : Bool} {s : List ℕ} {before : Sent} {text : List ℕ} → Waiting why s before text (listing_of why s) → (r : Ending) (number : ℕ)
-    → outcome_number r.outcome ≡ status true number → r.sent.gone ≡ before.gone + length text → (replay s).number ≡ number → Told {E = E} why s (Ok r)
-told w r number is e n = record { by_number = is ∙ ap (status true) (sym n); all-gone = e ∙ ends_at w }
+pub told : {why : Bool} {s : List ℕ} {before : Sent} {text : List ℕ} → Waiting why s before text (listing_of why s) → (r : Ending) (number : ℕ)
+    → outcome_number r.outcome ≡ status true number → r.sent.failed ≡ None → r.sent.gone ≡ before.gone + length text → (replay s).number ≡ number → Told why s (Ok r)
+told w r number is all e n = record { by_number = is ∙ ap (status true) (sym n); written = all; failed = tt; all-gone = e ∙ ends_at w }

@@ -1,5 +1,5 @@
 -- A buffer whose text waits to be written. No entry point's contract cites this page.
-use Rattle.std.specs.Prelude.{ℕ, ◌^◌, ◌≤◌, ◌≡◌, Bool, List, ◌++◌, length, take}
+use Rattle.std.specs.Prelude.{ℕ, ◌^◌, ◌≤◌, ◌≡◌, Bool, None, List, ◌++◌, length, take}
 use Rattle.recording.specs.Accepted.{Accepted}
 use Rattle.rerun.specs.Answer.{Turn}
 use Rattle.text.specs.Room.{most_piece}
@@ -18,6 +18,7 @@ pub record Buffer (n : ℕ) : Type 0 where
 
 -- what has gone, all of it written, and the text that waits, joined, are this front of the listing
 pub record Waiting (why : Bool) (s : List ℕ) (sent : Sent) (text front : List ℕ) : Type 0 where
+  pub written : sent.failed ≡ None
   pub within : sent.gone ≤ length (listing_of why s)
   pub joined : take sent.gone (listing_of why s) ++ text ≡ front
 

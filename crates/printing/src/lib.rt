@@ -8,18 +8,19 @@ mod sending;
 ghost use Rattle.std.specs.Prelude.{◌≡◌, true, ◌+◌, ◌≤◌, ◌<◌, length, take, drop, OnOk};
 ghost use Rattle.std.specs.Io.KnownBytes.{Appends};
 ghost use Rattle.text.specs.Room.{most_piece};
-ghost use Rattle.rerun.specs.Turn.{Going};
+ghost use Rattle.rerun.specs.Turn.{Going, answer_of};
 ghost use Rattle.rerun.specs.Replay.{replay};
-ghost use Rattle.listing.specs.Printed.{listing_of};
-ghost use Rattle.rerun.specs.Answer.{as_end, as_replayed};
+ghost use Rattle.recording.specs.Answer.{as_reading};
+ghost use Rattle.listing.specs.Printed.{listing_of, answer_told};
+ghost use Rattle.rerun.specs.Answer.{as_end};
 ghost use Rattle.printing.specs.Filled.{so_far, filled_of, Filled};
 ghost use Rattle.printing.specs.Status.{status as status_of, outcome_number, Told};
 ghost use Rattle.printing.specs.Waiting.{Buffer, most_gone, Waiting, Closes};
 
-use rerun::{Counts, Run, Stopped};
-pub use sending::Sent;
+use recording::Recording;
+use rerun::{Replayed, Run, Stopped};
+pub use sending::{Sent, Unwritten};
 use settings::Refused;
-use std::io;
 use std::io::Write;
 
 // ---- the text
@@ -34,6 +35,26 @@ enum Progress {
         at: usize,
         end: Result<Run, Stopped>,
     },
+}
+
+// What the reader answers, as the opening is told it.
+fn reading_told(answer: Result<Recording, Refused>) -> Result<Recording, text::Told>
+    ensures { answer_told result ≡ (as_reading answer).answer }
+{
+    match answer {
+        Ok(file) => Ok(file),
+        Err(refused) => Err(text::Told::from(refused)),
+    }
+}
+
+// What rows that ended so result in, as the closing is told it.
+fn end_told(end: Result<Run, Stopped>) -> Replayed
+    ensures { result ≡ answer_of (as_end end) }
+{
+    match end {
+        Ok(run) => rerun::answer_of(0, run),
+        Err(stopped) => rerun::answer_of(u8::from(stopped.refusal), stopped.run),
+    }
 }
 
 // Puts the lines of rows, from the one that the run has reached: all that are left, up to a refused one, or as many as fit.
@@ -85,9 +106,9 @@ pub struct Ending {
     pub sent: Sent,
 }
 
-// How a listing ends, by the answer of the replay.
-fn outcome_of(end: Result<Counts, Refused>) -> Outcome
-    ensures { outcome_number result ≡ status_of true (as_replayed end).number }
+// How a listing ends, by how its rows ended.
+fn outcome_of(end: Result<Run, Stopped>) -> Outcome
+    ensures { outcome_number result ≡ status_of true (as_end end).number }
 {
     match end {
         Ok(_) => Outcome::Replayed,
@@ -104,7 +125,7 @@ fn write_rest<W: Write>(
     out: &[u8],
     at: usize,
     outcome: Outcome,
-) -> io::Result<Ending>
+) -> Result<Ending, Unwritten>
     requires waiting { Waiting why s.now sent (take at out.now) (listing_of why s.now) × (outcome_number outcome ≡ status_of true (replay s.now).number) }
     requires at_in_bounds { (at ≤ length out.now) × Buffer (length out.now) × (sent.gone < most_gone) }
     ensures told { Told why s.now result }
@@ -123,15 +144,15 @@ fn write_closing<W: Write>(
     end: Result<Run, Stopped>,
     out: &mut [u8],
     at: usize,
-) -> io::Result<Ending>
+) -> Result<Ending, Unwritten>
     requires closes { Closes why s.now sent (as_end end) (take at out.old) }
     requires most_piece_in_bounds { (at + most_piece ≤ length out.old) × Buffer (length out.old) × (sent.gone < most_gone) }
     ensures told { Told why s.now result }
     ensures handed { OnOk result (Appends (W.contents output.old) (W.contents output.new) (drop sent.gone (listing_of why s.now))) }
 {
-    let answer = rerun::answer_of(end);
-    let to = listing::closing(answer, out, at).unwrap();
-    let outcome = outcome_of(answer);
+    let told = end_told(end);
+    let to = listing::closing(told, out, at).unwrap();
+    let outcome = outcome_of(end);
     write_rest(output, s, why, sent, out, to, outcome)
 }
 
@@ -144,7 +165,7 @@ fn print_closing<W: Write>(
     end: Result<Run, Stopped>,
     out: &mut [u8],
     at: usize,
-) -> io::Result<Ending>
+) -> Result<Ending, Unwritten>
     requires closes { Closes why s.now sent (as_end end) (take at out.old) }
     requires at_in_bounds { (at ≤ length out.old) × Buffer (length out.old) × (sent.gone + at < most_gone) }
     ensures told { Told why s.now result }
@@ -166,7 +187,7 @@ fn print_rows<W: Write>(
     out: &mut [u8],
     from: usize,
     why: bool,
-) -> io::Result<Ending>
+) -> Result<Ending, Unwritten>
     requires going { Going s.now run board.old × (take from out.old ≡ so_far why s.now run.rows) }
     requires from_in_bounds { (from ≤ length out.old) × Buffer (length out.old) }
     ensures told { Told why s.now result }
@@ -189,14 +210,20 @@ fn print_rows<W: Write>(
 }
 
 // Prints the listing of a recording, with reasons if `why` asks for them, by way of the lent buffer, and answers how it ended, or
-// the error of the write that failed. Where all was written, an output whose bytes are known holds the whole listing more, and nothing else.
-pub fn print<W: Write>(output: &mut W, s: &[u8], why: bool, out: &mut [u8]) -> io::Result<Ending>
+// the write that failed. Where all was written, an output whose bytes are known holds the whole listing more, and nothing else.
+pub fn print<W: Write>(
+    output: &mut W,
+    s: &[u8],
+    why: bool,
+    out: &mut [u8],
+) -> Result<Ending, Unwritten>
     requires { Buffer (length out.old) }
     ensures told { Told why s.now result }
     ensures handed { OnOk result (Appends (W.contents output.old) (W.contents output.new) (listing_of why s.now)) }
 {
     let answer = recording::read(s);
-    let at = listing::opening(answer, out, 0, why).unwrap();
+    let told = reading_told(answer);
+    let at = listing::opening(told, out, 0, why).unwrap();
     match answer {
         Ok(file) => {
             let mut board = [0u32; 64];

@@ -9,7 +9,7 @@ use std::io::Write;
 // thousand bytes need several buffers: a stream has some that end about the end of one, two and three buffers.
 fn answer<W: Write>(output: &mut W, s: &[u8]) -> io::Result<()> {
     let mut out = [0u8; 4096];
-    printing::print(output, s, false, &mut out)?;
+    printing::print(output, s, false, &mut out).map_err(|unwritten| unwritten.error)?;
     output.write_all(b"\n")
 }
 

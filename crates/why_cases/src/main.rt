@@ -22,7 +22,7 @@ fn answer_now<W: Write>(output: &mut W, s: &[u8], out: &mut [u8]) -> io::Result<
 // that listings of a few thousand bytes need several buffers: a stream has some that end about the end of one, two and three buffers.
 fn answer<W: Write>(output: &mut W, s: &[u8]) -> io::Result<()> {
     let mut out = [0u8; 4096];
-    printing::print(output, s, true, &mut out)?;
+    printing::print(output, s, true, &mut out).map_err(|unwritten| unwritten.error)?;
     output.write_all(b"\n")?;
     answer_now(output, s, &mut out)
 }

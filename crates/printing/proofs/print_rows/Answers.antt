@@ -25,7 +25,7 @@ loop-filled-preserved g c =
         buffer = i.buffer;
         long = omega (arith, i.long);
         within = omega (arith, f.within (omega arith));
-        waits = filled (goes i.waits _ (rest_follows i) sent.gone_after) f;
+        waits = filled (goes i.waits _ (rest_follows i) sent.written sent.gone_after) f;
         small = later i refl sent.gone_after f;
         last = f.last;
       },

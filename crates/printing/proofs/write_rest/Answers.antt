@@ -13,6 +13,7 @@ pub flush-requires : goal.flush-requires
 flush-requires g c =
     let a = c.args in
     let w = c.requires.waiting.0 in record {
+      written = w.written;
       next_part = next w [] (append-nil (listing_of a.why a.s.now));
       part_bound = omega (arith, length-take-le a.at a.out.now c.requires.at_in_bounds.0);
     }
@@ -21,6 +22,6 @@ pub returns : goal.returns
 returns g c =
     let sent = c.in_ok-sent.ensures in
     let w = c.requires.waiting.0 in record {
-      told = told w _ (replay c.args.s.now).number c.requires.waiting.1 sent.gone_after refl;
+      told = told w _ (replay c.args.s.now).number c.requires.waiting.1 sent.written sent.gone_after refl;
       handed = rw (rest_of w) sent.handed;
     }
