@@ -62,7 +62,8 @@ impl<R: Errors> Adding<'_, R> {
         ensures { Grown self.old.table self.new.table }
     {
         let added = self.table.report.add(s);
-        self.table = self.table.with_file(added.ok());
+        let recording = added.ok();
+        self.table = self.table.with_file(recording);
         self.say_refusal(name, added)
     }
 }

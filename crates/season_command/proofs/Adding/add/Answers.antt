@@ -9,6 +9,6 @@ pub returns : goal.returns
 returns g c =
     let t = c.args.self.now.table in
     let s = c.args.s.now in
-    let stands : StandsFor c.ok.result (added_to t.report s) = rw (c.ok.ensures.value, ← c.add-added.ensures) (added_stands c.add-added.result) in
+    let stands : StandsFor c.ok-recording.result (added_to t.report s) = rw (c.ok-recording.ensures.value, ← c.add-added.ensures) (added_stands c.add-added.result) in
     rw (c.say_refusal.ensures, c.with_file-self.ensures (added_to t.report s) stands)
     (record { over = over_one_more t s c.requires.1.over; one_more = omega (arith, one_file_counted t (added_to t.report s)) })
