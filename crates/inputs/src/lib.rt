@@ -12,6 +12,7 @@ use std::env::{Env, FillError};
 use std::fs::{File, OpenOptions};
 use std::io;
 use std::io::{Error, Read, Write};
+use std::marker::{Brand, PhantomData};
 use std::rt::Files;
 
 // ---- statuses
@@ -404,8 +405,8 @@ pub trait Step {
     // what each input leaves true
     ghost kept: { Self → Type 0 };
 
-    // how many bytes the buffer for an input has: with fewer an input that is too long would pass for a shorter one
-    ghost input_room: { ℕ };
+    // how many bytes the buffer for an input has that `take_each_whole` is lent: with fewer an input that is too long would pass for a shorter one
+    ghost input_room: { ℕ } = { 0 };
 
     // Takes an input under its name, and answers how that ended.
     fn take(&mut self, name: &[u8], input: &[u8]) -> Status
@@ -413,13 +414,37 @@ pub trait Step {
         ensures { (room self.old ≤ room self.new + 1) × kept self.new };
 }
 
+// How long the buffer for an input is. A type says it, which goes down to where the input is read, so that no part of the buffer can be lent in
+// its place on the way.
+trait InputBuffer {
+    ghost length_is: { ℕ };
+}
+
+// A buffer of any length, which the call picks. No buffer is as long as what stands here, so that no call goes without a pick.
+impl InputBuffer for Brand {
+    ghost length_is = { 2 ^ 64 };
+}
+
+// A buffer that is as long as a step says.
+struct Whole<S>(PhantomData<S>);
+
+impl<S: Step> InputBuffer for Whole<S> {
+    ghost length_is = { S.input_room };
+}
+
 // The place of standard input among the arguments where none names it.
 const NO_NAME: usize = 0;
 
 impl<R: Files + Env + io::Input + Errors> Program<'_, R> {
     // Takes the input of a name, which is argument i. One that cannot be read is not taken.
-    fn take_named<S: Step>(&self, step: &mut S, i: usize, name: &[u8], file: &mut [u8]) -> Status
-        requires { (length name.now ≤ most_name) × (length file.old ≡ S.input_room) × (0 < S.room step.old) × S.kept step.old }
+    fn take_named<S: Step, B: InputBuffer>(
+        &self,
+        step: &mut S,
+        i: usize,
+        name: &[u8],
+        file: &mut [u8],
+    ) -> Status
+        requires { (length name.now ≤ most_name) × (length file.old ≡ B.length_is) × (0 < S.room step.old) × S.kept step.old }
         ensures { (S.room step.old ≤ S.room step.new + 1) × S.kept step.new × (length file.new ≡ length file.old) }
     {
         let Some(size) = self.read_named(i, name, file) else {
@@ -429,31 +454,36 @@ impl<R: Files + Env + io::Input + Errors> Program<'_, R> {
     }
 
     // Takes the input that argument i names.
-    fn take_argument<S: Step>(
+    fn take_argument<S: Step, B: InputBuffer>(
         &self,
         step: &mut S,
         i: usize,
         name: &mut [u8],
         file: &mut [u8],
     ) -> Status
-        requires { (length name.old ≤ most_name) × (length file.old ≡ S.input_room) × (0 < S.room step.old) × S.kept step.old }
+        requires { (length name.old ≤ most_name) × (length file.old ≡ B.length_is) × (0 < S.room step.old) × S.kept step.old }
         ensures { (S.room step.old ≤ S.room step.new + 1) × S.kept step.new × (length name.new ≡ length name.old) × (length file.new ≡ length file.old) }
     {
         let Some(size) = self.argument(i, name) else {
             return Status::Unread;
         };
-        self.take_named(step, i, &name[..size], file)
+        self.take_named::<S, B>(step, i, &name[..size], file)
     }
 
     // Takes all inputs that are named by arguments; a failed output ends the run.
-    fn take_all<S: Step>(&self, step: &mut S, name: &mut [u8], file: &mut [u8]) -> Status
-        requires { (length name.old ≤ most_name) × (length file.old ≡ S.input_room) × (2 ^ 64 ≤ S.room step.old + 1) × S.kept step.old }
+    fn take_all<S: Step, B: InputBuffer>(
+        &self,
+        step: &mut S,
+        name: &mut [u8],
+        file: &mut [u8],
+    ) -> Status
+        requires { (length name.old ≤ most_name) × (length file.old ≡ B.length_is) × (2 ^ 64 ≤ S.room step.old + 1) × S.kept step.old }
         ensures { S.kept step.new }
     {
         let count = argument_count(self.rt);
         let mut gravest = Status::Done;
         for i in FIRST_NAME..count {
-            let status = self.take_argument(step, i, name, file);
+            let status = self.take_argument::<S, B>(step, i, name, file);
             if status == Status::Unwritten {
                 return status;
             }
@@ -462,15 +492,37 @@ impl<R: Files + Env + io::Input + Errors> Program<'_, R> {
         gravest
     }
 
-    // Takes all named inputs, or standard input if none is named, and answers how the gravest ended. The buffers are no struct here: each
-    // program lends its own, and its `Step` says how long the one for an input is.
-    pub fn take_each<S: Step>(&self, step: &mut S, name: &mut [u8], file: &mut [u8]) -> Status
-        requires { (length name.old ≤ most_name) × (length file.old ≡ S.input_room) × (2 ^ 64 ≤ S.room step.old + 1) × S.kept step.old }
+    // Takes all named inputs, or standard input if none is named.
+    fn take_inputs<S: Step, B: InputBuffer>(
+        &self,
+        step: &mut S,
+        name: &mut [u8],
+        file: &mut [u8],
+    ) -> Status
+        requires { (length name.old ≤ most_name) × (length file.old ≡ B.length_is) × (2 ^ 64 ≤ S.room step.old + 1) × S.kept step.old }
         ensures { S.kept step.new }
     {
         if argument_count(self.rt) <= FIRST_NAME {
-            return self.take_named(step, NO_NAME, b"-", file);
+            return self.take_named::<S, B>(step, NO_NAME, b"-", file);
         }
-        self.take_all(step, name, file)
+        self.take_all::<S, B>(step, name, file)
+    }
+
+    // Takes all named inputs, or standard input if none is named, and answers how the gravest ended. The buffer for an input has any length: of
+    // an input that is longer the front is taken. The buffers are no struct here: each program lends its own.
+    pub fn take_each<S: Step>(&self, step: &mut S, name: &mut [u8], file: &mut [u8]) -> Status
+        requires { (length name.old ≤ most_name) × (2 ^ 64 ≤ S.room step.old + 1) × S.kept step.old }
+        ensures { S.kept step.new }
+    {
+        self.take_inputs::<S, Brand>(step, name, file)
+    }
+
+    // The same, by way of a buffer for an input that is as long as the step says. Of a longer input it takes the front, too, so a step that refuses
+    // all inputs of that length refuses every longer one.
+    pub fn take_each_whole<S: Step>(&self, step: &mut S, name: &mut [u8], file: &mut [u8]) -> Status
+        requires { (length name.old ≤ most_name) × (length file.old ≡ S.input_room) × (2 ^ 64 ≤ S.room step.old + 1) × S.kept step.old }
+        ensures { S.kept step.new }
+    {
+        self.take_inputs::<S, Whole<S>>(step, name, file)
     }
 }

@@ -143,7 +143,7 @@ impl<R: Files + Env + Input + Print + Errors> Replay<'_, R> {
             return status;
         }
         let program = self.program;
-        program.take_each(self, name, file)
+        program.take_each_whole(self, name, file)
     }
 }
 

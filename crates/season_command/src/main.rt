@@ -98,7 +98,7 @@ fn run<R: Files + Env + Input + Print + Errors>(rt: &R, name: &mut [u8], file: &
 {
     let program = Program::new(rt, b"season: ");
     let mut adding = Adding::new(&program);
-    let gravest = program.take_each(&mut adding, name, file);
+    let gravest = program.take_each_whole(&mut adding, name, file);
     let status = adding.print(gravest);
     program.tell_asked(status);
 }

@@ -86,7 +86,7 @@ fn run<R: Files + Env + Input + Print + Errors>(rt: &R, name: &mut [u8], file: &
         several: program.has_several_names(),
         out: [0u8; 65536],
     };
-    let status = program.take_each(&mut why, name, file);
+    let status = program.take_each_whole(&mut why, name, file);
     program.tell_asked(status);
 }
 
