@@ -2,3 +2,4 @@ pub mod Counting
 pub mod Tallied
 pub mod Closing
 pub mod Shown
+pub mod States
